@@ -1,0 +1,107 @@
+-- What a board that is not refused has. Assumes nothing.
+use mathlib.Core.Path.{_≡_, refl, sym, ap, _∙_, subst}
+use mathlib.Core.Bool.{Bool, true, false, cond, not, _&&_, _||_, false≢true, true≢false}
+use mathlib.Core.List.{List, [], _∷_}
+use mathlib.Core.Logic.{_⊎_, inl, inr}
+use Prim.Native.Nat.{ℕ, zero, suc, _+_, _*_, _≤_, _<_}
+use native.Mathlib.Omega.{arith}
+use native.Mathlib.Nat.{mul-le-mul}
+use lib.Dec.{ltb, leb, eqb}
+use lib.ListN.{length, getD}
+use borrow.Author.Tests.{eqb-true, eqb-false, leb-true, ltb-false, not-false}
+use Rattle.eikonal.specs.Board.{Board, Start, size, slowness, never, start-time}
+use Rattle.eikonal.specs.Refusals.{board-refusal, starts-refusal, side-good, any-above, starts-rise, late, on-wall}
+use Rattle.eikonal.specs.Promise.{board-good}
+
+-- a start's time, or never
+abbrev pub Known : (most t : ℕ) → Type 0
+Known m t = (t ≡ never) ⊎ (t ≤ m)
+
+pub record Good (b : Board) : Type 0 where
+  pub wide-low : 1 ≤ b .wide
+  pub wide-high : b .wide ≤ 256
+  pub high-low : 1 ≤ b .high
+  pub high-high : b .high ≤ 256
+  pub slow-length : length (b .slow) ≡ size b
+  pub slow-most : (c : ℕ) → slowness b c ≤ 4095
+  pub starts-known : (c : ℕ) → Known 1000000 (start-time c (b .starts))
+  pub walls-free : (c : ℕ) → slowness b c ≡ 0 → start-time c (b .starts) ≡ never
+
+pub and-true : (p q : Bool) → p && q ≡ true → (p ≡ true) × (q ≡ true)
+and-true true q e = (refl, e)
+and-true false q e = absurd (false≢true e)
+
+pub or-false : (p q : Bool) → p || q ≡ false → (p ≡ false) × (q ≡ false)
+or-false true q e = absurd (true≢false e)
+or-false false q e = (refl, e)
+
+-- a refusal that is 0 passes each test in turn
+passed : (p : Bool) (k q : ℕ) → cond p (suc k) q ≡ 0 → (p ≡ false) × (q ≡ 0)
+passed true k q e = absurd (omega arith)
+passed false k q e = (refl, e)
+
+side : (n : ℕ) → side-good n ≡ true → (1 ≤ n) × (n ≤ 256)
+unfolding side-good
+side n e = let r = and-true (leb 1 n) (leb n 256) e in (leb-true 1 n (r .0), leb-true n 256 (r .1))
+
+none-above : (m : ℕ) (xs : List ℕ) → any-above m xs ≡ false → (c : ℕ) → getD xs c 0 ≤ m
+unfolding any-above
+none-above m [] e c = omega arith
+none-above m (x ∷ xs) e zero = ltb-false m x (or-false (ltb m x) (any-above m xs) e .0)
+none-above m (x ∷ xs) e (suc c) = none-above m xs (or-false (ltb m x) (any-above m xs) e .1) c
+
+none-late : (xs : List Start) → late xs ≡ false → (c : ℕ) → Known 1000000 (start-time c xs)
+unfolding late start-time
+none-late [] e c = inl refl
+none-late (x ∷ xs) e c =
+    let r = or-false (ltb 1000000 (x .time)) (late xs) e in
+    go (eqb (x .cell) c) (ltb-false 1000000 (x .time) (r .0)) (none-late xs (r .1) c)
+  where
+    go : (p : Bool) → x .time ≤ 1000000 → Known 1000000 (start-time c xs) → Known 1000000 (cond p (x .time) (start-time c xs))
+    go true h k = inr h
+    go false h k = k
+
+none-on-wall : (b : Board) (xs : List Start) → on-wall b xs ≡ false → (c : ℕ) → slowness b c ≡ 0 → start-time c xs ≡ never
+unfolding on-wall start-time
+none-on-wall b [] e c w = refl
+none-on-wall b (x ∷ xs) e c w =
+    let r = or-false (eqb (slowness b (x .cell)) 0) (on-wall b xs) e in
+    go (eqb (x .cell) c) refl (eqb-false (slowness b (x .cell)) 0 (r .0)) (none-on-wall b xs (r .1) c w)
+  where
+    go : (p : Bool) → eqb (x .cell) c ≡ p → (slowness b (x .cell) ≡ 0 → ⊥) → start-time c xs ≡ never → cond p (x .time) (start-time c xs) ≡ never
+    go true q n k = absurd (n (ap (slowness b) (eqb-true (x .cell) c q) ∙ w))
+    go false q n k = k
+
+pub good : (b : Board) → board-good b ≡ true → Good b
+unfolding board-good board-refusal starts-refusal slowness
+good b e =
+    let r2 = passed (not (side-good (b .wide) && side-good (b .high))) 1 _ (eqb-true (board-refusal b) 0 e) in
+    let r4 = passed (not (eqb (length (b .slow)) (size b))) 3 _ (r2 .1) in
+    let r5 = passed (any-above 4095 (b .slow)) 4 _ (r4 .1) in
+    let r7 = passed (not (starts-rise (size b) 0 (b .starts))) 6 _ (r5 .1) in
+    let r8 = passed (late (b .starts)) 7 _ (r7 .1) in
+    let r9 = passed (on-wall b (b .starts)) 8 _ (r8 .1) in
+    let both = and-true (side-good (b .wide)) (side-good (b .high)) (not-false _ (r2 .0)) in
+    let w = side (b .wide) (both .0) in
+    let h = side (b .high) (both .1) in
+    record {
+      wide-low = w .0;
+      wide-high = w .1;
+      high-low = h .0;
+      high-high = h .1;
+      slow-length = eqb-true (length (b .slow)) (size b) (not-false _ (r4 .0));
+      slow-most = none-above 4095 (b .slow) (r5 .0);
+      starts-known = none-late (b .starts) (r8 .0);
+      walls-free = none-on-wall b (b .starts) (r9 .0);
+    }
+
+pub size-most : {b : Board} → Good b → size b ≤ 65536
+unfolding size
+size-most g = mul-le-mul (g .wide-high) (g .high-high)
+
+pub start-most : {b : Board} → Good b → (c : ℕ) → start-time c (b .starts) ≤ never
+start-most {b} g c = go (g .starts-known c)
+  where
+    go : Known 1000000 (start-time c (b .starts)) → start-time c (b .starts) ≤ never
+    go (inl e) = omega arith
+    go (inr h) = omega arith

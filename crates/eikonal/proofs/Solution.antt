@@ -1,0 +1,98 @@
+-- One-solution and Times-below of Promise.antt. Assumes nothing.
+use mathlib.Core.Path.{_≡_, refl, sym, ap, _∙_, subst}
+use mathlib.Core.Bool.{Bool, true, false, cond}
+use mathlib.Core.List.{List, [], _∷_}
+use mathlib.Core.Logic.{_⊎_, inl, inr, _≢_}
+use Prim.Native.Nat.{ℕ, zero, suc, _+_, _*_, _-_, _≤_, _<_, min}
+use native.Mathlib.Omega.{arith}
+use lib.Dec.{ltb}
+use lib.ListN.{length}
+use Rattle.eikonal.specs.Board.{Board, never, size, slowness, start-time, met, time, solved, Meets, earlier}
+use Rattle.eikonal.specs.Promise.{One-solution, Times-below}
+use Rattle.eikonal.proofs.Levels.{order, worked}
+use Rattle.eikonal.proofs.Good.{Good, good, Known, size-most}
+use Rattle.eikonal.proofs.Local.{local-of, Answers, stays, comes, local-answers}
+use Rattle.eikonal.proofs.Rule.{sides, along, down, met-is}
+use Rattle.eikonal.proofs.Passes.{Look, Sound, rule, rule-on, rule-off, time-off, solved-by, solved-is, solved-length, solved-fixed, solved-only}
+
+-- a board by itself: each cell sees the state as it is
+abbrev pub plain : Look
+plain f c e = f e
+
+pub plain-sound : Sound plain
+plain-sound = record { agree = λ t f g a c. a; under = λ f g a c. a }
+
+-- meeting the rule is being fixed
+pub meets-fixed : (b : Board) (ts : List ℕ) → Meets b ts → (c : ℕ) → time ts c ≡ rule b plain (time ts) c
+unfolding Meets
+meets-fixed b ts m c = go (order c (size b))
+  where
+    go : (c < size b) ⊎ (size b ≤ c) → time ts c ≡ rule b plain (time ts) c
+    go (inl h) = m .1 c h ∙ sym (rule-on b plain (time ts) c h)
+    go (inr h) = time-off ts c (omega (arith, m .0)) ∙ sym (rule-off b plain (time ts) c h)
+
+pub solved-plain : (b : Board) → solved b ≡ solved-by b plain
+unfolding solved solved-by
+solved-plain b = refl
+
+pub one-solution : One-solution
+unfolding One-solution Meets
+one-solution b e = (
+  rw (solved-plain b) (
+    solved-length b plain,
+    λ c h. solved-fixed b plain plain-sound (good b e) c ∙ rule-on b plain (time (solved-by b plain)) c h,
+  ),
+  λ ts m. solved-only b plain plain-sound (good b e) ts (m .0) (meets-fixed b ts m) ∙ sym (solved-plain b),
+)
+
+-- ---- times grow by at most 4095 with each pass
+cond-known : (p : Bool) (m x y : ℕ) → Known m x → Known m y → Known m (cond p x y)
+cond-known true m x y h k = h
+cond-known false m x y h k = k
+
+earlier-known : (m x y : ℕ) → Known m x → Known m y → Known m (earlier x y)
+unfolding earlier
+earlier-known m x y = cond-known (ltb x y) m x y
+
+sides-known : (m : ℕ) (p q : Bool) (i j : ℕ) (f : ℕ → ℕ) → ((e : ℕ) → Known m (f e)) → Known m (sides p q i j f)
+unfolding sides
+sides-known m p q i j f k = earlier-known m _ _ (cond-known p m never (f i) (inl refl) (k i)) (cond-known q m never (f j) (inl refl) (k j))
+
+local-known : (m s a b : ℕ) → s ≤ 4095 → Known m a → Known m b → Known (m + 4095) (local-of s a b)
+local-known m s a b h k l = go (local-answers s a b) k l
+  where
+    go : Answers s a b → Known m a → Known m b → Known (m + 4095) (local-of s a b)
+    go (stays w e) k l = inl e
+    go (comes p n r) (inr k) l = inr (omega (arith, r .high))
+    go (comes p n r) (inl k) (inr l) = inr (omega (arith, r .high))
+    go (comes p n r) (inl k) (inl l) = absurd (n (omega arith))
+
+known-up : (m n t : ℕ) → m ≤ n → Known m t → Known n t
+known-up m n t h (inl e) = inl e
+known-up m n t h (inr k) = inr (omega arith)
+
+pub met-known : {b : Board} → Good b → (m c : ℕ) (f : ℕ → ℕ) → 995905 ≤ m → ((e : ℕ) → Known m (f e)) → Known (m + 4095) (met b c f)
+met-known {b} g m c f h k =
+    rw (met-is b c f)
+    (earlier-known (m + 4095) _ _
+    (known-up 1000000 (m + 4095) (start-time c (b .starts)) (omega arith) (g .starts-known c))
+    (local-known m (slowness b c) (along b c f) (down b c f) (g .slow-most c) (sides-known m _ _ _ _ f k) (sides-known m _ _ _ _ f k)))
+
+pub rule-known : {b : Board} → Good b → (look : Look) (m c : ℕ) (f : ℕ → ℕ) → 995905 ≤ m → ((e : ℕ) → Known m (look f c e)) → Known (m + 4095) (rule b look f c)
+unfolding rule
+rule-known {b} g look m c f h k = cond-known (ltb c (size b)) (m + 4095) _ _ (met-known g m c (look f c) h k) (inl refl)
+
+worked-known : {b : Board} → Good b → (j c : ℕ) → Known (995905 + j * 4095) (worked never (rule b plain) j c)
+unfolding worked
+worked-known g zero c = inl refl
+worked-known {b} g (suc j) c =
+    known-up _ (995905 + suc j * 4095) (rule b plain (worked never (rule b plain) j) c) (omega arith)
+    (rule-known g plain (995905 + j * 4095) c (worked never (rule b plain) j) (omega arith) (worked-known g j))
+
+pub times-below : Times-below
+unfolding Times-below time
+times-below b c e h = go (rw (← solved-is b plain c, ← solved-plain b) at (worked-known (good b e) (size b) c)) (size-most (good b e))
+  where
+    go : Known (995905 + size b * 4095) (time (solved b) c) → size b ≤ 65536 → (time (solved b) c < 269369920) ⊎ (time (solved b) c ≡ never)
+    go (inl e) n = inr e
+    go (inr k) n = inl (omega arith)

@@ -1,0 +1,115 @@
+-- Boards, the local rule, the solution and the march ("The board and its numbers", "The local rule" of document 01).
+-- Assumes nothing: these are definitions.
+use mathlib.Core.Path.{_≡_}
+use mathlib.Core.Bool.{Bool, _||_, cond}
+use mathlib.Core.List.{List, [], _∷_}
+use Prim.Native.Nat.{ℕ, zero, suc, _+_, _*_, _-_, _/_, _%_, _<_}
+use lib.Dec.{ltb, leb, eqb}
+use lib.ListN.{length, getD, replicate}
+
+-- the mark of a cell that no front reaches
+abbrev pub never : ℕ
+never = 4294967295
+
+-- the largest horizon and bound; a stored time above it counts as never
+abbrev pub largest : ℕ
+largest = 300000000
+
+-- a front begins at a cell at a time
+pub record Start : Type 0 where
+  pub cell : ℕ
+  pub time : ℕ
+
+-- slownesses by cell, row by row; 0 is a wall
+pub record Board : Type 0 where
+  pub wide : ℕ
+  pub high : ℕ
+  pub slow : List ℕ
+  pub starts : List Start
+
+-- N, the number of cells
+unfoldable pub size : Board → ℕ
+size b = b .wide * b .high
+
+unfoldable pub slowness : Board → (c : ℕ) → ℕ
+slowness b c = getD (b .slow) c 0
+
+unfoldable pub earlier : (a b : ℕ) → ℕ
+earlier a b = cond (ltb a b) a b
+
+-- the least number that passes, from a given one on, so many tried; else the next
+unfoldable pub least-from : (left at : ℕ) → (ℕ → Bool) → ℕ
+least-from zero t f = t
+least-from (suc n) t f = cond (f t) t (least-from n (suc t) f)
+
+unfoldable pub square : ℕ → ℕ
+square a = a * a
+
+-- THE LOCAL RULE: the least t, not below the earlier of a and b, with p² + q² at least s²
+unfoldable pub passes : (s a b t : ℕ) → Bool
+passes s a b t = leb (square s) (square (t - a) + square (t - b))
+
+unfoldable pub local : (s left right above below : ℕ) → ℕ
+local s l r u d =
+    let a = earlier l r in
+    let b = earlier u d in
+    let m = earlier a b in
+    cond (eqb s 0 || eqb m never) never (least-from s m (λ t. passes s a b t))
+
+-- D(s): the least d with 2 d² at least s²
+unfoldable pub diagonal : ℕ → ℕ
+diagonal s = least-from s 0 (λ d. leb (square s) (2 * square d))
+
+-- the time of a cell's own start, never where it has none
+unfoldable pub start-time : (c : ℕ) → List Start → ℕ
+start-time c [] = never
+start-time c (x ∷ xs) = cond (eqb (x .cell) c) (x .time) (start-time c xs)
+
+-- what the rule gives a cell from the times that it sees; off the board is never
+unfoldable pub met : Board → (c : ℕ) → (seen : ℕ → ℕ) → ℕ
+met b c f =
+    let w = b .wide in
+    let col = c % w in
+    let row = c / w in
+    let l = cond (eqb col 0) never (f (c - 1)) in
+    let r = cond (eqb (suc col) w) never (f (suc c)) in
+    let u = cond (eqb row 0) never (f (c - w)) in
+    let d = cond (eqb (suc row) (b .high)) never (f (c + w)) in
+    earlier (start-time c (b .starts)) (local (slowness b c) l r u d)
+
+-- times by cell
+unfoldable pub time : List ℕ → (c : ℕ) → ℕ
+time ts c = getD ts c never
+
+-- EVERY CELL MEETS THE RULE
+unfoldable pub Meets : Board → (times : List ℕ) → Type 0
+Meets b ts =
+    (length ts ≡ size b) × ((c : ℕ) → c < size b → time ts c ≡ met b c (λ e. time ts e))
+
+-- THE SOLUTION, worked out by passes over the board: from all never, as many passes as there are cells
+unfoldable pub one-pass : (left c : ℕ) → Board → (seen : ℕ → ℕ → ℕ) → List ℕ
+one-pass zero c b f = []
+one-pass (suc n) c b f = met b c (λ e. f c e) ∷ one-pass n (suc c) b f
+
+unfoldable pub passes-of : (left : ℕ) → Board → (seen : List ℕ → ℕ → ℕ → ℕ) → (times : List ℕ) → List ℕ
+passes-of zero b f ts = ts
+passes-of (suc n) b f ts = passes-of n b f (one-pass (size b) 0 b (f ts))
+
+unfoldable pub all-never : Board → List ℕ
+all-never b = replicate (size b) never
+
+unfoldable pub solved : Board → List ℕ
+solved b = passes-of (size b) b (λ ts. λ c. λ e. time ts e) (all-never b)
+
+unfoldable pub cut : (horizon : ℕ) → List ℕ → List ℕ
+cut h [] = []
+cut h (t ∷ ts) = cond (leb t h) t never ∷ cut h ts
+
+-- THE MARCH: each time up to the horizon, never elsewhere
+unfoldable pub marched : Board → (horizon : ℕ) → List ℕ
+marched b h = cut h (solved b)
+
+-- how many cells are reached
+unfoldable pub reached : (horizon : ℕ) → List ℕ → ℕ
+reached h [] = 0
+reached h (t ∷ ts) = cond (leb t h) 1 0 + reached h ts

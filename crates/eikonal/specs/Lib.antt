@@ -1,0 +1,6 @@
+pub mod Board
+pub mod Tiles
+pub mod Refusals
+pub mod Ledger
+pub mod Entry
+pub mod Promise

@@ -1,0 +1,134 @@
+-- What is promised. Each statement is a type; proofs/Promises.antt gathers their proofs. Assumes nothing: these are definitions.
+use mathlib.Core.Path.{_≡_}
+use mathlib.Core.Bool.{Bool, true, false}
+use mathlib.Core.List.{List, [], _∷_, _++_}
+use mathlib.Core.Logic.{_⊎_, _≢_}
+use Prim.Native.Nat.{ℕ, zero, suc, _+_, _*_, _%_, _≤_, _<_, min, max}
+use lib.Dec.{eqb}
+use lib.ListN.{length}
+use Rattle.eikonal.specs.Board.{Board, size, slowness, start-time, time, Meets, solved, marched, reached, diagonal, local, never, largest, all-never, passes, earlier}
+use Rattle.eikonal.specs.Tiles.{after-rounds, last-round, rounds, up}
+use Rattle.eikonal.specs.Refusals.{Plain, board, board-refusal, run-refusal, order-good}
+use Rattle.eikonal.specs.Ledger.{Call, march, tile-run, one-round, ledger-answer, ledger-after, Book, book, ledger}
+use Rattle.eikonal.specs.Entry.{plain, March-says, Round-says, Run-says}
+use Rattle.eikonal.specs.declared.Reply.{Reply}
+
+unfoldable pub board-good : Board → Bool
+board-good b = eqb (board-refusal b) 0
+
+-- ---- THE LOCAL RULE: its answer passes, and no earlier time does; it is at most a straight step away, and for equal sides D away
+unfoldable pub Local-least : Type 0
+Local-least =
+    (s l r u d t : ℕ) → 1 ≤ s → s ≤ 4095 → earlier (earlier l r) (earlier u d) < never →
+    (passes s (earlier l r) (earlier u d) (local s l r u d) ≡ true)
+    × (local s l r u d ≤ earlier (earlier l r) (earlier u d) + s)
+    × (earlier (earlier l r) (earlier u d) ≤ t → t < local s l r u d → passes s (earlier l r) (earlier u d) t ≡ false)
+
+unfoldable pub Diagonal-step : Type 0
+Diagonal-step =
+    (s l r u d : ℕ) → 1 ≤ s → s ≤ 4095 → earlier l r ≡ earlier u d → earlier l r < never →
+    local s l r u d ≡ earlier l r + diagonal s
+
+-- ---- THE SECOND CONDITION: just one set of times meets the rule, and it is the one worked out
+unfoldable pub One-solution : Type 0
+One-solution = (b : Board) → board-good b ≡ true → Meets b (solved b) × ((ts : List ℕ) → Meets b ts → ts ≡ solved b)
+
+-- the largest true time
+unfoldable pub Times-below : Type 0
+Times-below = (b : Board) (c : ℕ) → board-good b ≡ true → c < size b → (time (solved b) c < 269369920) ⊎ (time (solved b) c ≡ never)
+
+-- never, exactly: a marched time is never just if the solution lies past the horizon
+unfoldable pub Never-past-horizon : Type 0
+Never-past-horizon =
+    (b : Board) (h c : ℕ) → board-good b ≡ true → h ≤ largest → c < size b →
+    (time (marched b h) c ≡ never → h < time (solved b) c) × (h < time (solved b) c → time (marched b h) c ≡ never)
+
+-- e is right of c in its row, or below it
+unfoldable pub Beside : Board → (c e : ℕ) → Type 0
+Beside b c e = ((suc c ≡ e) × (e % b .wide ≢ 0)) ⊎ (c + b .wide ≡ e)
+
+unfoldable pub Neighbour : Board → (c e : ℕ) → Type 0
+Neighbour b c e = Beside b c e ⊎ Beside b e c
+
+-- a chain of open cells, each a neighbour of the next, joins the cell to a start
+pub data Joined (b : Board) : (c : ℕ) → Type 0 where
+  begins : (c : ℕ) → c < size b → slowness b c ≢ 0 → start-time c (b .starts) ≢ never → Joined b c
+  goes-on : (c e : ℕ) → c < size b → slowness b c ≢ 0 → Neighbour b c e → Joined b e → Joined b c
+
+-- never, exactly: the solution is never just if no chain joins the cell to a start
+unfoldable pub Never-unjoined : Type 0
+Never-unjoined =
+    (b : Board) (c : ℕ) → board-good b ≡ true → c < size b →
+    (time (solved b) c ≡ never → Joined b c → ⊥) × ((Joined b c → ⊥) → time (solved b) c ≡ never)
+
+-- ---- THE THIRD CONDITION: a tile run's rounds come to the march, whatever its tiles and stride, and they are few
+unfoldable pub Run-is-march : Type 0
+Run-is-march =
+    (b : Board) (tw th s h : ℕ) → board-good b ≡ true → 1 ≤ tw → tw ≤ 256 → 1 ≤ th → th ≤ 256 → 1 ≤ s → s ≤ 300000000 → h ≤ 300000000 →
+    (last-round b tw th s h (rounds b tw th s h) ≡ true) × (after-rounds (rounds b tw th s h) b tw th s h ≡ marched b h)
+
+unfoldable pub Few-rounds : Type 0
+Few-rounds =
+    (b : Board) (tw th s h : ℕ) → board-good b ≡ true → 1 ≤ tw → tw ≤ 256 → 1 ≤ th → th ≤ 256 → 1 ≤ s → s ≤ 300000000 → h ≤ 300000000 →
+    rounds b tw th s h ≤ max 1 (up h s) + reached h (solved b)
+
+-- the order of tiles serves for number 12 alone: in a round,
+unfoldable pub Order-free : Type 0
+Order-free =
+    (p : Plain) (tw th m w : ℕ) (xs ys ts : List ℕ) → order-good (board p) tw th xs ≡ true → order-good (board p) tw th ys ≡ true →
+    (ledger-after (one-round p tw th m xs w) ts ≡ ledger-after (one-round p tw th m ys w) ts)
+    × (ledger-answer (one-round p tw th m xs w) ts ≡ ledger-answer (one-round p tw th m ys w) ts)
+
+-- j single rounds with a tile run's arguments and bounds
+unfoldable pub single-rounds : (j : ℕ) → Plain → (tw th stride horizon : ℕ) → (order : List ℕ) → (work : ℕ) → List Call
+single-rounds zero p tw th s h xs w = []
+single-rounds (suc j) p tw th s h xs w =
+    single-rounds j p tw th s h xs w ++ (one-round p tw th (min (suc j * s) h) xs w ∷ [])
+
+-- what a tile run holds after its round j is what j single rounds leave, called in turn from all never
+unfoldable pub Run-is-rounds : Type 0
+Run-is-rounds =
+    (p : Plain) (tw th s h w j : ℕ) (xs : List ℕ) → run-refusal p tw th s h xs (size (board p)) w ≡ 0 →
+    ledger (single-rounds j p tw th s h xs w) [] (all-never (board p)) .times ≡ after-rounds j (board p) tw th s h
+
+-- and in a run: two that differ in the order alone answer the same, leave the same, and hold the same times after every round
+unfoldable pub Run-order-free : Type 0
+Run-order-free =
+    (p : Plain) (tw th s h w : ℕ) (xs ys ts : List ℕ) → order-good (board p) tw th xs ≡ true → order-good (board p) tw th ys ≡ true →
+    (ledger-answer (tile-run p tw th s h xs w) ts ≡ ledger-answer (tile-run p tw th s h ys w) ts)
+    × (ledger-after (tile-run p tw th s h xs w) ts ≡ ledger-after (tile-run p tw th s h ys w) ts)
+    × ((j : ℕ) → ledger (single-rounds j p tw th s h xs w) [] ts ≡ ledger (single-rounds j p tw th s h ys w) [] ts)
+
+-- a call that meets its contract, between the times that it was lent and those that it left
+pub data Step : (times times-now : List ℕ) → Call → Reply → Type 0 where
+  by-march : (w h : ℕ) (ss cs ts : List ℕ) (z : ℕ) (x : Reply) (a b d e : List ℕ)
+      → March-says w h ss cs ts z x a b d e → Step a b (march (plain w h ss cs ts) z (length d)) x
+  by-run : (w h : ℕ) (ss cs ts : List ℕ) (tw th s z : ℕ) (xs : List ℕ) (x : Reply) (a b d e : List ℕ)
+      → Run-says w h ss cs ts tw th s z xs x a b d e → Step a b (tile-run (plain w h ss cs ts) tw th s z xs (length d)) x
+  by-round : (w h : ℕ) (ss cs ts : List ℕ) (tw th m : ℕ) (xs : List ℕ) (x : Reply) (a b d e : List ℕ)
+      → Round-says w h ss cs ts tw th m xs x a b d e → Step a b (one-round (plain w h ss cs ts) tw th m xs (length d)) x
+
+-- a list of calls, each lent the times that the one before left
+pub data Steps : (times : List ℕ) → List Call → List Reply → (last : List ℕ) → Type 0 where
+  done : (a : List ℕ) → Steps a [] [] a
+  then : (a b z : List ℕ) (c : Call) (x : Reply) (cs : List Call) (xs : List Reply)
+      → Step a b c x → Steps b cs xs z → Steps a (c ∷ cs) (x ∷ xs) z
+
+-- A SINGLE CLAIM ABOUT THE WHOLE LIST: answers and times are the ledger's
+unfoldable pub Every-list : Type 0
+Every-list =
+    (cs : List Call) (xs : List Reply) (a z : List ℕ) → Steps a cs xs z → book xs z ≡ ledger cs [] a
+
+-- the same of a program as a function: one that keeps the ledger in each call keeps it along every list
+pub record Done : Type 0 where
+  pub answered : Reply
+  pub left : List ℕ
+
+unfoldable pub played : (call : Call → List ℕ → Done) → List Call → (so-far : List Reply) → (times : List ℕ) → Book
+played f [] xs ts = book xs ts
+played f (c ∷ cs) xs ts = played f cs (xs ++ (f c ts .answered ∷ [])) (f c ts .left)
+
+unfoldable pub Lists-keep : Type 0
+Lists-keep =
+    (f : Call → List ℕ → Done) (cs : List Call) (ts : List ℕ) →
+    ((c : Call) (xs : List ℕ) → (f c xs .answered ≡ ledger-answer c xs) × (f c xs .left ≡ ledger-after c xs)) → played f cs [] ts ≡ ledger cs [] ts
