@@ -1,4 +1,6 @@
 pub mod Levels
+pub mod Least
+pub mod Axes
 pub mod Local
 pub mod LocalKept
 pub mod Good

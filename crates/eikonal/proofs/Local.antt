@@ -1,14 +1,16 @@
--- The local rule: the least time that passes, and what it rests on. Assumes nothing.
-use mathlib.Core.Path.{_≡_, refl, sym, ap, ap₂, _∙_, subst}
-use mathlib.Core.Bool.{Bool, true, false, cond, _||_, true≢false}
+-- The local rule of a board: two axes of weight 1. Its laws are those of Axes.antt. Assumes nothing.
+use mathlib.Core.Path.{_≡_, refl, sym, ap, ap₂, _∙_, fun-ext}
+use mathlib.Core.Bool.{Bool, true, false, cond, _||_}
+use mathlib.Core.List.{List, [], _∷_}
 use mathlib.Core.Logic.{_⊎_, inl, inr, _≢_}
 use Prim.Native.Nat.{ℕ, zero, suc, _+_, _*_, _-_, _≤_, _<_, min}
 use native.Mathlib.Omega.{arith}
-use native.Mathlib.Nat.{mul-le-mul}
 use lib.Dec.{ltb, leb, eqb}
-use borrow.Author.Tests.{leb-true, leb-false, le-leb, lt-leb, eqb-true, eqb-false, ne-eqb, ltb-true, ltb-false}
+use borrow.Author.Tests.{ltb-true, ltb-false}
 use Rattle.eikonal.specs.Board.{never, earlier, least-from, square, passes, local}
-use Rattle.eikonal.proofs.Levels.{order, Agree, Under}
+use Rattle.eikonal.proofs.Levels.{Agree, Under}
+use Rattle.eikonal.proofs.Least.{Least}
+use Rattle.eikonal.proofs.Axes.{earliest, pull, passes-axes, local-axes, Enough, axes-on, axes-late, axes-step, Answers-axes, axes-answers, axes-comes, axes-passes, passes-local-axes, axes-under, axes-agree}
 
 -- ---- the earlier of two
 pub earlier-min : (a b : ℕ) → earlier a b ≡ min a b
@@ -29,83 +31,36 @@ earlier-agree t a b x y p q =
 pub earlier-under : (t a b x y : ℕ) → min t a ≤ x → min t b ≤ y → min t (earlier a b) ≤ earlier x y
 earlier-under t a b x y p q = rw (earlier-min a b, earlier-min x y) (omega arith)
 
--- ---- the least number that passes a test
-pub record Least (f : ℕ → Bool) (from to v : ℕ) : Type 0 where
-  pub low : from ≤ v
-  pub high : v ≤ to
-  pub first : (u : ℕ) → from ≤ u → u < v → f u ≡ false
-  pub found : f to ≡ true → f v ≡ true
-  pub hit : v < to → f v ≡ true
+-- ---- two axes of weight 1
+abbrev pub second : List ℕ
+second = 1 ∷ []
 
-pub least : (n t : ℕ) (f : ℕ → Bool) → Least f t (t + n) (least-from n t f)
-unfolding least-from
-least zero t f = record {
-  low = omega arith;
-  high = omega arith;
-  first = λ u p q. absurd (omega arith);
-  found = λ e. subst (λ (v : ℕ). f v ≡ true) (omega arith) e;
-  hit = λ h. absurd (omega arith);
-}
-least (suc n) t f = go (f t) refl (least n (suc t) f)
-  where
-    here : (u : ℕ) → f t ≡ false → t ≡ u → f u ≡ false
-    here u e p = subst (λ (v : ℕ). f v ≡ false) p e
+unfoldable pub two : (a b : ℕ) → ℕ → ℕ
+two a b zero = a
+two a b (suc i) = b
 
-    later : (u v : ℕ) → f t ≡ false → ((u : ℕ) → suc t ≤ u → u < v → f u ≡ false) → u < v → (t < u) ⊎ (u ≤ t) → t ≤ u → f u ≡ false
-    later u v e r q (inl l) p = r u l q
-    later u v e r q (inr l) p = here u e (omega arith)
+-- what holds of a pair of times holds of each axis
+each : (P : ℕ → ℕ → Type 0) (a b x y : ℕ) → P a x → P b y → (i : ℕ) → P (two a b i) (two x y i)
+unfolding two
+each P a b x y p q zero = p
+each P a b x y p q (suc i) = q
 
-    go : (b : Bool) → f t ≡ b → Least f (suc t) (suc t + n) (least-from n (suc t) f) → Least f t (t + suc n) (cond b t (least-from n (suc t) f))
-    go true e r = record { low = omega arith; high = omega arith; first = λ u p q. absurd (omega arith); found = λ _. e; hit = λ _. e }
-    go false e r = record {
-      low = omega (arith, r .low);
-      high = omega (arith, r .high);
-      first = λ u p q. later u (least-from n (suc t) f) e (r .first) q (order t u) p;
-      found = λ k. r .found (subst (λ (v : ℕ). f v ≡ true) (omega arith) k);
-      hit = λ h. r .hit (omega arith);
-    }
+enough : (s : ℕ) → Enough s s 1 second
+unfolding Enough
+enough s = (omega arith, omega arith)
 
-pub least-bound : {f : ℕ → Bool} {from to v : ℕ} → Least f from to v → (u : ℕ) → from ≤ u → f u ≡ true → v ≤ u
-least-bound {f} {from} {to} {v} l u h e = go (order u v)
-  where
-    go : (u < v) ⊎ (v ≤ u) → v ≤ u
-    go (inl k) = absurd (true≢false (sym e ∙ l .first u h k))
-    go (inr k) = k
+pub passes-is : (s a b t : ℕ) → passes s a b t ≡ passes-axes s 1 second (two a b) t
+unfolding passes passes-axes pull two
+passes-is s a b t =
+    let p : 1 * (t - a) ≡ t - a = omega arith in
+    let q : 1 * (t - b) ≡ t - b = omega arith in
+    rw (p, q)
 
--- ---- squares, and the times that pass
-pub square-mono : {a b : ℕ} → a ≤ b → square a ≤ square b
-unfolding square
-square-mono h = mul-le-mul h h
+earliest-is : (a b : ℕ) → earliest second (two a b) ≡ min a b
+unfolding earliest two
+earliest-is a b = refl
 
--- what passes still passes with no shorter sides
-pub passes-on : (s a b v x y w : ℕ) → v - a ≤ w - x → v - b ≤ w - y → passes s a b v ≡ true → passes s x y w ≡ true
-unfolding passes
-passes-on s a b v x y w p q h =
-    le-leb (square s) (square (w - x) + square (w - y))
-    (omega (arith, leb-true (square s) (square (v - a) + square (v - b)) h, square-mono p, square-mono q))
-
--- what passes is later than the earlier side
-pub passes-late : (s a b v : ℕ) → 1 ≤ s → passes s a b v ≡ true → min a b < v
-unfolding passes square
-passes-late s a b v h k = go (order (min a b) v)
-  where
-    go : (min a b < v) ⊎ (v ≤ min a b) → min a b < v
-    go (inl l) = l
-    go (inr l) =
-        let p : v - a ≤ 0 = omega arith in
-        let q : v - b ≤ 0 = omega arith in
-        absurd (omega (arith, leb-true (square s) (square (v - a) + square (v - b)) k, square-mono p, square-mono q, square-mono h))
-
--- a straight step passes
-pub step-passes : (s a b : ℕ) → passes s a b (min a b + s) ≡ true
-unfolding passes
-step-passes s a b = le-leb (square s) (square (min a b + s - a) + square (min a b + s - b)) (go (order a b))
-  where
-    go : (a < b) ⊎ (b ≤ a) → square s ≤ square (min a b + s - a) + square (min a b + s - b)
-    go (inl l) = let p : s ≤ min a b + s - a = omega arith in omega (arith, square-mono p)
-    go (inr l) = let p : s ≤ min a b + s - b = omega arith in omega (arith, square-mono p)
-
--- ---- the local rule, of the earlier sides
+-- the local rule, of the earlier sides
 unfoldable pub local-of : (s a b : ℕ) → ℕ
 local-of s a b = cond (eqb s 0 || eqb (earlier a b) never) never (least-from s (earlier a b) (λ t. passes s a b t))
 
@@ -113,72 +68,61 @@ pub local-is : (s l r u d : ℕ) → local s l r u d ≡ local-of s (earlier l r
 unfolding local local-of
 local-is s l r u d = refl
 
+axes-is : (s a b : ℕ) → local-of s a b ≡ local-axes s s 1 second (two a b)
+unfolding local-of local-axes
+axes-is s a b = rw (fun-ext (passes-is s a b), earlier-min a b, earliest-is a b)
+
+-- ---- the times that pass
+pub passes-on : (s a b v x y w : ℕ) → v - a ≤ w - x → v - b ≤ w - y → passes s a b v ≡ true → passes s x y w ≡ true
+passes-on s a b v x y w p q h =
+    passes-is s x y w
+    ∙ axes-on s 1 second (two a b) (two x y) v w (each (λ i j. v - i ≤ w - j) a b x y p q) (sym (passes-is s a b v) ∙ h)
+
+pub passes-late : (s a b v : ℕ) → 1 ≤ s → passes s a b v ≡ true → min a b < v
+passes-late s a b v h k = rw (earliest-is a b) at (axes-late s 1 second (two a b) v h (sym (passes-is s a b v) ∙ k))
+
+pub step-passes : (s a b : ℕ) → passes s a b (min a b + s) ≡ true
+step-passes s a b =
+    passes-is s a b (min a b + s) ∙ (rw (earliest-is a b) at (axes-step s s 1 second (enough s) (two a b)))
+
 -- it stays never for a wall or where no side is reached; else it is the least that passes from the earlier side on
 pub data Answers (s a b : ℕ) : Type 0 where
   stays : (s ≡ 0) ⊎ (min a b ≡ never) → local-of s a b ≡ never → Answers s a b
   comes : 1 ≤ s → min a b ≢ never → Least (λ t. passes s a b t) (min a b) (min a b + s) (local-of s a b) → Answers s a b
 
 pub local-answers : (s a b : ℕ) → Answers s a b
-unfolding local-of
-local-answers s a b = go (eqb s 0) refl (eqb (earlier a b) never) refl
+unfolding earliest two
+local-answers s a b = go (axes-answers s s 1 second (enough s) (two a b))
   where
-    is : (p q : Bool) → eqb s 0 ≡ p → eqb (earlier a b) never ≡ q
-        → local-of s a b ≡ cond (p || q) never (least-from s (earlier a b) (λ t. passes s a b t))
-    is p q e d = rw (e, d)
-
-    go : (p : Bool) → eqb s 0 ≡ p → (q : Bool) → eqb (earlier a b) never ≡ q → Answers s a b
-    go true e q d = stays (inl (eqb-true s 0 e)) (is true q e d)
-    go false e true d = stays (inr (sym (earlier-min a b) ∙ eqb-true (earlier a b) never d)) (is false true e d)
-    go false e false d =
-        comes
-        (omega (arith, eqb-false s 0 e))
-        (λ k. eqb-false (earlier a b) never d (earlier-min a b ∙ k))
-        (rw (is false false e d, earlier-min a b) (least s (min a b) (λ t. passes s a b t)))
+    go : Answers-axes s s 1 second (enough s) (two a b) → Answers s a b
+    go (Answers-axes.stays z e) = stays z (axes-is s a b ∙ e)
+    go (Answers-axes.comes p n l) = comes p n (rw (fun-ext (passes-is s a b), axes-is s a b) l)
 
 pub local-comes : (s a b : ℕ) → 1 ≤ s → min a b ≢ never → local-of s a b ≡ least-from s (min a b) (λ t. passes s a b t)
-unfolding local-of
-local-comes s a b h k = rw (ne-eqb s 0 (omega arith), earlier-min a b, ne-eqb (min a b) never k)
+unfolding earliest two
+local-comes s a b h k =
+    axes-is s a b
+    ∙ axes-comes s s 1 second (enough s) (two a b) h k
+    ∙ rw (fun-ext (passes-is s a b), earliest-is a b)
 
 -- THE LAW: the answer is at most v, before never, just if v passes
 pub local-passes : (s a b v : ℕ) → v < never → local-of s a b ≤ v → (1 ≤ s) × (passes s a b v ≡ true)
-local-passes s a b v h k = go (local-answers s a b)
-  where
-    go : Answers s a b → (1 ≤ s) × (passes s a b v ≡ true)
-    go (stays w e) = absurd (omega arith)
-    go (comes p n l) = (p, passes-on s a b (local-of s a b) a b v (omega arith) (omega arith) (l .found (step-passes s a b)))
+local-passes s a b v h k =
+    let r = axes-passes s s 1 second (enough s) (two a b) v h (rw (axes-is s a b) at k) in
+    (r .0, passes-is s a b v ∙ r .1)
 
 pub passes-local : (s a b v : ℕ) → v < never → 1 ≤ s → passes s a b v ≡ true → local-of s a b ≤ v
-passes-local s a b v h p k = go (local-answers s a b) (passes-late s a b v p k)
-  where
-    go : Answers s a b → min a b < v → local-of s a b ≤ v
-    go (stays (inl z) e) m = absurd (omega arith)
-    go (stays (inr z) e) m = absurd (omega arith)
-    go (comes q n l) m = least-bound l v (omega arith) k
+passes-local s a b v h p k =
+    rw (axes-is s a b) (passes-local-axes s s 1 second (enough s) (two a b) v h p (sym (passes-is s a b v) ∙ k))
 
--- so it follows the sides, as far as they go before v
-pub local-follows : (s a b x y v : ℕ) → v < never → v - x ≤ v - a → v - y ≤ v - b → local-of s x y ≤ v → local-of s a b ≤ v
-local-follows s a b x y v h p q k =
-    let r = local-passes s x y v h k in
-    passes-local s a b v h (r .0) (passes-on s x y v a b v p q (r .1))
-
--- an order below t, from the numbers below t that bound each
-pub bounded : (t x y : ℕ) → ((v : ℕ) → v < t → y ≤ v → x ≤ v) → min t x ≤ y
-bounded t x y h = go (order y t)
-  where
-    go : (y < t) ⊎ (t ≤ y) → min t x ≤ y
-    go (inl l) = omega (arith, h y l (omega arith))
-    go (inr l) = omega arith
-
--- CAUSAL and MONOTONE
+-- MONOTONE and CAUSAL
 pub local-under : (s a b x y : ℕ) → min never a ≤ x → min never b ≤ y → min never (local-of s a b) ≤ local-of s x y
 local-under s a b x y p q =
-    bounded never (local-of s a b) (local-of s x y) (λ v h. local-follows s a b x y v h (omega arith) (omega arith))
+    rw (axes-is s a b, axes-is s x y)
+    (axes-under s s 1 second (enough s) (two a b) (two x y) (each (λ i j. min never i ≤ j) a b x y p q))
 
 pub local-agree : (s a b x y t : ℕ) → t < never → min t a ≡ min t x → min t b ≡ min t y
     → min (suc t) (local-of s a b) ≡ min (suc t) (local-of s x y)
 local-agree s a b x y t h p q =
-    omega (
-      arith,
-      bounded (suc t) (local-of s a b) (local-of s x y) (λ v k. local-follows s a b x y v (omega arith) (omega arith) (omega arith)),
-      bounded (suc t) (local-of s x y) (local-of s a b) (λ v k. local-follows s x y a b v (omega arith) (omega arith) (omega arith)),
-    )
+    rw (axes-is s a b, axes-is s x y)
+    (axes-agree s s 1 second (enough s) (two a b) (two x y) t h (each (λ i j. min t i ≡ min t j) a b x y p q))

@@ -8,7 +8,8 @@ use native.Mathlib.Nat.{add-suc}
 use lib.Dec.{leb}
 use Rattle.eikonal.specs.Board.{never, earlier, least-from, square, passes, local, diagonal}
 use Rattle.eikonal.specs.Promise.{Local-least, Diagonal-step}
-use Rattle.eikonal.proofs.Local.{Least, Answers, stays, comes, earlier-min, local-of, local-is, local-answers, local-comes, step-passes}
+use Rattle.eikonal.proofs.Least.{Least}
+use Rattle.eikonal.proofs.Local.{Answers, stays, comes, earlier-min, local-of, local-is, local-answers, local-comes, step-passes}
 
 local-least-of : (s a b t : ℕ) → 1 ≤ s → min a b < never → Answers s a b
     → (passes s a b (local-of s a b) ≡ true) × (local-of s a b ≤ min a b + s) × (min a b ≤ t → t < local-of s a b → passes s a b t ≡ false)

@@ -15,7 +15,8 @@ use Rattle.eikonal.specs.Tiles.{tile-of, counts-as, round, altered, afte
 use Rattle.eikonal.proofs.Levels.{order, lower, Agree, Under, worked, count, count-most, settles}
 use Rattle.eikonal.proofs.Good.{Good, good, and-true}
 use Rattle.eikonal.specs.Promise.{Run-is-march, Few-rounds}
-use Rattle.eikonal.proofs.Local.{Least, least, least-bound, local-of, Answers, stays, comes, local-answers, earlier-min}
+use Rattle.eikonal.proofs.Least.{Least, least, least-bound}
+use Rattle.eikonal.proofs.Local.{local-of, Answers, stays, comes, local-answers, earlier-min}
 use Rattle.eikonal.proofs.Rule.{along, down, met-is}
 use Rattle.eikonal.proofs.Passes.{Look, never-time, Sound, rule, rule-on, rule-off, rule-under, levels, time-off, solved-by, solved-is, solved-length, solved-fixed, rule-most}
 use Rattle.eikonal.proofs.Solution.{plain, plain-sound, solved-plain}
