@@ -7,4 +7,8 @@ pub mod Good
 pub mod Rule
 pub mod Passes
 pub mod Solution
+pub mod Clip
+pub mod Altered
+pub mod Ghosts
 pub mod Rounds
+pub mod CutRule

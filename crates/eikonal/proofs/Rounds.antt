@@ -1,185 +1,33 @@
--- A round over tiles solves a board that is seen in part as stored, and rounds come to the march. Assumes nothing.
-use mathlib.Core.Path.{_≡_, refl, sym, ap, ap₂, _∙_, subst}
-use mathlib.Core.Bool.{Bool, true, false, cond, _||_}
-use mathlib.Core.List.{List, [], _∷_}
-use mathlib.Core.Logic.{_⊎_, inl, inr, _≢_}
-use Prim.Native.Nat.{ℕ, zero, suc, _+_, _*_, _-_, _/_, _%_, _≤_, _<_, min, max}
+-- A round over tiles solves a board that is seen in part as stored, and rounds come to the march: Run-is-march and Few-rounds. Assumes nothing.
+use mathlib.Core.Path.{_≡_, refl, sym, ap, _∙_}
+use mathlib.Core.Bool.{Bool, true, false, cond}
+use mathlib.Core.List.{List}
+use mathlib.Core.Logic.{_⊎_, inl, inr}
+use Prim.Native.Nat.{ℕ, zero, suc, _+_, _*_, _-_, _≤_, _<_, min, max}
 use native.Mathlib.Omega.{arith}
-use lib.Dec.{ltb, leb, eqb}
-use native.Mathlib.Nat.{add-suc, add-zero, mul-le-mul-right, mod-lt, div-add-mod'}
-use lib.ListN.{length, getD, length-replicate}
+use native.Mathlib.Nat.{add-suc, mul-le-mul-right, mod-lt, div-add-mod'}
+use lib.Dec.{leb, eqb}
+use lib.ListN.{length, length-replicate}
 use lib.Seq.{ext-getD}
-use borrow.Author.Tests.{ltb-true, ltb-false, leb-true, leb-false, eqb-true, eqb-false, eq-eqb, le-leb, lt-leb, lt-ltb, le-ltb}
-use Rattle.eikonal.specs.Board.{Board, never, largest, size, slowness, start-time, met, time, solved, earlier, least-from, cut, marched, reached, all-never}
+use borrow.Author.Tests.{leb-true, eqb-true, le-leb}
+use Rattle.eikonal.specs.Board.{Board, never, largest, size, slowness, time, solved, least-from, marched, reached, all-never}
 use Rattle.eikonal.specs.Tiles.{tile-of, counts-as, round, altered, after-rounds, last-round, rounds, rounds-from, up}
-use Rattle.eikonal.proofs.Levels.{order, lower, Agree, Under, worked, count, count-most, settles}
-use Rattle.eikonal.proofs.Good.{Good, good, and-true}
 use Rattle.eikonal.specs.Promise.{Run-is-march, Few-rounds}
+use Rattle.eikonal.proofs.Levels.{order, lower, Agree, Under, worked, count, count-most, settles}
 use Rattle.eikonal.proofs.Least.{Least, least, least-bound}
+use Rattle.eikonal.proofs.Clip.{clip, clip-agree, clip-under, clip-late, clip-low, clip-same, clip-most, cut-time, cut-length, reached-count}
+use Rattle.eikonal.proofs.Altered.{altered-none, altered-same}
+use Rattle.eikonal.proofs.Good.{Good, good, and-true}
 use Rattle.eikonal.proofs.Local.{local-of, Answers, stays, comes, local-answers, earlier-min}
 use Rattle.eikonal.proofs.Rule.{along, down, met-is}
-use Rattle.eikonal.proofs.Passes.{Look, never-time, Sound, rule, rule-on, rule-off, rule-under, levels, time-off, solved-by, solved-is, solved-length, solved-fixed, rule-most}
+use Rattle.eikonal.proofs.Passes.{never-time, rule, rule-on, rule-off, rule-under, levels, time-off, solved-by, solved-is, solved-length, solved-fixed}
 use Rattle.eikonal.proofs.Solution.{plain, plain-sound, solved-plain}
-
--- ---- times up to a bound, never elsewhere
-unfoldable pub clip : (bound t : ℕ) → ℕ
-clip h t = cond (leb t h) t never
-
--- what a clipped time is
-pub data Clipped (h t : ℕ) : Type 0 where
-  kept : t ≤ h → clip h t ≡ t → Clipped h t
-  lost : h < t → clip h t ≡ never → Clipped h t
-
-pub clipped : (h t : ℕ) → Clipped h t
-unfolding clip
-clipped h t = go (leb t h) refl
-  where
-    go : (p : Bool) → leb t h ≡ p → Clipped h t
-    go true e = kept (leb-true t h e) (rw e)
-    go false e = lost (leb-false t h e) (rw e)
-
-pub clip-agree : (h t x y : ℕ) → t ≤ never → min t x ≡ min t y → min t (clip h x) ≡ min t (clip h y)
-clip-agree h t x y k e = go (clipped h x) (clipped h y)
-  where
-    go : Clipped h x → Clipped h y → min t (clip h x) ≡ min t (clip h y)
-    go (kept i p) (kept j q) = rw (p, q) e
-    go (kept i p) (lost j q) = rw (p, q) (omega arith)
-    go (lost i p) (kept j q) = rw (p, q) (omega arith)
-    go (lost i p) (lost j q) = rw (p, q) refl
-
--- a later bound keeps no later times
-pub clip-under : (h k x y : ℕ) → h ≤ k → min never x ≤ y → min never (clip k x) ≤ clip h y
-clip-under h k x y l e = go (clipped k x) (clipped h y)
-  where
-    go : Clipped k x → Clipped h y → min never (clip k x) ≤ clip h y
-    go (kept i p) (kept j q) = rw (p, q) e
-    go (kept i p) (lost j q) = rw (p, q) (omega arith)
-    go (lost i p) (kept j q) = rw (p, q) (omega arith)
-    go (lost i p) (lost j q) = rw (p, q) (omega arith)
-
-pub clip-late : (h x y : ℕ) → min never x ≤ y → min never x ≤ clip h y
-clip-late h x y e = go (clipped h y)
-  where
-    go : Clipped h y → min never x ≤ clip h y
-    go (kept i p) = rw p e
-    go (lost i p) = rw p (omega arith)
-
--- below the bound a clipped time is the time
-pub clip-low : (h t x : ℕ) → t ≤ suc h → t ≤ never → min t (clip h x) ≡ min t x
-clip-low h t x k l = go (clipped h x)
-  where
-    go : Clipped h x → min t (clip h x) ≡ min t x
-    go (kept i p) = rw p refl
-    go (lost i p) = rw p (omega arith)
-
--- times that agree up to the bound are clipped alike
-pub clip-same : (h x y : ℕ) → min (suc h) x ≡ min (suc h) y → clip h x ≡ clip h y
-clip-same h x y e = go (clipped h x) (clipped h y)
-  where
-    go : Clipped h x → Clipped h y → clip h x ≡ clip h y
-    go (kept i p) (kept j q) = rw (p, q) (omega arith)
-    go (kept i p) (lost j q) = absurd (omega arith)
-    go (lost i p) (kept j q) = absurd (omega arith)
-    go (lost i p) (lost j q) = rw (p, q) refl
-
-pub clip-most : (h x : ℕ) → h ≤ never → clip h x ≤ never
-clip-most h x k = go (clipped h x)
-  where
-    go : Clipped h x → clip h x ≤ never
-    go (kept i p) = omega arith
-    go (lost i p) = omega arith
-
-pub cut-time : (h : ℕ) (ts : List ℕ) (c : ℕ) → h < never → time (cut h ts) c ≡ clip h (time ts c)
-unfolding cut time clip
-cut-time h [] c k = rw (lt-leb never h k)
-cut-time h (t ∷ ts) zero k = refl
-cut-time h (t ∷ ts) (suc c) k = cut-time h ts c k
-
-pub cut-length : (h : ℕ) (ts : List ℕ) → length (cut h ts) ≡ length ts
-unfolding cut
-cut-length h [] = refl
-cut-length h (t ∷ ts) = ap suc (cut-length h ts)
-
--- the cells reached are the times that a cut keeps
-pub reached-count : (h : ℕ) (ts : List ℕ) → h < never → reached h ts ≡ count (length ts) never (time (cut h ts))
-unfolding reached count cut time
-reached-count h [] k = refl
-reached-count h (t ∷ ts) k = go (leb t h) refl (reached-count h ts k)
-  where
-    go : (p : Bool) → leb t h ≡ p → reached h ts ≡ count (length ts) never (time (cut h ts))
-        → cond {A = ℕ} p 1 0 + reached h ts ≡ min 1 (never - cond p t never) + count (length ts) never (time (cut h ts))
-    go true e r = omega (arith, leb-true t h e)
-    go false e r = omega arith
-
--- ---- entries altered
-altered-none : (xs : List ℕ) → altered xs xs ≡ 0
-unfolding altered
-altered-none [] = refl
-altered-none (x ∷ xs) = rw (eq-eqb x x refl) (omega (arith, altered-none xs))
-
-altered-same : (xs ys : List ℕ) → length xs ≡ length ys → altered xs ys ≡ 0 → xs ≡ ys
-unfolding altered
-altered-same [] [] l e = refl
-altered-same [] (y ∷ ys) l e = absurd (omega arith)
-altered-same (x ∷ xs) [] l e = absurd (omega arith)
-altered-same (x ∷ xs) (y ∷ ys) l e = go (eqb x y) refl e (altered-same xs ys (omega arith))
-  where
-    go : (p : Bool) → eqb x y ≡ p → cond {A = ℕ} p 0 1 + altered xs ys ≡ 0 → (altered xs ys ≡ 0 → xs ≡ ys) → x ∷ xs ≡ y ∷ ys
-    go true q e r = ap₂ (λ (a : ℕ) (l : List ℕ). a ∷ l) (eqb-true x y q) (r (omega arith))
-    go false q e r = absurd (omega arith)
+use Rattle.eikonal.proofs.Ghosts.{tiled, tiled-sound, stored, stored-agree, stored-late}
 
 -- the rounds up to the horizon cover it
 up-covers : (h s : ℕ) → 1 ≤ s → h ≤ up h s * s
 unfolding up
 up-covers h s l = omega (arith, div-add-mod' (h + s - 1) s, mod-lt (h + s - 1) l)
-
--- ---- what a tile sees: its own cells as they are met, others as stored
-abbrev pub tiled : Board → (tw th : ℕ) → (stored : List ℕ) → Look
-tiled b tw th ts f c e = cond (eqb (tile-of b tw th c) (tile-of b tw th e)) (f e) (counts-as b ts e)
-
-pub tiled-sound : (b : Board) (tw th : ℕ) (ts : List ℕ) → Sound (tiled b tw th ts)
-tiled-sound b tw th ts = record {
-  agree = λ t f g a c e. go-agree t (eqb (tile-of b tw th c) (tile-of b tw th e)) (f e) (g e) (counts-as b ts e) (a e);
-  under = λ f g a c e. go-under (eqb (tile-of b tw th c) (tile-of b tw th e)) (f e) (g e) (counts-as b ts e) (a e);
-}
-  where
-    go-agree : (t : ℕ) (p : Bool) (x y z : ℕ) → min t x ≡ min t y → min t (cond p x z) ≡ min t (cond p y z)
-    go-agree t true x y z h = h
-    go-agree t false x y z h = refl
-
-    go-under : (p : Bool) (x y z : ℕ) → min never x ≤ y → min never (cond p x z) ≤ cond p y z
-    go-under true x y z h = h
-    go-under false x y z h = omega arith
-
--- a stored time counts as never at a wall, else up to the largest
-clip-late-test : (x : ℕ) → cond (ltb largest x) never x ≡ clip largest x
-clip-late-test x = go (clipped largest x)
-  where
-    go : Clipped largest x → cond (ltb largest x) never x ≡ clip largest x
-    go (kept i p) = rw (le-ltb largest x i, p)
-    go (lost i p) = rw (lt-ltb largest x i, p)
-
-pub stored : (b : Board) (ts : List ℕ) (e : ℕ) → counts-as b ts e ≡ cond (eqb (slowness b e) 0) never (clip largest (time ts e))
-unfolding counts-as
-stored b ts e = go (eqb (slowness b e) 0)
-  where
-    go : (p : Bool) → cond (p || ltb largest (time ts e)) never (time ts e) ≡ cond p never (clip largest (time ts e))
-    go true = refl
-    go false = clip-late-test (time ts e)
-
-stored-agree : (b : Board) (t : ℕ) (ts us : List ℕ) → t ≤ never → Agree t (time ts) (time us) → (e : ℕ) → min t (counts-as b ts e) ≡ min t (counts-as b us e)
-stored-agree b t ts us h a e = rw (stored b ts e, stored b us e) (go (eqb (slowness b e) 0))
-  where
-    go : (p : Bool) → min t (cond p never (clip largest (time ts e))) ≡ min t (cond p never (clip largest (time us e)))
-    go true = refl
-    go false = clip-agree largest t (time ts e) (time us e) h (a e)
-
-stored-late : (b : Board) (x : ℕ) (ts : List ℕ) (e : ℕ) → min never x ≤ time ts e → min never x ≤ counts-as b ts e
-stored-late b x ts e h = rw (stored b ts e) (go (eqb (slowness b e) 0))
-  where
-    go : (p : Bool) → min never x ≤ cond p never (clip largest (time ts e))
-    go true = omega arith
-    go false = clip-late largest x (time ts e) h
 
 -- ---- ONE ROUND on a good board, beside the march
 module _ (b : Board) (g : Good b) (tw th : ℕ) where
