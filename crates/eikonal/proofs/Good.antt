@@ -36,11 +36,11 @@ or-false true q e = absurd (true≢false e)
 or-false false q e = (refl, e)
 
 -- a refusal that is 0 passes each test in turn
-passed : (p : Bool) (k q : ℕ) → cond p (suc k) q ≡ 0 → (p ≡ false) × (q ≡ 0)
+pub passed : (p : Bool) (k q : ℕ) → cond p (suc k) q ≡ 0 → (p ≡ false) × (q ≡ 0)
 passed true k q e = absurd (omega arith)
 passed false k q e = (refl, e)
 
-side : (n : ℕ) → side-good n ≡ true → (1 ≤ n) × (n ≤ 256)
+pub side : (n : ℕ) → side-good n ≡ true → (1 ≤ n) × (n ≤ 256)
 unfolding side-good
 side n e = let r = and-true (leb 1 n) (leb n 256) e in (leb-true 1 n (r .0), leb-true n 256 (r .1))
 

@@ -12,3 +12,5 @@ pub mod Altered
 pub mod Ghosts
 pub mod Rounds
 pub mod CutRule
+pub mod Accepted
+pub mod Ledger

@@ -142,7 +142,7 @@ module _ (b : Board) (g : Good b) (tw th : ℕ) where
         rw (round-time (min (suc k * s) h) (after k) c (omega arith), march-time h c (omega arith))
         (clip-under (min (suc k * s) h) h (whole c) (tiles (after k) c) (omega arith) (whole-tiles (after k) (after-whole k) c))
 
-    after-length : (k : ℕ) → length (after k) ≡ size b
+    pub after-length : (k : ℕ) → length (after k) ≡ size b
     unfolding after-rounds all-never
     after-length zero = length-replicate (size b) never
     after-length (suc k) = round-length (min (suc k * s) h) (after k)
