@@ -14,3 +14,5 @@ pub mod Rounds
 pub mod CutRule
 pub mod Accepted
 pub mod Ledger
+pub mod Grid
+pub mod Never
