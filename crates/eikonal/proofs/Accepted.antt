@@ -73,8 +73,7 @@ tiled-lent p tw th xs t w e =
     let sides = and-true (side-good tw) (side-good th) (not-false _ (r11 .0)) in
     let r12 = twelve (order-good (board p) tw th xs) (lists-refusal p t w) (r11 .1) in
     let across = side tw (sides .0) in
-    let down = side th (sides .1) in
-    (
+    let down = side th (sides .1) in (
       record { across-low = across .0; across-high = across .1; down-low = down .0; down-high = down .1; ordered = r12 .0 },
       lent p t w (r12 .1),
     )

@@ -36,8 +36,8 @@ module _ (b : Board) (look : Look) (sound : Sound look) (g : Good b) (m : ℕ) (
   cut-meets c =
       cut-time m (solved-by b look) c low
       ∙ clip-same m (time (solved-by b look) c) (rule b look (time (cut m (solved-by b look))) c)
-        (ap (min (suc m)) (solved-fixed b look sound g c)
-        ∙ rule-causal b look sound m (time (solved-by b look)) (time (cut m (solved-by b look))) low below c)
+      (ap (min (suc m)) (solved-fixed b look sound g c)
+      ∙ rule-causal b look sound m (time (solved-by b look)) (time (cut m (solved-by b look))) low below c)
     where
       below : Agree m (time (solved-by b look)) (time (cut m (solved-by b look)))
       below e =

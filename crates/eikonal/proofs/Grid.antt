@@ -88,11 +88,11 @@ module _ {b : Board} (g : Good b) (f : ℕ → ℕ) (c : ℕ) (on : c < size b) 
   unfolding Neighbour Beside size
   neighbour-seen e k (inl (inl (p, q))) =
       let r : along b c f ≤ f (suc c) =
-        rw (ne-eqb (suc (c % b .wide)) (b .wide) (λ z. q (ap (λ (x : ℕ). x % b .wide) (sym p) ∙ wraps (b .wide) c z))) (sides-second (eqb (c % b .wide) 0) (c - 1) (suc c) f) in
+      rw (ne-eqb (suc (c % b .wide)) (b .wide) (λ z. q (ap (λ (x : ℕ). x % b .wide) (sym p) ∙ wraps (b .wide) c z))) (sides-second (eqb (c % b .wide) 0) (c - 1) (suc c) f) in
       omega (arith, ap f p)
   neighbour-seen e k (inl (inr p)) =
       let r : down b c f ≤ f (c + b .wide) =
-        rw (ne-eqb (suc (c / b .wide)) (b .high) (λ z. omega (arith, below-off (b .wide) (b .high) c z))) (sides-second (eqb (c / b .wide) 0) (c - b .wide) (c + b .wide) f) in
+      rw (ne-eqb (suc (c / b .wide)) (b .high) (λ z. omega (arith, below-off (b .wide) (b .high) c z))) (sides-second (eqb (c / b .wide) 0) (c - b .wide) (c + b .wide) f) in
       omega (arith, ap f p)
   neighbour-seen e k (inr (inl (p, q))) =
       let r : along b c f ≤ f (c - 1) = rw (ne-eqb (c % b .wide) 0 q) (sides-first (eqb (suc (c % b .wide)) (b .wide)) (c - 1) (suc c) f) in
@@ -100,7 +100,7 @@ module _ {b : Board} (g : Good b) (f : ℕ → ℕ) (c : ℕ) (on : c < size b) 
       omega (arith, ap f s)
   neighbour-seen e k (inr (inr p)) =
       let r : down b c f ≤ f (c - b .wide) =
-        rw (ne-eqb (c / b .wide) 0 (λ z. omega (arith, above-off (b .wide) c (g .wide-low) z))) (sides-first (eqb (suc (c / b .wide)) (b .high)) (c - b .wide) (c + b .wide) f) in
+      rw (ne-eqb (c / b .wide) 0 (λ z. omega (arith, above-off (b .wide) c (g .wide-low) z))) (sides-first (eqb (suc (c / b .wide)) (b .high)) (c - b .wide) (c + b .wide) f) in
       let s : c - b .wide ≡ e = omega arith in
       omega (arith, ap f s)
 

@@ -2,7 +2,7 @@ pub mod Levels
 pub mod Least
 pub mod Axes
 pub mod Local
-pub mod LocalKept
+pub mod LocalRule
 pub mod Good
 pub mod Rule
 pub mod Passes
@@ -16,3 +16,5 @@ pub mod Accepted
 pub mod Ledger
 pub mod Grid
 pub mod Never
+pub mod StarredBoards
+pub mod Promises

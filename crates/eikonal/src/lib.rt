@@ -7,5 +7,8 @@ pub struct Reply {
 }
 
 pub fn refused(number: u32) -> Reply {
-    Reply { number: number, count: 0 }
+    Reply {
+        number: number,
+        count: 0,
+    }
 }

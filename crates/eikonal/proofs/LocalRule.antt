@@ -1,4 +1,4 @@
--- What Promise.antt says of the local rule. Assumes nothing.
+-- Local-least and Diagonal-step: what Promise.antt says of the local rule. Assumes nothing.
 use mathlib.Core.Path.{_≡_, refl, sym, ap, _∙_, subst}
 use mathlib.Core.Bool.{Bool, true, false, cond}
 use mathlib.Core.Logic.{_⊎_, inl, inr, _≢_}

@@ -1,0 +1,49 @@
+-- THE PROMISES, gathered: each statement of specs/Promise.antt with its proof. Assumes nothing.
+use Rattle.eikonal.specs.Promise.{Local-least, Diagonal-step, One-solution, Times-below, Never-past-horizon, Never-unjoined, Run-is-march, Few-rounds, Order-free, Run-order-free, Run-is-rounds, Every-list, Lists-keep}
+use Rattle.eikonal.proofs.LocalRule as local-rule
+use Rattle.eikonal.proofs.Solution as solution
+use Rattle.eikonal.proofs.Never as never
+use Rattle.eikonal.proofs.Rounds as rounds
+use Rattle.eikonal.proofs.Ledger as ledger
+
+-- the local rule
+pub local-least : Local-least
+local-least = local-rule.local-least
+
+pub diagonal-step : Diagonal-step
+diagonal-step = local-rule.diagonal-step
+
+-- the second condition
+pub one-solution : One-solution
+one-solution = solution.one-solution
+
+pub times-below : Times-below
+times-below = solution.times-below
+
+pub never-past-horizon : Never-past-horizon
+never-past-horizon = never.never-past-horizon
+
+pub never-unjoined : Never-unjoined
+never-unjoined = never.never-unjoined
+
+-- the third condition
+pub run-is-march : Run-is-march
+run-is-march = rounds.run-is-march
+
+pub few-rounds : Few-rounds
+few-rounds = rounds.few-rounds
+
+pub order-free : Order-free
+order-free = ledger.order-free
+
+pub run-order-free : Run-order-free
+run-order-free = ledger.run-order-free
+
+pub run-is-rounds : Run-is-rounds
+run-is-rounds = ledger.run-is-rounds
+
+pub every-list : Every-list
+every-list = ledger.every-list
+
+pub lists-keep : Lists-keep
+lists-keep = ledger.lists-keep

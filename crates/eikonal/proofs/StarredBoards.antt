@@ -1,0 +1,102 @@
+-- The starred boards of document 01, one table and one proof over it: a test that is computed over the table, and what it shows of each row. Assumes nothing.
+use mathlib.Core.Path.{_≡_, refl, ap, ap₂}
+use mathlib.Core.Bool.{Bool, true, false, cond, _&&_, _||_, false≢true}
+use mathlib.Core.List.{List, [], _∷_}
+use Prim.Native.Nat.{ℕ}
+use lib.Dec.{ltb, leb, eqb}
+use lib.ListN.{replicate}
+use borrow.Author.Tests.{eqb-true}
+use Rattle.eikonal.specs.Board.{Board, never, largest, size, slowness, earlier, least-from, square, passes, local, diagonal, start-time, met, time, one-pass, passes-of, all-never, solved, cut, marched}
+use Rattle.eikonal.specs.Ledger.{answer, answered}
+use Rattle.eikonal.specs.Entry.{slowness-refusal}
+use Rattle.eikonal.specs.declared.Reply.{Reply}
+use Rattle.eikonal.proofs.Good.{and-true}
+
+pub data Row : Type 0 where
+  rule-gives : (s a b time : ℕ) → Row
+  step-gives : (s number count : ℕ) → Row
+  march-gives : Board → (horizon : ℕ) → (times : List ℕ) → Row
+
+-- a pair (a, b) is the time to the left and the time above
+unfoldable pub Holds : Row → Type 0
+Holds (rule-gives s a b t) = local s a never b never ≡ t
+Holds (step-gives s n c) = answered (slowness-refusal s) (diagonal s) ≡ answer n c
+Holds (march-gives b h ts) = marched b h ≡ ts
+
+unfoldable pub All-hold : List Row → Type 0
+All-hold [] = Unit {0}
+All-hold (r ∷ rs) = Holds r × All-hold rs
+
+abbrev pub three : Board
+three = record { wide = 3; high = 3; slow = replicate 9 10; starts = record { cell = 0; time = 0 } ∷ [] }
+
+unfoldable pub table : List Row
+table =
+    rule-gives 10 0 never 10
+    ∷ rule-gives 10 0 0 8
+    ∷ rule-gives 10 0 4 9
+    ∷ rule-gives 10 0 5 10
+    ∷ rule-gives 10 0 10 10
+    ∷ rule-gives 5 0 1 4
+    ∷ rule-gives 1 0 0 1
+    ∷ rule-gives 0 0 0 never
+    ∷ step-gives 0 0 0
+    ∷ step-gives 7 0 5
+    ∷ step-gives 4095 0 2896
+    ∷ step-gives 4096 5 0
+    ∷ march-gives three largest (0 ∷ 10 ∷ 20 ∷ 10 ∷ 18 ∷ 26 ∷ 20 ∷ 26 ∷ 34 ∷ [])
+    ∷ march-gives three 33 (0 ∷ 10 ∷ 20 ∷ 10 ∷ 18 ∷ 26 ∷ 20 ∷ 26 ∷ never ∷ [])
+    ∷ []
+
+-- ---- the test
+same-list : List ℕ → List ℕ → Bool
+same-list [] [] = true
+same-list [] (y ∷ ys) = false
+same-list (x ∷ xs) [] = false
+same-list (x ∷ xs) (y ∷ ys) = eqb x y && same-list xs ys
+
+same-reply : Reply → (number count : ℕ) → Bool
+same-reply r n c = eqb (r .number) n && eqb (r .count) c
+
+right : Row → Bool
+right (rule-gives s a b t) = eqb (local s a never b never) t
+right (step-gives s n c) = same-reply (answered (slowness-refusal s) (diagonal s)) n c
+right (march-gives b h ts) = same-list (marched b h) ts
+
+all-right : List Row → Bool
+all-right [] = true
+all-right (r ∷ rs) = right r && all-right rs
+
+-- ---- what it shows
+list-same : (xs ys : List ℕ) → same-list xs ys ≡ true → xs ≡ ys
+unfolding same-list
+list-same [] [] e = refl
+list-same [] (y ∷ ys) e = absurd (false≢true e)
+list-same (x ∷ xs) [] e = absurd (false≢true e)
+list-same (x ∷ xs) (y ∷ ys) e =
+    let both = and-true (eqb x y) (same-list xs ys) e in
+    ap₂ (λ (a : ℕ) (l : List ℕ). a ∷ l) (eqb-true x y (both .0)) (list-same xs ys (both .1))
+
+reply-same : (r : Reply) (n c : ℕ) → same-reply r n c ≡ true → r ≡ answer n c
+unfolding same-reply answer
+reply-same r n c e =
+    let both = and-true (eqb (r .number) n) (eqb (r .count) c) e in
+    ap₂ answer (eqb-true (r .number) n (both .0)) (eqb-true (r .count) c (both .1))
+
+holds : (r : Row) → right r ≡ true → Holds r
+unfolding right Holds
+holds (rule-gives s a b t) e = eqb-true (local s a never b never) t e
+holds (step-gives s n c) e = reply-same (answered (slowness-refusal s) (diagonal s)) n c e
+holds (march-gives b h ts) e = list-same (marched b h) ts e
+
+all-hold : (rs : List Row) → all-right rs ≡ true → All-hold rs
+unfolding all-right All-hold
+all-hold [] e = tt
+all-hold (r ∷ rs) e = let both = and-true (right r) (all-right rs) e in (holds r (both .0), all-hold rs (both .1))
+
+computed : all-right table ≡ true
+unfolding all-right right table same-list same-reply answered answer slowness-refusal local diagonal earlier least-from passes square marched cut solved passes-of one-pass all-never met start-time size slowness time
+computed = refl
+
+pub starred-boards : All-hold table
+starred-boards = all-hold table computed
