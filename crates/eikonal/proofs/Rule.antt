@@ -5,7 +5,7 @@ use mathlib.Core.Logic.{_⊎_, inl, inr, _≢_}
 use Prim.Native.Nat.{ℕ, zero, suc, _+_, _*_, _-_, _/_, _%_, _≤_, _<_, min}
 use native.Mathlib.Omega.{arith}
 use lib.Dec.{ltb, eqb}
-use Rattle.eikonal.specs.Board.{Board, never, size, slowness, earlier, local, start-time, met}
+use Rattle.eikonal.specs.Board.{Board, never, size, slowness, earlier, local, start-time, arrival, met}
 use Rattle.eikonal.proofs.Levels.{Agree, Under, Causal, Monotone}
 use Rattle.eikonal.proofs.Good.{Good, start-most}
 use Rattle.eikonal.proofs.Local.{earlier-min, local-of, local-is, earlier-agree, earlier-under, local-agree, local-under}
@@ -38,7 +38,7 @@ abbrev pub down : Board → (c : ℕ) → (ℕ → ℕ) → ℕ
 down b c f = sides (eqb (c / b .wide) 0) (eqb (suc (c / b .wide)) (b .high)) (c - b .wide) (c + b .wide) f
 
 pub met-is : (b : Board) (c : ℕ) (f : ℕ → ℕ) → met b c f ≡ earlier (start-time c (b .starts)) (local-of (slowness b c) (along b c f) (down b c f))
-unfolding met sides local local-of
+unfolding met arrival sides local local-of
 met-is b c f = refl
 
 pub met-agree : (b : Board) (c t : ℕ) (f g : ℕ → ℕ) → t < never → Agree t f g → min (suc t) (met b c f) ≡ min (suc t) (met b c g)

@@ -6,7 +6,7 @@ use Prim.Native.Nat.{ℕ}
 use lib.Dec.{ltb, leb, eqb}
 use lib.ListN.{replicate}
 use borrow.Author.Tests.{eqb-true}
-use Rattle.eikonal.specs.Board.{Board, never, largest, size, slowness, earlier, least-from, square, passes, local, diagonal, start-time, met, time, one-pass, passes-of, all-never, solved, cut, marched}
+use Rattle.eikonal.specs.Board.{Board, never, largest, size, slowness, earlier, least-from, square, passes, local, diagonal, start-time, arrival, met, time, one-pass, passes-of, all-never, solved, cut, marched}
 use Rattle.eikonal.specs.Ledger.{answer, answered}
 use Rattle.eikonal.specs.Entry.{slowness-refusal}
 use Rattle.eikonal.specs.declared.Reply.{Reply}
@@ -95,7 +95,7 @@ all-hold [] e = tt
 all-hold (r ∷ rs) e = let both = and-true (right r) (all-right rs) e in (holds r (both .0), all-hold rs (both .1))
 
 computed : all-right table ≡ true
-unfolding all-right right table same-list same-reply answered answer slowness-refusal local diagonal earlier least-from passes square marched cut solved passes-of one-pass all-never met start-time size slowness time
+unfolding all-right right table same-list same-reply answered answer slowness-refusal local diagonal earlier least-from passes square marched cut solved passes-of one-pass all-never met arrival start-time size slowness time
 computed = refl
 
 pub starred-boards : All-hold table

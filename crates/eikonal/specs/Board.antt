@@ -65,9 +65,9 @@ unfoldable pub start-time : (c : ℕ) → List Start → ℕ
 start-time c [] = never
 start-time c (x ∷ xs) = cond (eqb (x .cell) c) (x .time) (start-time c xs)
 
--- what the rule gives a cell from the times that it sees; off the board is never
-unfoldable pub met : Board → (c : ℕ) → (seen : ℕ → ℕ) → ℕ
-met b c f =
+-- what the local rule gives a cell from the times that it sees; off the board is never
+unfoldable pub arrival : Board → (c : ℕ) → (seen : ℕ → ℕ) → ℕ
+arrival b c f =
     let w = b .wide in
     let col = c % w in
     let row = c / w in
@@ -75,7 +75,11 @@ met b c f =
     let r = cond (eqb (suc col) w) never (f (suc c)) in
     let u = cond (eqb row 0) never (f (c - w)) in
     let d = cond (eqb (suc row) (b .high)) never (f (c + w)) in
-    earlier (start-time c (b .starts)) (local (slowness b c) l r u d)
+    local (slowness b c) l r u d
+
+-- a cell's time: the earlier of its start's and what the local rule gives
+unfoldable pub met : Board → (c : ℕ) → (seen : ℕ → ℕ) → ℕ
+met b c f = earlier (start-time c (b .starts)) (arrival b c f)
 
 -- times by cell
 unfoldable pub time : List ℕ → (c : ℕ) → ℕ
