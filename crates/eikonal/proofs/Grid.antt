@@ -82,25 +82,52 @@ which-side false false i j f h = go (order (f i) (f j))
     go (inl l) = one refl (omega (arith, earlier-min (f i) (f j)))
     go (inr l) = other refl (omega (arith, earlier-min (f i) (f j)))
 
+-- ---- the four sides of a cell, where they are on the board
+module _ {b : Board} (g : Good b) (c : ℕ) (on : c < size b) where
+  pub left-near : c % b .wide ≢ 0 → (c - 1 < size b) × Neighbour b c (c - 1)
+  unfolding Neighbour Beside
+  left-near q =
+      let some = column-some (b .wide) c q in
+      let s : suc (c - 1) ≡ c = omega arith in
+      (omega arith, inr (inl (s, q)))
+
+  pub right-near : suc (c % b .wide) ≢ b .wide → (suc c < size b) × Neighbour b c (suc c)
+  unfolding Neighbour Beside size
+  right-near q =
+      (right-on (b .wide) (b .high) c (g .wide-low) on q, inl (inl (refl, λ z. omega (arith, next-column (b .wide) c (g .wide-low) q))))
+
+  pub above-near : c / b .wide ≢ 0 → (c - b .wide < size b) × Neighbour b c (c - b .wide)
+  unfolding Neighbour Beside
+  above-near q =
+      let some = above-on (b .wide) c q in
+      let s : c - b .wide + b .wide ≡ c = omega arith in
+      (omega arith, inr (inr s))
+
+  pub below-near : suc (c / b .wide) ≢ b .high → (c + b .wide < size b) × Neighbour b c (c + b .wide)
+  unfolding Neighbour Beside size
+  below-near q = (below-on (b .wide) (b .high) c (g .wide-low) on q, inl (inr refl))
+
 module _ {b : Board} (g : Good b) (f : ℕ → ℕ) (c : ℕ) (on : c < size b) where
   -- a cell sees each neighbour
   pub neighbour-seen : (e : ℕ) → e < size b → Neighbour b c e → min (along b c f) (down b c f) ≤ f e
   unfolding Neighbour Beside size
   neighbour-seen e k (inl (inl (p, q))) =
-      let r : along b c f ≤ f (suc c) =
-      rw (ne-eqb (suc (c % b .wide)) (b .wide) (λ z. q (ap (λ (x : ℕ). x % b .wide) (sym p) ∙ wraps (b .wide) c z))) (sides-second (eqb (c % b .wide) 0) (c - 1) (suc c) f) in
+      let last : suc (c % b .wide) ≢ b .wide = λ z. q (ap (λ (x : ℕ). x % b .wide) (sym p) ∙ wraps (b .wide) c z) in
+      let r : along b c f ≤ f (suc c) = rw (ne-eqb (suc (c % b .wide)) (b .wide) last) (sides-second (eqb (c % b .wide) 0) (c - 1) (suc c) f) in
       omega (arith, ap f p)
   neighbour-seen e k (inl (inr p)) =
+      let last : suc (c / b .wide) ≢ b .high = λ z. omega (arith, below-off (b .wide) (b .high) c z) in
       let r : down b c f ≤ f (c + b .wide) =
-      rw (ne-eqb (suc (c / b .wide)) (b .high) (λ z. omega (arith, below-off (b .wide) (b .high) c z))) (sides-second (eqb (c / b .wide) 0) (c - b .wide) (c + b .wide) f) in
+      rw (ne-eqb (suc (c / b .wide)) (b .high) last) (sides-second (eqb (c / b .wide) 0) (c - b .wide) (c + b .wide) f) in
       omega (arith, ap f p)
   neighbour-seen e k (inr (inl (p, q))) =
       let r : along b c f ≤ f (c - 1) = rw (ne-eqb (c % b .wide) 0 q) (sides-first (eqb (suc (c % b .wide)) (b .wide)) (c - 1) (suc c) f) in
       let s : c - 1 ≡ e = omega arith in
       omega (arith, ap f s)
   neighbour-seen e k (inr (inr p)) =
+      let first : c / b .wide ≢ 0 = λ z. omega (arith, above-off (b .wide) c (g .wide-low) z) in
       let r : down b c f ≤ f (c - b .wide) =
-      rw (ne-eqb (c / b .wide) 0 (λ z. omega (arith, above-off (b .wide) c (g .wide-low) z))) (sides-first (eqb (suc (c / b .wide)) (b .high)) (c - b .wide) (c + b .wide) f) in
+      rw (ne-eqb (c / b .wide) 0 first) (sides-first (eqb (suc (c / b .wide)) (b .high)) (c - b .wide) (c + b .wide) f) in
       let s : c - b .wide ≡ e = omega arith in
       omega (arith, ap f s)
 
@@ -108,25 +135,19 @@ module _ {b : Board} (g : Good b) (f : ℕ → ℕ) (c : ℕ) (on : c < size b) 
   pub data Nearest : Type 0 where
     near : (e : ℕ) → e < size b → Neighbour b c e → f e ≤ min (along b c f) (down b c f) → Nearest
 
+  found : (e : ℕ) → (e < size b) × Neighbour b c e → f e ≤ min (along b c f) (down b c f) → Nearest
+  found e n h = near e (n .0) (n .1) h
+
   pub nearest : min (along b c f) (down b c f) < never → Nearest
-  unfolding Neighbour Beside size
   nearest h = go (order (along b c f) (down b c f))
     where
       row : along b c f ≤ down b c f → Side (eqb (c % b .wide) 0) (eqb (suc (c % b .wide)) (b .wide)) (c - 1) (suc c) f → Nearest
-      row l (one p k) =
-          let q = eqb-false (c % b .wide) 0 p in
-          let s : suc (c - 1) ≡ c = omega (arith, column-some (b .wide) c q) in
-          near (c - 1) (omega arith) (inr (inl (s, q))) (omega arith)
-      row l (other p k) =
-          let q = eqb-false (suc (c % b .wide)) (b .wide) p in
-          near (suc c) (right-on (b .wide) (b .high) c (g .wide-low) on q) (inl (inl (refl, λ z. omega (arith, next-column (b .wide) c (g .wide-low) q)))) (omega arith)
+      row l (one p k) = found (c - 1) (left-near g c on (eqb-false (c % b .wide) 0 p)) (omega arith)
+      row l (other p k) = found (suc c) (right-near g c on (eqb-false (suc (c % b .wide)) (b .wide) p)) (omega arith)
 
       column : down b c f ≤ along b c f → Side (eqb (c / b .wide) 0) (eqb (suc (c / b .wide)) (b .high)) (c - b .wide) (c + b .wide) f → Nearest
-      column l (one p k) =
-          let q = above-on (b .wide) c (eqb-false (c / b .wide) 0 p) in
-          near (c - b .wide) (omega arith) (inr (inr (omega arith))) (omega arith)
-      column l (other p k) =
-          near (c + b .wide) (below-on (b .wide) (b .high) c (g .wide-low) on (eqb-false (suc (c / b .wide)) (b .high) p)) (inl (inr refl)) (omega arith)
+      column l (one p k) = found (c - b .wide) (above-near g c on (eqb-false (c / b .wide) 0 p)) (omega arith)
+      column l (other p k) = found (c + b .wide) (below-near g c on (eqb-false (suc (c / b .wide)) (b .high) p)) (omega arith)
 
       go : (along b c f < down b c f) ⊎ (down b c f ≤ along b c f) → Nearest
       go (inl l) = row (omega arith) (which-side _ _ _ _ f (omega arith))

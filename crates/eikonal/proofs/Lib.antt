@@ -18,3 +18,4 @@ pub mod Grid
 pub mod Never
 pub mod StarredBoards
 pub mod Promises
+pub mod Arrival
