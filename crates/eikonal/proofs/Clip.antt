@@ -26,6 +26,27 @@ clipped h t = go (leb t h) refl
     go true e = kept (leb-true t h e) (rw e)
     go false e = lost (leb-false t h e) (rw e)
 
+pub clip-keeps : (h t : ℕ) → t ≤ h → clip h t ≡ t
+clip-keeps h t l = go (clipped h t)
+  where
+    go : Clipped h t → clip h t ≡ t
+    go (kept i p) = p
+    go (lost i p) = absurd (omega arith)
+
+pub clip-loses : (h t : ℕ) → h < t → clip h t ≡ never
+clip-loses h t l = go (clipped h t)
+  where
+    go : Clipped h t → clip h t ≡ never
+    go (kept i p) = absurd (omega arith)
+    go (lost i p) = p
+
+pub clip-never : (h : ℕ) → clip h never ≡ never
+clip-never h = go (clipped h never)
+  where
+    go : Clipped h never → clip h never ≡ never
+    go (kept i p) = p
+    go (lost i p) = p
+
 pub clip-agree : (h t x y : ℕ) → t ≤ never → min t x ≡ min t y → min t (clip h x) ≡ min t (clip h y)
 clip-agree h t x y k e = go (clipped h x) (clipped h y)
   where

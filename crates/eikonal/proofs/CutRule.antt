@@ -9,18 +9,11 @@ use lib.Seq.{ext-getD}
 use Rattle.eikonal.specs.Board.{Board, never, largest, size, met, time, solved, cut, marched}
 use Rattle.eikonal.specs.Tiles.{round}
 use Rattle.eikonal.proofs.Levels.{order, lower, Agree, Causal, one-fixed}
-use Rattle.eikonal.proofs.Clip.{clip, Clipped, kept, lost, clipped, clip-agree, clip-low, clip-same, clip-most, cut-time, cut-length}
+use Rattle.eikonal.proofs.Clip.{clip, clip-never, clip-agree, clip-low, clip-same, clip-most, cut-time, cut-length}
 use Rattle.eikonal.proofs.Good.{Good}
 use Rattle.eikonal.proofs.Passes.{Look, Sound, rule, rule-on, rule-off, rule-agree, rule-causal, solved-by, solved-length, solved-fixed, time-off}
 use Rattle.eikonal.proofs.Solution.{plain, plain-sound, solved-plain}
 use Rattle.eikonal.proofs.Ghosts.{tiled, tiled-sound}
-
-clip-never : (m : ℕ) → clip m never ≡ never
-clip-never m = go (clipped m never)
-  where
-    go : Clipped m never → clip m never ≡ never
-    go (kept i p) = p
-    go (lost i p) = p
 
 module _ (b : Board) (look : Look) (sound : Sound look) (g : Good b) (m : ℕ) (low : m < never) where
   -- the rule, cut at the bound

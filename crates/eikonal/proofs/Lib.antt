@@ -3,7 +3,12 @@ pub mod Least
 pub mod Axes
 pub mod Local
 pub mod LocalRule
+pub mod Root
+pub mod FirstPass
+pub mod DiagonalTable
 pub mod Good
+pub mod Judging
+pub mod BoardRefusals
 pub mod Rule
 pub mod Passes
 pub mod Solution
@@ -16,6 +21,6 @@ pub mod Accepted
 pub mod Ledger
 pub mod Grid
 pub mod Never
+pub mod Neighbours
 pub mod StarredBoards
 pub mod Promises
-pub mod Arrival

@@ -1,6 +1,6 @@
 -- A round over tiles solves a board that is seen in part as stored, and rounds come to the march: Run-is-march and Few-rounds. Assumes nothing.
 use mathlib.Core.Path.{_≡_, refl, sym, ap, _∙_}
-use mathlib.Core.Bool.{Bool, true, false, cond}
+use mathlib.Core.Bool.{Bool, true, false, cond, true≢false}
 use mathlib.Core.List.{List}
 use mathlib.Core.Logic.{_⊎_, inl, inr}
 use Prim.Native.Nat.{ℕ, zero, suc, _+_, _*_, _-_, _≤_, _<_, min, max}
@@ -235,6 +235,14 @@ module _ (b : Board) (g : Good b) (tw th : ℕ) where
         go : (k : ℕ) → 1 ≤ k → last-round b tw th s h k ≡ true → after k ≡ marched b h
         go zero i e = absurd (omega arith)
         go (suc k) i e = march-last k e
+
+    -- the first round that is a last one is the number of rounds
+    pub rounds-is : (k : ℕ) → 1 ≤ k → last-round b tw th s h k ≡ true → ((j : ℕ) → 1 ≤ j → j < k → last-round b tw th s h j ≡ false) → rounds b tw th s h ≡ k
+    rounds-is k l e none = go (order (rounds b tw th s h) k)
+      where
+        go : (rounds b tw th s h < k) ⊎ (k ≤ rounds b tw th s h) → rounds b tw th s h ≡ k
+        go (inl i) = absurd (true≢false (sym rounds-last ∙ none (rounds b tw th s h) (rounds-least .low) i))
+        go (inr i) = omega (arith, least-bound rounds-least k l e)
 
 -- THE THIRD CONDITION's weight
 pub run-is-march : Run-is-march

@@ -50,7 +50,7 @@ cond-known : (p : Bool) (m x y : ℕ) → Known m x → Known m y → Known m (c
 cond-known true m x y h k = h
 cond-known false m x y h k = k
 
-earlier-known : (m x y : ℕ) → Known m x → Known m y → Known m (earlier x y)
+pub earlier-known : (m x y : ℕ) → Known m x → Known m y → Known m (earlier x y)
 unfolding earlier
 earlier-known m x y = cond-known (ltb x y) m x y
 
@@ -58,7 +58,7 @@ sides-known : (m : ℕ) (p q : Bool) (i j : ℕ) (f : ℕ → ℕ) → ((e : ℕ
 unfolding sides
 sides-known m p q i j f k = earlier-known m _ _ (cond-known p m never (f i) (inl refl) (k i)) (cond-known q m never (f j) (inl refl) (k j))
 
-local-known : (m s a b : ℕ) → s ≤ 4095 → Known m a → Known m b → Known (m + 4095) (local-of s a b)
+pub local-known : (m s a b : ℕ) → s ≤ 4095 → Known m a → Known m b → Known (m + 4095) (local-of s a b)
 local-known m s a b h k l = go (local-answers s a b) k l
   where
     go : Answers s a b → Known m a → Known m b → Known (m + 4095) (local-of s a b)

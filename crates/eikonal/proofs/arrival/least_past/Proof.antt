@@ -1,0 +1,99 @@
+-- `eikonal::arrival::least_past` meets its contract. The loop's invariant: the ticks at hand are enough. Assumes nothing.
+use Prim.Native.Nat.{ℕ, _+_, _*_, _≤_, _<_}
+use native.Mathlib.Omega.{arith}
+use native.Mathlib.Nat.{mul-le-mul}
+use borrow.Author.Needs.{needs}
+use Rattle.eikonal.proofs.Root.{Enough, some-past, Nearer, step, no-step}
+use Rattle.eikonal.proofs.arrival.least_past.Statement.{statement}
+use Rattle.eikonal.proofs.arrival.least_past.Tie as tie
+
+abbrev Inv-loop : tie.InvT-loop
+Inv-loop slowness apart due past₀ past =
+    (past ≤ slowness) × Enough slowness apart past
+
+abbrev μ-loop : tie.MeasureT-loop
+μ-loop slowness apart due past₀ past = past
+
+mul-due : tie.Need-mul-due Inv-loop μ-loop
+mul-due c = omega (arith, mul-le-mul (c .pre .1) (c .pre .1))
+
+enough-requires : tie.Need-enough-requires Inv-loop μ-loop
+enough-requires c κs = search needs
+
+loop-holds : tie.Need-loop-holds Inv-loop μ-loop
+loop-holds c = search needs
+
+add-whole : tie.Need-add-whole Inv-loop μ-loop
+add-whole c = search needs
+
+-- numbers below 8192 have squares that fit
+small : (x : ℕ) → x < 8192 → x * x ≤ 67092481
+small x h = let k : x ≤ 8191 = omega arith in mul-le-mul k k
+
+squares : (c : tie.At-loop Inv-loop μ-loop) → (c .before .before .args .apart + c .loop .past) * (c .before .before .args .apart + c .loop .past) + c .loop .past * c .loop .past ≤ 134184962
+squares c = omega (arith, small (c .before .before .args .apart + c .loop .past) (omega arith), small (c .loop .past) (omega arith))
+
+mul-over : tie.Need-mul-over Inv-loop μ-loop
+mul-over c = omega (arith, squares c)
+
+mul-over-2 : tie.Need-mul-over-2 Inv-loop μ-loop
+mul-over-2 c = omega (arith, squares c)
+
+add-over : tie.Need-add-over Inv-loop μ-loop
+add-over c = omega (arith, squares c)
+
+sub-over : tie.Need-sub-over Inv-loop μ-loop
+sub-over c = c .loop .inv .1
+
+add-over-2 : tie.Need-add-over-2 Inv-loop μ-loop
+add-over-2 c = omega (arith, squares c)
+
+add-slope : tie.Need-add-slope Inv-loop μ-loop
+add-slope c = search needs
+
+mul-slope : tie.Need-mul-slope Inv-loop μ-loop
+mul-slope c = search needs
+
+returns : tie.Need-returns Inv-loop μ-loop
+returns c =
+    let a = c .before .before .before in
+    let e = c .before .loop .inv .1 in
+    (some-past _ _ (a .pre .0) _ e, e, no-step _ _ (a .pre .0) _ e (omega arith))
+
+next : (c : tie.Else1 Inv-loop μ-loop) → Nearer (c .before .before .before .args .slowness) (c .before .before .before .args .apart) (c .before .loop .past)
+next c = step _ _ (c .before .before .before .pre .0) _ (c .before .loop .inv .1) (c .if1 .left)
+
+div-past : tie.Need-div-past Inv-loop μ-loop
+div-past c = omega (arith, some-past _ _ (c .before .before .before .pre .0) _ (c .before .loop .inv .1))
+
+sub-past : tie.Need-sub-past Inv-loop μ-loop
+sub-past c = next c .within
+
+loop-less : tie.Need-loop-less Inv-loop μ-loop
+loop-less c = omega (arith, next c .some, next c .within)
+
+loop-again : tie.Need-loop-again Inv-loop μ-loop
+loop-again c = (omega (arith, next c .within), next c .still)
+
+pub least-past-spec : {M : Type 1} → statement M
+least-past-spec =
+    tie.close
+    (tie.spec
+    Inv-loop
+    μ-loop
+    mul-due
+    enough-requires
+    loop-holds
+    add-whole
+    mul-over
+    mul-over-2
+    add-over
+    sub-over
+    add-over-2
+    add-slope
+    mul-slope
+    returns
+    div-past
+    sub-past
+    loop-less
+    loop-again)

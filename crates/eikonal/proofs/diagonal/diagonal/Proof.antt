@@ -1,0 +1,29 @@
+-- `eikonal::diagonal::diagonal` meets its contract. Assumes nothing.
+use mathlib.Core.Path.{ap}
+use native.Mathlib.Omega.{arith}
+use borrow.Author.Needs.{needs}
+use borrow.Author.Tests.{lt-ltb, le-ltb}
+use Rattle.eikonal.specs.Ledger.{answer, answered}
+use Rattle.eikonal.specs.Entry.{slowness-refusal, Diagonal-says}
+use Rattle.eikonal.proofs.diagonal.diagonal.Statement.{statement}
+use Rattle.eikonal.proofs.diagonal.diagonal.Tie as tie
+
+refused-requires : tie.Need-refused-requires
+refused-requires c κs = search needs
+
+returns : tie.Need-returns
+unfolding Diagonal-says answered slowness-refusal
+returns c = simp (lt-ltb 4095 (c .before .before .args .slowness) (omega arith)) (c .refused .ensures)
+
+step-requires : tie.Need-step-requires
+step-requires c κs = search needs
+
+cast-t4 : tie.Need-cast-t4
+cast-t4 c = search needs
+
+returns-2 : tie.Need-returns-2
+unfolding Diagonal-says answered slowness-refusal answer
+returns-2 c = simp (le-ltb 4095 (c .before .before .args .slowness) (omega arith)) (ap (answer 0) (c .step .ensures))
+
+pub diagonal-spec : {M : Type 1} → statement M
+diagonal-spec = tie.close (tie.spec refused-requires returns step-requires cast-t4 returns-2)
