@@ -6,3 +6,4 @@ pub mod Rule
 pub mod Passes
 pub mod Solution
 pub mod Rounds
+pub mod DiagonalTable

@@ -1,4 +1,9 @@
 // The ground under the engine: the local rule, D, and the refusals of boards.
+pub mod diagonal;
+
+ghost use mathlib.Core.Path.{_≡_};
+ghost use Rattle.eikonal.specs.Ledger.{answer};
+
 // A call's answer: number 0 and a count, or a refusal's number and the count 0.
 #[repr(C)]
 pub struct Reply {
@@ -6,6 +11,11 @@ pub struct Reply {
     pub count: u32,
 }
 
-pub fn refused(number: u32) -> Reply {
-    Reply { number: number, count: 0 }
+pub fn refused(number: u32) -> Reply
+    ensures { λ r. ⌜ r ≡ answer number 0 ⌝ }
+{
+    Reply {
+        number: number,
+        count: 0,
+    }
 }

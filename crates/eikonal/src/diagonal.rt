@@ -1,0 +1,24 @@
+// D(s), the step added where both sides are equal: the least d with 2 d² at least s².
+mod table;
+
+ghost use mathlib.Core.Path.{_≡_};
+ghost use Rattle.eikonal.specs.Entry.{Diagonal-says};
+
+fn wide(step: u16) -> u32
+    ensures { λ r. ⌜ r ≡ step ⌝ }
+{
+    step as u32
+}
+
+// The step, or 5 for a slowness above 4,095. An index copies the table to the stack: no inner loop calls this.
+pub fn diagonal(slowness: u32) -> super::Reply
+    ensures { λ x. ⌜ Diagonal-says slowness x ⌝ }
+{
+    if slowness > 4095 {
+        return super::refused(5);
+    }
+    super::Reply {
+        number: 0,
+        count: wide(table::STEPS[slowness as usize]),
+    }
+}
