@@ -40,7 +40,7 @@ passed : (p : Bool) (k q : ℕ) → cond p (suc k) q ≡ 0 → (p ≡ false) × 
 passed true k q e = absurd (omega arith)
 passed false k q e = (refl, e)
 
-side : (n : ℕ) → side-good n ≡ true → (1 ≤ n) × (n ≤ 256)
+pub side : (n : ℕ) → side-good n ≡ true → (1 ≤ n) × (n ≤ 256)
 unfolding side-good
 side n e = let r = and-true (leb 1 n) (leb n 256) e in (leb-true 1 n (r .0), leb-true n 256 (r .1))
 

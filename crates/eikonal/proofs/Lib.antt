@@ -7,3 +7,5 @@ pub mod Passes
 pub mod Solution
 pub mod Rounds
 pub mod DiagonalTable
+pub mod Judging
+pub mod BoardRefusals

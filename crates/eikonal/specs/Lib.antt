@@ -4,3 +4,4 @@ pub mod Refusals
 pub mod Ledger
 pub mod Entry
 pub mod Promise
+pub mod Inner

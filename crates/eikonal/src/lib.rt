@@ -1,5 +1,6 @@
 // The ground under the engine: the local rule, D, and the refusals of boards.
 pub mod diagonal;
+pub mod refusals;
 
 ghost use mathlib.Core.Path.{_≡_};
 ghost use Rattle.eikonal.specs.Ledger.{answer};
