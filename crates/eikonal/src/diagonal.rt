@@ -2,15 +2,19 @@
 mod table;
 
 ghost use mathlib.Core.Path.{_≡_};
+ghost use Prim.Native.Nat.{_≤_};
+ghost use Rattle.eikonal.specs.Board.{diagonal};
 ghost use Rattle.eikonal.specs.Entry.{Diagonal-says};
 
-fn wide(step: u16) -> u32
-    ensures { λ r. ⌜ r ≡ step ⌝ }
+// An index copies the table to the stack: no inner loop calls this.
+fn step(slowness: u32) -> u16
+    requires { ⌜ slowness ≤ 4095 ⌝ }
+    ensures { λ r. ⌜ r ≡ diagonal slowness ⌝ }
 {
-    step as u32
+    table::STEPS[slowness as usize]
 }
 
-// The step, or 5 for a slowness above 4,095. An index copies the table to the stack: no inner loop calls this.
+// The step, or 5 for a slowness above 4,095.
 pub fn diagonal(slowness: u32) -> super::Reply
     ensures { λ x. ⌜ Diagonal-says slowness x ⌝ }
 {
@@ -19,6 +23,6 @@ pub fn diagonal(slowness: u32) -> super::Reply
     }
     super::Reply {
         number: 0,
-        count: wide(table::STEPS[slowness as usize]),
+        count: step(slowness) as u32,
     }
 }

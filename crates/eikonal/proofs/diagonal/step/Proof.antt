@@ -1,0 +1,30 @@
+-- `eikonal::diagonal::step` meets its contract: one test over the whole table, which antt computes. Assumes nothing.
+use mathlib.Core.Path.{_≡_, refl}
+use mathlib.Core.List.{List}
+use Prim.Native.Nat.{ℕ, _<_}
+use native.Mathlib.Omega.{arith}
+use borrow.Author.Needs.{needs}
+use borrow.Table.Row.{get}
+use Rattle.eikonal.proofs.DiagonalTable.{right, all-right, table-is}
+use Rattle.eikonal.proofs.diagonal.step.Statement.{statement}
+use Rattle.eikonal.proofs.diagonal.step.Tie as tie
+use Rattle.eikonal.proofs.diagonal.step.Lts as lts
+
+mul-result : tie.Need-mul-result
+mul-result c = search needs
+
+array-read-result : tie.Need-array-read-result
+array-read-result c = search needs
+
+-- the table, in the local that it is copied to
+abbrev table : tie.Start → List ℕ
+table c = get 2 (lts.T2 .locals) (lts.m1 _ _ (c .args) (c .blocks))
+
+returns : tie.Need-returns
+unfolding right all-right
+returns c =
+    let h : c .args .slowness < 4096 = omega arith in
+    table-is (table c) refl (c .args .slowness) h
+
+pub step-spec : {M : Type 1} → statement M
+step-spec = tie.close (tie.spec mul-result array-read-result returns)
