@@ -36,7 +36,7 @@ or-false true q e = absurd (true≢false e)
 or-false false q e = (refl, e)
 
 -- a refusal that is 0 passes each test in turn
-passed : (p : Bool) (k q : ℕ) → cond p (suc k) q ≡ 0 → (p ≡ false) × (q ≡ 0)
+pub passed : (p : Bool) (k q : ℕ) → cond p (suc k) q ≡ 0 → (p ≡ false) × (q ≡ 0)
 passed true k q e = absurd (omega arith)
 passed false k q e = (refl, e)
 
