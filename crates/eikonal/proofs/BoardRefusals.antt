@@ -1,6 +1,6 @@
 -- The refusal of a board by its parts: the ground, then lists of unequal length, then the starts. Assumes nothing.
 use mathlib.Core.Path.{_≡_, refl, sym, ap, _∙_}
-use mathlib.Core.Bool.{Bool, true, false, not, _&&_, _||_, cond, or-false, or-assoc}
+use mathlib.Core.Bool.{Bool, true, false, not, _&&_, _||_, cond, or-false, or-assoc, true≢false}
 use mathlib.Core.List.{List, [], _∷_, _++_}
 use mathlib.Core.Logic.{_≢_}
 use Prim.Native.Nat.{ℕ, suc, _*_, _<_}
@@ -8,11 +8,13 @@ use native.Mathlib.Omega.{arith}
 use lib.Dec.{ltb, eqb}
 use lib.ListN.{length, getD, take}
 use lib.Seq.{take-suc}
-use borrow.Author.Tests.{eqb-true, eq-eqb, ne-eqb}
+use borrow.Author.Tests.{eqb-true, eq-eqb, ne-eqb, not-false}
 use Rattle.eikonal.specs.Board.{size}
-use Rattle.eikonal.specs.Refusals.{or-else, side-good, any-above, starts-refusal, starts-rise, late, on-wall, board-refusal, starts-of, board, plain-refusal}
+use Rattle.eikonal.specs.Refusals.{Plain, or-else, side-good, any-above, starts-refusal, starts-rise, late, on-wall, board-refusal, starts-of, board, plain-refusal}
 use Rattle.eikonal.specs.Entry.{plain}
 use Rattle.eikonal.specs.Inner.Judge.{judge, nothing-judged}
+use Rattle.eikonal.specs.Promise.{board-good}
+use Rattle.eikonal.proofs.Good.{passed}
 use Rattle.eikonal.proofs.Judging.{judge-refuses}
 
 -- ---- numbers above the most
@@ -81,3 +83,17 @@ module _ (w h : ℕ) (ss : List ℕ) where
       go true false k s = refl
       go true true k true = refl
       go true true k false = sym (judge-refuses (board (plain w h ss cs ts)) (eqb-true (length ss) (w * h) k))
+
+-- what is not refused is a good board, with start lists of one length
+pub accepted : (p : Plain) → plain-refusal p ≡ 0 → (board-good (board p) ≡ true) × (length (p .cells) ≡ length (p .begins))
+unfolding plain-refusal board-good board-refusal board
+accepted p e =
+    let sides = side-good (p .wide) && side-good (p .high) in
+    let same = eqb (length (p .cells)) (length (p .begins)) in
+    let r4 = passed (sides && not same) 3 (board-refusal (board p)) e in
+    let r2 = passed (not sides) 1 _ (r4 .1) in
+    (eq-eqb (board-refusal (board p)) 0 (r4 .1), eqb-true _ _ (go sides same (r2 .0) (r4 .0)))
+  where
+    go : (s q : Bool) → not s ≡ false → s && not q ≡ false → q ≡ true
+    go true q e d = not-false q d
+    go false q e d = absurd (true≢false e)

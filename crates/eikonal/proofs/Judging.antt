@@ -4,7 +4,6 @@ use mathlib.Core.Bool.{Bool, true, false, not, _&&_, _||_, cond}
 use mathlib.Core.List.{List, [], _∷_, _++_}
 use Prim.Native.Nat.{ℕ, zero, suc, _≤_, _<_, min}
 use native.Mathlib.Omega.{arith}
-use native.Mathlib.Nat.{le-of-suc-le-suc}
 use lib.Dec.{ltb, leb, eqb}
 use lib.ListN.{length, getD, take, length-take}
 use lib.Seq.{take-suc}
@@ -27,6 +26,10 @@ starts-of-append (c ∷ cs) [] ds us e = absurd (omega arith)
 starts-of-append (c ∷ cs) (t ∷ ts) ds us e =
     ap (λ (xs : List Start). record { cell = c; time = t } ∷ xs) (starts-of-append cs ts ds us (omega arith))
 
+pub judge-parts : (ss cs ts ds us : List ℕ) (j : Judged) → length cs ≡ length ts
+    → judge ss (starts-of (cs ++ ds) (ts ++ us)) j ≡ judge ss (starts-of ds us) (judge ss (starts-of cs ts) j)
+judge-parts ss cs ts ds us j e = rw (starts-of-append cs ts ds us e) (judge-append ss (starts-of cs ts) (starts-of ds us) j)
+
 -- ---- the first i entries of both lists
 -- the shorter list ends the starts
 pub starts-of-take : (i : ℕ) (cs ts : List ℕ) → min (length cs) (length ts) ≤ i → starts-of (take i cs) (take i ts) ≡ starts-of cs ts
@@ -45,7 +48,8 @@ pub judge-more : (ss cs ts : List ℕ) (j : Judged) (i : ℕ) → i < length cs 
     ≡ judge ss (starts-of (take (suc i) cs) (take (suc i) ts)) j
 unfolding judge starts-of
 judge-more ss cs ts j i h k =
-    rw (take-suc cs i 0, take-suc ts i 0, starts-of-append (take i cs) (take i ts) (getD cs i 0 ∷ []) (getD ts i 0 ∷ []) (simp length-take (omega arith)), judge-append)
+    let even : length (take i cs) ≡ length (take i ts) = simp length-take (omega arith) in
+    rw (take-suc cs i 0, take-suc ts i 0, judge-parts ss (take i cs) (take i ts) (getD cs i 0 ∷ []) (getD ts i 0 ∷ []) j even)
 
 -- ---- the number of a whole list
 pub lower-none : (a : ℕ) → lower a 0 ≡ a
