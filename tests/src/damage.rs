@@ -1,0 +1,124 @@
+//! Calls and files that the table has something against.
+
+use crate::calls::{Call, Kind};
+use crate::random::Random;
+use crate::{LARGEST, LATEST_START, LONGEST_SIDE, NEVER, SLOWEST};
+
+const BAD_SIDES: [u32; 8] = [0, LONGEST_SIDE + 1, LONGEST_SIDE + 2, 1_000, 65_536, 65_537, 1 << 31, NEVER];
+
+/// The numbers of the table that a march, a round or a run can be refused by.
+pub const CALL_CAUSES: [u32; 11] = [2, 4, 5, 7, 8, 9, 10, 11, 12, 13, 14];
+
+/// Gives a call the cause `number`, where it can have it. Earlier causes may hide it, so the second
+/// solver says what is answered.
+pub fn spoil_call(r: &mut Random, call: &mut Call, times: &mut usize, work: &mut usize, number: u32) {
+    match number {
+        2 if r.once_in(2) => call.board.width = r.pick(&BAD_SIDES),
+        2 => call.board.height = r.pick(&BAD_SIDES),
+        4 => spoil_length(r, call),
+        5 => *any_of(r, &mut call.board.slow) = r.pick(&[SLOWEST + 1, 65_536, 1 << 31, NEVER]),
+        7 => spoil_cells(r, &mut call.board.cells, &mut call.board.begins, call.board.slow.len() as u32),
+        8 => {
+            start_at_least_once(call);
+            *any_of(r, &mut call.board.begins) = r.pick(&[LATEST_START + 1, 1_048_576, LARGEST, NEVER]);
+        }
+        9 => {
+            start_at_least_once(call);
+            let cell = r.pick(&call.board.cells) as usize;
+            if let Some(s) = call.board.slow.get_mut(cell) {
+                *s = 0;
+            }
+        }
+        10 => spoil_numbers(r, &mut call.kind),
+        13 => *times = r.pick(&[0, 1, times.saturating_sub(1), *times + 1, 2 * *times]),
+        14 => *work = r.pick(&[0, 1, *work / 4, *work / 2, work.saturating_sub(1)]),
+        _ => spoil_tiles(r, &mut call.kind, number),
+    }
+}
+
+fn any_of<'a, T>(r: &mut Random, list: &'a mut [T]) -> &'a mut T {
+    let at = r.below(list.len() as u32) as usize;
+    &mut list[at]
+}
+
+fn start_at_least_once(call: &mut Call) {
+    let board = &mut call.board;
+    if board.cells.is_empty() || board.begins.is_empty() {
+        board.cells = vec![0];
+        board.begins = vec![0];
+    }
+}
+
+fn spoil_length(r: &mut Random, call: &mut Call) {
+    let board = &mut call.board;
+    let list = match r.below(4) {
+        0 | 1 => &mut board.slow,
+        2 => &mut board.cells,
+        _ => &mut board.begins,
+    };
+    if r.once_in(2) {
+        list.push(NEVER);
+    } else if list.pop().is_none() {
+        list.push(0);
+    }
+    // an empty list stays empty for nobody: later damages pick an entry
+    if board.slow.is_empty() {
+        board.slow.extend([10, 10]);
+    }
+}
+
+/// A cell off the board, the same cell twice, or two that fall.
+fn spoil_cells(r: &mut Random, cells: &mut Vec<u32>, begins: &mut Vec<u32>, size: u32) {
+    let at = r.below(cells.len() as u32) as usize * usize::from(!cells.is_empty());
+    match r.below(3) {
+        0 => {
+            cells.push(r.pick(&[size, size + 1, 65_536, 1 << 31, NEVER]));
+            begins.push(0);
+        }
+        1 if !cells.is_empty() => {
+            let cell = cells[at];
+            cells.insert(at, cell);
+            begins.insert(at.min(begins.len()), 0);
+        }
+        _ => {
+            let cell = cells.first().copied().unwrap_or(size);
+            cells.push(cell);
+            begins.push(0);
+        }
+    }
+}
+
+fn spoil_numbers(r: &mut Random, kind: &mut Kind) {
+    let above = r.pick(&[LARGEST + 1, 1 << 31, NEVER - 1, NEVER]);
+    match kind {
+        Kind::March { horizon } => *horizon = above,
+        Kind::Round { bound, .. } => *bound = above,
+        Kind::Run { stride, horizon, .. } => match r.below(3) {
+            0 => *horizon = above,
+            1 => *stride = above,
+            _ => *stride = 0,
+        },
+    }
+}
+
+/// 11 and 12; a march has neither.
+fn spoil_tiles(r: &mut Random, kind: &mut Kind, number: u32) {
+    let (across, down, order) = match kind {
+        Kind::March { .. } => return,
+        Kind::Round { across, down, order, .. } | Kind::Run { across, down, order, .. } => (across, down, order),
+    };
+    match (number, r.below(6)) {
+        (11, 0..=2) => *across = r.pick(&BAD_SIDES),
+        (11, _) => *down = r.pick(&BAD_SIDES),
+        (_, 0) => order.push(r.pick(&[0, order.len() as u32, NEVER])),
+        (_, 1) => order.clear(),
+        (_, 2) if !order.is_empty() => *any_of(r, order) = r.pick(&[0, order.len() as u32, 65_536, NEVER]),
+        (_, 3) if order.len() > 1 => {
+            let twice = r.pick(order);
+            *any_of(r, order) = twice;
+        }
+        _ => {
+            order.pop();
+        }
+    }
+}

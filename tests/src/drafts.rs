@@ -1,0 +1,199 @@
+//! Scenario files taken apart, so that they can be damaged in every way that the table names.
+
+use crate::random::Random;
+use crate::scenario::{file_of, Held};
+use crate::{LATEST_START, LONGEST_SIDE, NEVER, SLOWEST};
+
+#[derive(Clone, Debug)]
+pub struct Draft {
+    /// Width, height, ticks, ground.
+    pub head: [u16; 4],
+    /// Counts of runs and of starts, as the file states them.
+    pub counts: [u32; 2],
+    pub runs: Vec<(u32, u32, u16)>,
+    pub starts: Vec<(u32, u32)>,
+    /// Bytes that are cut off the end, and bytes that are added behind it.
+    pub cut: usize,
+    pub tail: Vec<u8>,
+    walls: Vec<u32>,
+    size: u32,
+}
+
+/// The numbers of the table that a file can be refused by; 15 is the tablet's and that of `rings`.
+pub const FILE_CAUSES: [u32; 8] = [1, 2, 3, 5, 6, 7, 8, 9];
+
+impl Draft {
+    pub fn of(held: &Held) -> Draft {
+        let file = file_of(&held.board, held.ticks, held.ground);
+        let two = |at: usize| u16::from_le_bytes([file[at], file[at + 1]]);
+        let four = |at: usize| u32::from_le_bytes([file[at], file[at + 1], file[at + 2], file[at + 3]]);
+        let counts = [four(8), four(12)];
+        let first_start = 16 + 10 * counts[0] as usize;
+        let run = |i: u32| 16 + 10 * i as usize;
+        let start = |i: u32| first_start + 8 * i as usize;
+        let slow = &held.board.slow;
+        Draft {
+            head: [two(0), two(2), two(4), two(6)],
+            counts,
+            runs: (0..counts[0]).map(|i| (four(run(i)), four(run(i) + 4), two(run(i) + 8))).collect(),
+            starts: (0..counts[1]).map(|i| (four(start(i)), four(start(i) + 4))).collect(),
+            cut: 0,
+            tail: Vec::new(),
+            walls: (0..slow.len() as u32).filter(|&c| slow[c as usize] == 0).collect(),
+            size: slow.len() as u32,
+        }
+    }
+
+    pub fn bytes(&self) -> Vec<u8> {
+        let mut file = Vec::new();
+        for number in self.head {
+            file.extend_from_slice(&number.to_le_bytes());
+        }
+        for count in self.counts {
+            file.extend_from_slice(&count.to_le_bytes());
+        }
+        for (offset, length, slowness) in &self.runs {
+            file.extend_from_slice(&offset.to_le_bytes());
+            file.extend_from_slice(&length.to_le_bytes());
+            file.extend_from_slice(&slowness.to_le_bytes());
+        }
+        for (cell, time) in &self.starts {
+            file.extend_from_slice(&cell.to_le_bytes());
+            file.extend_from_slice(&time.to_le_bytes());
+        }
+        file.truncate(file.len().saturating_sub(self.cut));
+        file.extend_from_slice(&self.tail);
+        file
+    }
+
+    /// Gives the file the cause `number`, where it can have it.
+    pub fn spoil(&mut self, r: &mut Random, number: u32) {
+        match number {
+            1 => self.spoil_length(r),
+            2 => self.head[r.below(2) as usize] = r.pick(&[0, LONGEST_SIDE as u16 + 1, 511, 512, 32_768, 65_535]),
+            3 => self.head[2] = 0,
+            5 => {
+                let above = r.pick(&[SLOWEST as u16 + 1, 8_191, 32_768, 65_535]);
+                match self.any_run(r) {
+                    Some(at) if !r.once_in(3) => self.runs[at].2 = above,
+                    _ => self.head[3] = above,
+                }
+            }
+            6 => self.spoil_run(r),
+            7 => self.spoil_cells(r),
+            8 => {
+                let late = r.pick(&[LATEST_START + 1, 1_048_576, 300_000_000, NEVER]);
+                match self.any_start(r) {
+                    Some(at) => self.starts[at].1 = late,
+                    None => self.add_start(0, (0, late)),
+                }
+            }
+            9 => self.start_on_a_wall(r),
+            _ => self.head[r.below(2) as usize] = r.within(33, LONGEST_SIDE) as u16,
+        }
+    }
+
+    fn any_run(&self, r: &mut Random) -> Option<usize> {
+        let count = self.runs.len() as u32;
+        Some(r.below(count.max(1)) as usize).filter(|_| count > 0)
+    }
+
+    fn any_start(&self, r: &mut Random) -> Option<usize> {
+        let count = self.starts.len() as u32;
+        Some(r.below(count.max(1)) as usize).filter(|_| count > 0)
+    }
+
+    fn add_run(&mut self, at: usize, run: (u32, u32, u16)) {
+        self.runs.insert(at, run);
+        self.counts[0] = self.counts[0].wrapping_add(1);
+    }
+
+    fn add_start(&mut self, at: usize, start: (u32, u32)) {
+        self.starts.insert(at, start);
+        self.counts[1] = self.counts[1].wrapping_add(1);
+    }
+
+    /// Bytes cut off or added, or a count that is off; some fit where sums wrap at 32 bits.
+    fn spoil_length(&mut self, r: &mut Random) {
+        let which = r.below(2) as usize;
+        let count = &mut self.counts[which];
+        match r.below(5) {
+            0 => self.cut = r.within(1, 20) as usize,
+            1 => self.tail = (0..r.within(1, 20)).map(|i| i as u8).collect(),
+            2 => *count = r.pick(&[count.wrapping_add(1), count.wrapping_sub(1)]),
+            3 => *count = count.wrapping_add(r.pick(&[1 << 29, 1 << 30, 1 << 31])),
+            _ => *count = r.pick(&[NEVER, NEVER - 1, 1 << 31, 1 << 29, 1 << 28]),
+        }
+    }
+
+    fn spoil_run(&mut self, r: &mut Random) {
+        let at = match self.any_run(r) {
+            Some(at) => at,
+            None => return self.add_run(0, (r.pick(&[0, self.size, NEVER]), 1, self.head[3])),
+        };
+        let (offset, length, slowness) = self.runs[at];
+        match r.below(9) {
+            0 => self.runs[at].1 = 0,
+            1 => self.runs[at].2 = self.head[3],
+            2 => self.add_run(at, (offset, length, slowness)),
+            3 if length > 1 => {
+                // one run as two that touch and have the same slowness
+                self.runs[at].1 = 1;
+                self.add_run(at + 1, (offset.wrapping_add(1), length - 1, slowness));
+            }
+            4 => self.runs[at].0 = offset.wrapping_sub(1),
+            5 => {
+                self.runs[at].1 =
+                    r.pick(&[length.wrapping_add(1), self.size, self.size.wrapping_sub(offset).wrapping_add(1), NEVER])
+            }
+            6 => {
+                // the end wraps at 32 bits to a good one
+                self.runs[at].0 = NEVER - r.below(3);
+                self.runs[at].1 = r.within(1, 5);
+            }
+            7 if at > 0 => self.runs.swap(at - 1, at),
+            _ => {
+                let last = self.runs.len() - 1;
+                let (offset, length, _) = self.runs[last];
+                let beyond = self.size.saturating_sub(offset).max(length).wrapping_add(1);
+                self.runs[last] = (offset, beyond, slowness);
+            }
+        }
+    }
+
+    fn spoil_cells(&mut self, r: &mut Random) {
+        match self.any_start(r) {
+            None => self.add_start(0, (r.pick(&[self.size, NEVER]), 0)),
+            Some(at) => match r.below(4) {
+                0 => self.starts[at].0 = r.pick(&[self.size, self.size + 1, 65_536, NEVER]),
+                1 => self.add_start(at, self.starts[at]),
+                2 if at > 0 => self.starts.swap(at - 1, at),
+                _ => self.add_start(self.starts.len(), (self.size, 0)),
+            },
+        }
+    }
+
+    fn start_on_a_wall(&mut self, r: &mut Random) {
+        if !self.walls.is_empty() {
+            let wall = r.pick(&self.walls);
+            let at = self.starts.iter().filter(|start| start.0 < wall).count();
+            self.add_start(at, (wall, 0));
+        } else if let Some(at) = self.any_start(r) {
+            // a wall under a start that stands on the ground
+            let cell = self.starts[at].0;
+            let at = self.runs.iter().filter(|run| run.0 < cell).count();
+            self.add_run(at, (cell, 1, 0));
+        }
+    }
+}
+
+/// One byte more, less or other, anywhere.
+pub fn spoil_byte(r: &mut Random, file: &mut Vec<u8>) {
+    let at = r.below(file.len().max(1) as u32) as usize;
+    match r.below(4) {
+        0 => file.truncate(at),
+        1 => file.insert(at, r.any() as u8),
+        _ if !file.is_empty() => file[at] ^= 1 << r.below(8),
+        _ => {}
+    }
+}

@@ -1,0 +1,20 @@
+//! The local rule and D.
+
+use crate::Reply;
+
+extern "C" {
+    fn murgolab_local_rule(slowness: u32, left: u32, right: u32, above: u32, below: u32) -> Reply;
+    fn murgolab_diagonal(slowness: u32) -> Reply;
+}
+
+#[inline]
+pub fn local_rule(slowness: u32, [left, right, above, below]: [u32; 4]) -> Reply {
+    // SAFETY: numbers alone
+    unsafe { murgolab_local_rule(slowness, left, right, above, below) }
+}
+
+#[inline]
+pub fn diagonal(slowness: u32) -> Reply {
+    // SAFETY: numbers alone
+    unsafe { murgolab_diagonal(slowness) }
+}

@@ -1,0 +1,190 @@
+//! Seeded boards, calls and scenarios that the table has nothing against.
+
+use crate::board::{Board, Grid};
+use crate::calls::{Call, Kind};
+use crate::march::solved;
+use crate::random::Random;
+use crate::scenario::Held;
+use crate::tiles::{tile_count, up};
+use crate::{LARGEST, LATEST_START, LONGEST_SIDE, NEVER, SLOWEST};
+
+/// Slownesses of n cells: even ground, stretches, scattered ones, with few walls or many.
+pub fn slownesses(r: &mut Random, n: usize) -> Vec<u32> {
+    let style = r.below(7);
+    let walls = r.pick(&[0, 0, 0, 5, 20, 40, 60]);
+    let highest = r.spread(SLOWEST).max(1);
+    let (one, other) = (r.within(1, highest), r.within(1, SLOWEST));
+    let mut stretch = 0;
+    let mut last = one;
+    let mut slow = Vec::with_capacity(n);
+    for _ in 0..n {
+        if stretch > 0 {
+            stretch -= 1;
+        } else {
+            last = match style {
+                0 => 10,
+                1 => one,
+                2 => r.pick(&[1, SLOWEST]),
+                3 => r.within(1, SLOWEST),
+                4 => r.pick(&[one, one, one, other]),
+                _ => r.within(1, highest),
+            };
+            if r.below(100) < walls {
+                last = 0;
+            }
+            if style >= 4 {
+                stretch = r.below(6);
+            }
+        }
+        slow.push(last);
+    }
+    slow
+}
+
+/// Starts on open cells: none, one, a few, many or everywhere; early ones and late ones.
+pub fn starts(r: &mut Random, slow: &[u32]) -> (Vec<u32>, Vec<u32>) {
+    let mut open: Vec<u32> = (0..slow.len() as u32).filter(|&c| slow[c as usize] > 0).collect();
+    let count = match r.below(12) {
+        0 => 0,
+        1..=5 => 1,
+        6..=8 => r.within(2, 4),
+        9..=10 => r.below(1 + open.len() as u32 / 3),
+        _ => open.len() as u32,
+    };
+    r.shuffle(&mut open);
+    open.truncate(count as usize);
+    open.sort_unstable();
+    let latest = r.pick(&[0, 0, 20, 3_000, LATEST_START]);
+    let begins = open.iter().map(|_| if r.once_in(40) { LATEST_START } else { r.within(0, latest) }).collect();
+    (open, begins)
+}
+
+pub fn board_of(r: &mut Random, width: u32, height: u32) -> Board {
+    let slow = slownesses(r, (width * height) as usize);
+    let (cells, begins) = starts(r, &slow);
+    Board { width, height, slow, cells, begins }
+}
+
+/// A board with sides up to `longest`, small ones more often.
+pub fn board(r: &mut Random, longest: u32) -> Board {
+    let side = r.within(1, longest);
+    let (width, height) = (r.within(1, side), r.within(1, side));
+    board_of(r, width, height)
+}
+
+/// What a list of times may hold before a call: anything at all.
+pub fn stored(r: &mut Random, board: &Board) -> Vec<u32> {
+    let n = board.size();
+    let times = solved(&Grid::new(board));
+    let edges = [0, 1, LARGEST - 1, LARGEST, LARGEST + 1, NEVER - 1, NEVER];
+    let late = times.iter().copied().filter(|&t| t != NEVER).max().unwrap_or(0);
+    let (style, rare) = (r.below(7), r.within(2, 12));
+    let mut held = Vec::with_capacity(n);
+    for c in 0..n {
+        held.push(match style {
+            0 => NEVER,
+            1 => r.any(),
+            2 => r.pick(&edges),
+            3 => r.within(0, late.saturating_add(late / 4)),
+            4 if r.once_in(rare) => NEVER,
+            5 if r.once_in(rare) => r.within(0, late),
+            6 if r.once_in(rare) => r.pick(&edges),
+            _ => times[c],
+        });
+    }
+    held
+}
+
+pub fn garbage(r: &mut Random, length: usize) -> Vec<u32> {
+    (0..length).map(|_| r.any()).collect()
+}
+
+/// A horizon or a bound: at the ends of its range, anywhere, and close to a time of the board.
+pub fn horizon(r: &mut Random, board: &Board) -> u32 {
+    match r.below(8) {
+        0 => r.below(3),
+        1 | 2 => LARGEST - r.below(2),
+        3 => r.spread(LARGEST),
+        4 => 6_000_000,
+        _ => {
+            let times = solved(&Grid::new(board));
+            match r.pick(&times) {
+                NEVER => r.spread(LARGEST),
+                t => (t + r.below(3)).saturating_sub(1),
+            }
+        }
+    }
+}
+
+/// Runs of more cells × rounds than this are seldom, since the second solver works each of them out.
+const USUAL_WORK: u64 = 60_000;
+
+/// A stride for a run over n cells.
+pub fn stride(r: &mut Random, n: usize, horizon: u32) -> u32 {
+    let few = r.spread((USUAL_WORK / n as u64) as u32).max(1);
+    let for_few = up(horizon, few).max(1);
+    match r.below(8) {
+        0 => r.within(1, LARGEST),
+        1 => horizon.max(1),
+        2 | 3 => {
+            let any = r.spread(LARGEST).max(1);
+            let work = u64::from(horizon / any) * n as u64;
+            let dear = work > USUAL_WORK && work < crate::calls::MOST_WORKED + USUAL_WORK;
+            if dear && !r.once_in(50) {
+                for_few
+            } else {
+                any
+            }
+        }
+        _ => for_few,
+    }
+}
+
+/// A tile side: every one from 1 to 256, those around the board's side more often.
+pub fn tile_side(r: &mut Random, side: u32) -> u32 {
+    match r.below(6) {
+        0 => r.within(1, LONGEST_SIDE),
+        1 => r.pick(&[1, 8, LONGEST_SIDE]),
+        2 => (side + r.below(3)).saturating_sub(1).clamp(1, LONGEST_SIDE),
+        3 => side / 2 + 1,
+        _ => r.within(1, side),
+    }
+}
+
+/// Every tile number once: rising, falling or mixed.
+pub fn order(r: &mut Random, tiles: u32) -> Vec<u32> {
+    let mut order: Vec<u32> = (0..tiles).collect();
+    match r.below(4) {
+        0 => {}
+        1 => order.reverse(),
+        _ => r.shuffle(&mut order),
+    }
+    order
+}
+
+/// A march, a round or a run of the board.
+pub fn call(r: &mut Random, board: Board) -> Call {
+    let (across, down) = (tile_side(r, board.width), tile_side(r, board.height));
+    let order = order(r, tile_count(board.width, board.height, across, down));
+    let horizon = horizon(r, &board);
+    let kind = match r.below(5) {
+        0 => Kind::March { horizon },
+        1 | 2 => Kind::Round { across, down, bound: horizon, order },
+        _ => Kind::Run { across, down, stride: stride(r, board.size(), horizon), horizon, order },
+    };
+    Call { board, kind }
+}
+
+/// Ticks and ground for a board; the ground is mostly one of its slownesses.
+pub fn scenario(r: &mut Random, board: Board) -> Held {
+    let ticks = match r.below(4) {
+        0 => r.pick(&[1, 10, 65_535]),
+        _ => r.spread(65_535).max(1),
+    };
+    let ground = match r.below(5) {
+        0 => 0,
+        1 => r.within(0, SLOWEST),
+        _ => r.pick(&board.slow),
+    };
+    Held { ticks, ground, board }
+}

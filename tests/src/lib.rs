@@ -1,0 +1,73 @@
+//! A second solver for fronts on a tiled board.
+//!
+//! It is written from document 01 alone, by the plainest means, and shares nothing with the proved
+//! engine: where both give the same answers, neither can have the same slip as the other. The tests
+//! beside it (`tests/*.rs`) call the engine through its C names and compare, exactly.
+//!
+//! | Module | Holds |
+//! |---|---|
+//! | `rule` | the local rule, D and turn numbers, by search |
+//! | `board` | boards with plain start lists, and refusals 2, 4, 5, 7, 8, 9 |
+//! | `march` | the times of a whole board: by passes, and by an advancing front |
+//! | `tiles` | one round over tiles, and a tile run with every round worked out |
+//! | `leap` | a tile run that skips idle rounds, written apart from `tiles` |
+//! | `calls` | march, round and run as calls: refusals, answers, what lent lists hold afterwards |
+//! | `scenario` | the scenario file's reader and writer |
+//! | `shown` | what the tablet's call answers and what `rings` prints |
+//! | `random`, `generate` | seeded boards, calls and scenarios |
+//! | `damage`, `drafts` | calls and files that are damaged in every way that the table names |
+//! | `lent`, `compare` | lists lent with marked entries on both sides; a call played on both solvers |
+//! | `ffi` | the engine's C names, one module to a family, so that a test links what it calls |
+
+pub mod board;
+pub mod calls;
+pub mod compare;
+pub mod damage;
+pub mod drafts;
+pub mod ffi;
+pub mod generate;
+pub mod leap;
+pub mod lent;
+pub mod march;
+pub mod random;
+pub mod rule;
+pub mod scenario;
+pub mod shown;
+pub mod tiles;
+
+/// The mark for a time that does not come.
+pub const NEVER: u32 = u32::MAX;
+/// The largest horizon, bound and stride; a stored time above it counts as never.
+pub const LARGEST: u32 = 300_000_000;
+/// The largest slowness.
+pub const SLOWEST: u32 = 4_095;
+/// The latest start.
+pub const LATEST_START: u32 = 1_000_000;
+/// The longest side of a board or a tile.
+pub const LONGEST_SIDE: u32 = 256;
+
+/// What most calls answer: number 0 and a count, or a refusal's number and 0.
+#[repr(C)]
+#[derive(Clone, Copy, Debug, PartialEq, Eq)]
+pub struct Reply {
+    pub number: u32,
+    pub count: u32,
+}
+
+impl Reply {
+    pub fn accepted(count: u32) -> Reply {
+        Reply { number: 0, count }
+    }
+
+    pub fn refused(number: u32) -> Reply {
+        Reply { number, count: 0 }
+    }
+}
+
+/// A start record.
+#[repr(C)]
+#[derive(Clone, Copy, Debug, PartialEq, Eq)]
+pub struct Start {
+    pub cell: u32,
+    pub time: u32,
+}
