@@ -5,7 +5,6 @@ pub mod Local
 pub mod LocalRule
 pub mod Root
 pub mod FirstPass
-pub mod DiagonalTable
 pub mod Good
 pub mod Judging
 pub mod BoardRefusals

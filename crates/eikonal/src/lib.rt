@@ -1,6 +1,5 @@
-// The ground under the engine: the local rule, D, and the refusals of boards.
+// The ground under the engine: the local rule and the refusals of boards.
 pub mod arrival;
-pub mod diagonal;
 pub mod refusals;
 
 ghost use mathlib.Core.Path.{_≡_};

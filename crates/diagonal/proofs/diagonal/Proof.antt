@@ -1,12 +1,12 @@
--- `eikonal::diagonal::diagonal` meets its contract. Assumes nothing.
+-- `diagonal::diagonal` meets its contract. Assumes nothing.
 use mathlib.Core.Path.{ap}
 use native.Mathlib.Omega.{arith}
 use borrow.Author.Needs.{needs}
 use borrow.Author.Tests.{lt-ltb, le-ltb}
 use Rattle.eikonal.specs.Ledger.{answer, answered}
 use Rattle.eikonal.specs.Entry.{slowness-refusal, Diagonal-says}
-use Rattle.eikonal.proofs.diagonal.diagonal.Statement.{statement}
-use Rattle.eikonal.proofs.diagonal.diagonal.Tie as tie
+use Rattle.diagonal.proofs.diagonal.Statement.{statement}
+use Rattle.diagonal.proofs.diagonal.Tie as tie
 
 refused-requires : tie.Need-refused-requires
 refused-requires c κs = search needs

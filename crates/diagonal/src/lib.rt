@@ -3,8 +3,9 @@ mod table;
 
 ghost use mathlib.Core.Path.{_≡_};
 ghost use Prim.Native.Nat.{_≤_};
 ghost use Rattle.eikonal.specs.Board.{diagonal};
 ghost use Rattle.eikonal.specs.Entry.{Diagonal-says};
+use eikonal::Reply;
 
 // An index copies the table to the stack: no inner loop calls this.
 fn step(slowness: u32) -> u16
@@ -15,13 +16,13 @@ fn step(slowness: u32) -> u16
 }
 
 // The step, or 5 for a slowness above 4,095.
-pub fn diagonal(slowness: u32) -> super::Reply
+pub fn diagonal(slowness: u32) -> Reply
     ensures { λ x. ⌜ Diagonal-says slowness x ⌝ }
 {
     if slowness > 4095 {
-        return super::refused(5);
+        return eikonal::refused(5);
     }
-    super::Reply {
+    Reply {
         number: 0,
         count: step(slowness) as u32,
     }

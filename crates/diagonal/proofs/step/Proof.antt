@@ -1,14 +1,14 @@
--- `eikonal::diagonal::step` meets its contract: one test over the whole table, which antt computes. Assumes nothing.
+-- `diagonal::step` meets its contract: one test over the whole table, which antt computes. Assumes nothing.
 use mathlib.Core.Path.{_≡_, refl}
 use mathlib.Core.List.{List}
 use Prim.Native.Nat.{ℕ, _<_}
 use native.Mathlib.Omega.{arith}
 use borrow.Author.Needs.{needs}
 use borrow.Table.Row.{get}
-use Rattle.eikonal.proofs.DiagonalTable.{right, all-right, table-is}
-use Rattle.eikonal.proofs.diagonal.step.Statement.{statement}
-use Rattle.eikonal.proofs.diagonal.step.Tie as tie
-use Rattle.eikonal.proofs.diagonal.step.Lts as lts
+use Rattle.diagonal.proofs.Rule.{right, all-right, table-is}
+use Rattle.diagonal.proofs.step.Statement.{statement}
+use Rattle.diagonal.proofs.step.Tie as tie
+use Rattle.diagonal.proofs.step.Lts as lts
 
 mul-result : tie.Need-mul-result
 mul-result c = search needs
