@@ -219,6 +219,9 @@ module _ (b : Board) (g : Good b) (tw th : ℕ) where
     unfolding rounds
     rounds-least = rw (rounds-from-least (up h s + size b + 2) 1) (least (up h s + size b + 2) 1 (λ k. last-round b tw th s h k))
 
+    pub rounds-low : 1 ≤ rounds b tw th s h
+    rounds-low = rounds-least .low
+
     pub rounds-few : rounds b tw th s h ≤ max 1 (up h s) + reached h (solved b)
     rounds-few =
         let k : ℕ = max 1 (up h s) - 1 in

@@ -1,0 +1,14 @@
+-- `engine::lists::clip` meets its contract. Assumes nothing.
+use mathlib.Core.Path.{sym}
+use Rattle.eikonal.proofs.Clip.{clip-keeps, clip-loses}
+use Rattle.engine.proofs.lists.clip.Statement.{statement}
+use Rattle.engine.proofs.lists.clip.Tie as tie
+
+returns : tie.Need-returns
+returns c = sym (clip-keeps _ _ (c .if1 .taken))
+
+returns-2 : tie.Need-returns-2
+returns-2 c = sym (clip-loses _ _ (c .if1 .left))
+
+pub clip-spec : {M : Type 1} → statement M
+clip-spec = tie.close (tie.spec returns returns-2)

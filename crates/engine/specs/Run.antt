@@ -1,0 +1,60 @@
+-- A tile run between two rounds. Only internal contracts cite these. Assumes nothing: these are definitions.
+use mathlib.Core.Path.{_≡_}
+use mathlib.Core.Logic.{_≢_}
+use mathlib.Core.List.{List}
+use Prim.Native.Nat.{ℕ, suc, _*_, _≤_, _<_, min}
+use lib.ListN.{length, getD}
+use Rattle.eikonal.specs.Board.{Board, size, start-time, time, marched, largest}
+use Rattle.eikonal.specs.Tiles.{counts-as, altered, after-rounds, rounds}
+use Rattle.eikonal.specs.Refusals.{starts-of}
+use Rattle.queue.specs.Tree.{keys}
+use Rattle.engine.specs.Front.{gives, Tied, Settled, Upheld, Drift}
+use Rattle.engine.specs.Board.{tentative}
+use Rattle.engine.specs.State.{Held}
+use Rattle.engine.specs.declared.Shape.{Shape}
+
+-- the rule of a board with stored times as ghosts
+abbrev pub rule-by : Board → (tw th : ℕ) → (stored : List ℕ) → ℕ → (ℕ → ℕ) → ℕ
+rule-by b tw th ts = gives b tw th (λ c e. counts-as b ts e)
+
+abbrev pub starts : Board → ℕ → ℕ
+starts b c = start-time c (b .starts)
+
+-- BETWEEN ROUNDS: j rounds are worked out, and the front stands ready for the next
+pub record Between (b : Board) (tw th s h j : ℕ) (ts : List ℕ) (y k : ℕ → ℕ) : Type 0 where
+  pub is : ts ≡ after-rounds j b tw th s h
+  pub tied : Tied (size b) y k
+  pub settled : Settled (size b) (rule-by b tw th ts) y k
+  pub upheld : Upheld (size b) (rule-by b tw th ts) (starts b) y
+  pub drift : (note : ℕ → ℕ) → Drift (size b) (time ts) y k 0 0 note
+
+-- the board with its starts
+abbrev pub whole : Shape → (slow cells begins : List ℕ) → Board
+whole s ss cs bs = record { wide = s .width; high = s .height; slow = ss; starts = starts-of cs bs }
+
+-- after j rounds, with the work list at hand
+pub record At-round (s : Shape) (slow cells begins : List ℕ) (stride horizon j : ℕ) (times work : List ℕ) : Type 0 where
+  pub held : Held (s .cells) work
+  pub between : Between (whole s slow cells begins) (s .across) (s .down) stride horizon j times (tentative work (s .cells)) (keys work (s .cells))
+
+-- ONE ROUND MORE, in which m cells were taken: none just if the round alters nothing
+pub record One-round (s : Shape) (slow cells begins : List ℕ) (stride horizon j m : ℕ) (times times' work work' : List ℕ) : Type 0 where
+  pub long : length times' ≡ length times
+  pub kept : length work' ≡ length work
+  pub past : (i : ℕ) → 4 * s .cells ≤ i → getD work' i 0 ≡ getD work i 0
+  pub next : At-round s slow cells begins stride horizon (suc j) times' work'
+  pub idle : m ≡ 0 → after-rounds (suc j) (whole s slow cells begins) (s .across) (s .down) stride horizon ≡ after-rounds j (whole s slow cells begins) (s .across) (s .down) stride horizon
+  pub busy : 1 ≤ m → altered (after-rounds j (whole s slow cells begins) (s .across) (s .down) stride horizon) (after-rounds (suc j) (whole s slow cells begins) (s .across) (s .down) stride horizon) ≢ 0
+
+-- a leap: rounds up to r are before the least key and before the horizon
+pub record Leapt (least done stride horizon r : ℕ) : Type 0 where
+  pub up : done ≤ r
+  pub short : done < r → r * stride < min least horizon
+
+-- A WHOLE TILE RUN: its rounds, and the march's times
+pub record Ran (s : Shape) (slow cells begins : List ℕ) (stride horizon r : ℕ) (times times' work work' : List ℕ) : Type 0 where
+  pub counted : r ≡ rounds (whole s slow cells begins) (s .across) (s .down) stride horizon
+  pub marches : times' ≡ marched (whole s slow cells begins) horizon
+  pub long : length times' ≡ length times
+  pub kept : length work' ≡ length work
+  pub past : (i : ℕ) → 4 * s .cells ≤ i → getD work' i 0 ≡ getD work i 0

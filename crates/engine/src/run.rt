@@ -1,0 +1,127 @@
+// A tile run: rounds one after the other, with leaps over those that come before the least key.
+ghost use mathlib.Core.Path.{_≡_};
+ghost use Prim.Native.Nat.{ℕ, suc, _*_, _≤_, _<_, min};
+ghost use lib.Dec.{leb};
+ghost use lib.ListN.{length};
+ghost use Rattle.eikonal.specs.Board.{largest};
+ghost use Rattle.eikonal.proofs.Good.{Good};
+ghost use Rattle.queue.specs.Tree.{Tree, keys};
+ghost use Rattle.engine.specs.Board.{Ground};
+ghost use Rattle.engine.specs.Run.{whole, At-round, One-round, Leapt, Ran};
+use super::Shape;
+
+// The bound of the round after so many.
+fn bound_after(done: u32, stride: u32, horizon: u32) -> u32
+    requires { ⌜ (done ≤ 1000000000) × (stride ≤ largest) ⌝ }
+    ensures { λ r. ⌜ r ≡ min (suc done * stride) horizon ⌝ }
+{
+    let reach = (done as u64 + 1) * (stride as u64);
+    if reach < horizon as u64 {
+        return reach as u32;
+    }
+    horizon
+}
+
+// Whether the round is at the horizon.
+fn at_horizon(round: u32, stride: u32, horizon: u32) -> bool
+    requires { ⌜ (round ≤ 1000000001) × (stride ≤ largest) ⌝ }
+    ensures { λ r. ⌜ r ≡ leb horizon (round * stride) ⌝ }
+{
+    let reach = (round as u64) * (stride as u64);
+    let end = horizon as u64;
+    end <= reach
+}
+
+fn least_key(work: &[u32], n: usize) -> u32
+    requires { ⌜ (1 ≤ n) × (n ≤ 65536) × (2 * n ≤ length (now work)) × Tree (now work) n ⌝ }
+    ensures { λ r. ⌜ ((c : ℕ) → c < n → r ≤ keys (now (work .entry)) n c) ⌝ }
+{
+    let c = queue::first(work, n);
+    work[n + c]
+}
+
+fn lesser(a: u32, b: u32) -> u32
+    ensures { λ r. ⌜ r ≡ min a b ⌝ }
+{
+    if a < b { a } else { b }
+}
+
+// How many rounds may be taken for done: those whose bound is below the least key and the horizon alter nothing.
+fn leap(least: u32, done: u32, stride: u32, horizon: u32) -> u32
+    requires { ⌜ 1 ≤ stride ⌝ }
+    ensures { λ r. ⌜ Leapt least done stride horizon r ⌝ }
+{
+    let goal = lesser(least, horizon);
+    if goal == 0 {
+        return done;
+    }
+    let far = (goal - 1) / stride;
+    if done < far { far } else { done }
+}
+
+// Works out the round after `done` rounds: the times are then those after one round more. Answers how many cells were taken.
+fn round(
+    slow: &[u32],
+    cells: &[u32],
+    begins: &[u32],
+    times: &mut [u32],
+    work: &mut [u32],
+    cols: &[u8; 257],
+    rows: &[u8; 257],
+    shape: Shape,
+    done: u32,
+    stride: u32,
+    horizon: u32,
+) -> usize
+    requires { ⌜ Ground shape (now slow) (now times) (now cols) (now rows) × Good (whole shape (now slow) (now cells) (now begins)) × At-round shape (now slow) (now cells) (now begins) stride horizon done (now times) (now work) × (done ≤ 1000000000) × (1 ≤ stride) × (stride ≤ largest) × (horizon ≤ largest) ⌝ }
+    ensures { λ m. ⌜ One-round shape (now (slow .entry)) (now (cells .entry)) (now (begins .entry)) stride horizon done m (now (times .entry)) (now (times .exit)) (now (work .entry)) (now (work .exit)) ⌝ }
+{
+    let n = shape.cells;
+    let bound = bound_after(done, stride, horizon);
+    let m = super::drain::drain(slow, times, work, cols, rows, shape, bound);
+    super::commit::store(times, work, n, m);
+    super::commit::announce(slow, times, work, cols, rows, shape, m);
+    m
+}
+
+// Works rounds out, or leaps over them, until a round at the horizon alters nothing. Answers how many there are.
+pub fn run(
+    slow: &[u32],
+    cells: &[u32],
+    begins: &[u32],
+    times: &mut [u32],
+    work: &mut [u32],
+    cols: &[u8; 257],
+    rows: &[u8; 257],
+    shape: Shape,
+    stride: u32,
+    horizon: u32,
+) -> u32
+    requires { ⌜ Ground shape (now slow) (now times) (now cols) (now rows) × Good (whole shape (now slow) (now cells) (now begins)) × At-round shape (now slow) (now cells) (now begins) stride horizon 0 (now times) (now work) × (1 ≤ stride) × (stride ≤ largest) × (horizon ≤ largest) ⌝ }
+    ensures { λ r. ⌜ Ran shape (now (slow .entry)) (now (cells .entry)) (now (begins .entry)) stride horizon r (now (times .entry)) (now (times .exit)) (now (work .entry)) (now (work .exit)) ⌝ }
+{
+    let n = shape.cells;
+    let mut done = 0;
+    loop {
+        let m = round(
+            slow,
+            cells,
+            begins,
+            times,
+            work,
+            cols,
+            rows,
+            shape,
+            done,
+            stride,
+            horizon,
+        );
+        done += 1;
+        if m == 0 {
+            if at_horizon(done, stride, horizon) {
+                return done;
+            }
+        }
+        done = leap(least_key(work, n), done, stride, horizon);
+    }
+}

@@ -1,0 +1,2 @@
+pub mod Mending
+pub mod Tree

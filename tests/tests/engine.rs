@@ -1,0 +1,241 @@
+//! Marches, single rounds and tile runs of the engine beside the second solver, on seeded boards.
+
+use second_solver::board::{Board, Grid};
+use second_solver::calls::{Call, Kind, MOST_WORKED};
+use second_solver::compare::play_both;
+use second_solver::ffi::engine::play;
+use second_solver::generate::{self, board_of};
+use second_solver::march::solved;
+use second_solver::random::Random;
+use second_solver::tiles::{bound_of, round, tile_count, Tiling};
+use second_solver::{LARGEST, NEVER};
+
+/// Plays a good call: the times hold anything, the work list is longer than it must be.
+fn compare(r: &mut Random, call: &Call, seed: u64) -> (u32, Vec<u32>) {
+    let times = generate::stored(r, &call.board);
+    let longer = r.below(9) as usize;
+    let work = generate::garbage(r, 4 * call.board.size() + longer);
+    let (reply, after) = play_both(play, call, &times, &work, seed);
+    assert_eq!(reply.number, 0, "seed {}: a good call is refused: {:?}", seed, call);
+    (reply.count, after)
+}
+
+fn random_board(r: &mut Random) -> Board {
+    let longest = match r.below(400) {
+        0 => 64,
+        1..=30 => 32,
+        _ => 15,
+    };
+    generate::board(r, longest)
+}
+
+fn tiles(r: &mut Random, board: &Board) -> (u32, u32, Vec<u32>) {
+    let (across, down) = (generate::tile_side(r, board.width), generate::tile_side(r, board.height));
+    (across, down, generate::order(r, tile_count(board.width, board.height, across, down)))
+}
+
+#[test]
+fn marches_of_random_boards_are_the_second_solvers() {
+    for seed in 1_000_000..1_040_000 {
+        let mut r = Random::new(seed);
+        let board = random_board(&mut r);
+        let kind = Kind::March { horizon: generate::horizon(&mut r, &board) };
+        compare(&mut r, &Call { board, kind }, seed);
+    }
+}
+
+#[test]
+fn rounds_over_random_boards_and_any_stored_times_are_the_second_solvers() {
+    for seed in 2_000_000..2_040_000 {
+        let mut r = Random::new(seed);
+        let board = random_board(&mut r);
+        let (across, down, order) = tiles(&mut r, &board);
+        let kind = Kind::Round { across, down, bound: generate::horizon(&mut r, &board), order };
+        compare(&mut r, &Call { board, kind }, seed);
+    }
+}
+
+#[test]
+fn tile_runs_of_random_boards_are_the_second_solvers() {
+    let (mut long, mut leapt) = (0, 0);
+    for seed in 3_000_000..3_030_000 {
+        let mut r = Random::new(seed);
+        let board = random_board(&mut r);
+        let (across, down, order) = tiles(&mut r, &board);
+        let horizon = generate::horizon(&mut r, &board);
+        let stride = generate::stride(&mut r, board.size(), horizon);
+        let (size, kind) = (board.size() as u64, Kind::Run { across, down, stride, horizon, order });
+        let (rounds, _) = compare(&mut r, &Call { board, kind }, seed);
+        long += u32::from(rounds > 1_000);
+        leapt += u32::from(u64::from(rounds) * size > MOST_WORKED);
+    }
+    assert!(long > 1_000 && leapt > 300, "too few long runs: {} and {}", long, leapt);
+}
+
+/// Every tile side across and down, on boards as long as the longest tile.
+#[test]
+fn every_tile_side_cuts_the_board_alike() {
+    for side in 1..=256 {
+        let seed = 4_000_000 + u64::from(side);
+        let mut r = Random::new(seed);
+        let other = r.within(1, 3);
+        let across = r.once_in(2);
+        let (width, height) = if across { (256, other) } else { (other, 256) };
+        let board = board_of(&mut r, width, height);
+        let (tile_across, tile_down) = if across { (side, r.within(1, 4)) } else { (r.within(1, 4), side) };
+        let order = generate::order(&mut r, tile_count(width, height, tile_across, tile_down));
+        let horizon = generate::horizon(&mut r, &board);
+        let round = Kind::Round { across: tile_across, down: tile_down, bound: horizon, order: order.clone() };
+        let stride = (horizon / 20).max(1);
+        let run = Kind::Run { across: tile_across, down: tile_down, stride, horizon, order };
+        for kind in [round, run] {
+            compare(&mut r, &Call { board: board.clone(), kind }, seed);
+        }
+    }
+}
+
+/// Horizons and bounds at each time of a board, and one before and behind it.
+#[test]
+fn every_time_of_a_board_is_a_horizon() {
+    for seed in 5_000_000..5_000_060 {
+        let mut r = Random::new(seed);
+        let board = generate::board(&mut r, 5);
+        let mut times = solved(&Grid::new(&board));
+        times.sort_unstable();
+        times.dedup();
+        for t in times.into_iter().filter(|&t| t != NEVER) {
+            for horizon in t.saturating_sub(1)..=t + 1 {
+                let (across, down, order) = tiles(&mut r, &board);
+                let stride = (horizon / r.within(1, 30)).max(1);
+                let round = Kind::Round { across, down, bound: horizon, order: order.clone() };
+                let run = Kind::Run { across, down, stride, horizon, order };
+                for kind in [Kind::March { horizon }, round, run] {
+                    compare(&mut r, &Call { board: board.clone(), kind }, seed);
+                }
+            }
+        }
+    }
+}
+
+#[test]
+fn strides_and_horizons_at_the_ends_of_their_ranges_are_counted() {
+    for seed in 6_000_000..6_000_150 {
+        let mut r = Random::new(seed);
+        let board = generate::board(&mut r, 6);
+        for horizon in [0, 1, LARGEST - 1, LARGEST] {
+            for stride in [1, 2, 149_999_999, LARGEST - 1, LARGEST] {
+                let (across, down, order) = tiles(&mut r, &board);
+                let kind = Kind::Run { across, down, stride, horizon, order };
+                compare(&mut r, &Call { board: board.clone(), kind }, seed);
+            }
+        }
+    }
+}
+
+/// Many rounds with long strides: k × stride passes 32 bits long before the last round.
+#[test]
+fn rounds_go_on_where_the_stride_times_their_number_passes_32_bits() {
+    for seed in 6_500_000..6_500_400 {
+        let mut r = Random::new(seed);
+        let (length, other) = (r.within(30, 70), r.within(1, 2));
+        let (width, height) = if r.once_in(2) { (length, other) } else { (other, length) };
+        let mut board = board_of(&mut r, width, height);
+        board.slow.fill(r.within(1, 4_095));
+        board.cells = vec![r.below(3)];
+        board.begins = vec![r.spread(1_000_000)];
+        let (across, down) = (r.within(1, 2), r.within(1, 2));
+        let order = generate::order(&mut r, tile_count(width, height, across, down));
+        let stride = r.pick(&[LARGEST, LARGEST - 1, 1 << 28, (1 << 28) + 1, 143_165_577, 214_748_365]);
+        let kind = Kind::Run { across, down, stride, horizon: LARGEST - r.below(2), order };
+        let (rounds, _) = compare(&mut r, &Call { board, kind }, seed);
+        assert!(rounds >= 15, "seed {}: {} rounds only", seed, rounds);
+    }
+}
+
+/// As many single rounds as a run answers, from all never and with its bounds, leave the run's times;
+/// the last alters nothing, and none at the horizon before it does so.
+#[test]
+fn a_tile_run_is_as_many_single_rounds_as_it_answers() {
+    for seed in 7_000_000..7_001_500 {
+        let mut r = Random::new(seed);
+        let board = generate::board(&mut r, 7);
+        let (across, down, order) = tiles(&mut r, &board);
+        let horizon = generate::horizon(&mut r, &board);
+        let stride = (horizon / r.within(1, 40)).max(1);
+        let run = Kind::Run { across, down, stride, horizon, order };
+        let (rounds, after) = compare(&mut r, &Call { board: board.clone(), kind: run }, seed);
+        let mut times = vec![NEVER; board.size()];
+        for k in 1..=u64::from(rounds) {
+            let bound = bound_of(k, stride, horizon);
+            let order = generate::order(&mut r, tile_count(board.width, board.height, across, down));
+            let call = Call { board: board.clone(), kind: Kind::Round { across, down, bound, order } };
+            let work = generate::garbage(&mut r, 4 * board.size());
+            let (reply, next) = play_both(play, &call, &times, &work, seed);
+            if bound == horizon && k * u64::from(stride) >= u64::from(horizon) {
+                assert_eq!(reply.count == 0, k == u64::from(rounds), "seed {}, round {}: {:?}", seed, k, call);
+            }
+            times = next;
+        }
+        assert_eq!(times, after, "seed {}", seed);
+    }
+}
+
+/// Boards on which a round lowers a cell that a round before it had reached.
+#[test]
+fn a_reached_cell_is_lowered_again_by_an_earlier_ghost() {
+    let mut found = 0;
+    for seed in 8_000_000..8_006_000 {
+        let mut r = Random::new(seed);
+        let board = generate::board(&mut r, 9);
+        let (across, down, order) = tiles(&mut r, &board);
+        let latest = solved(&Grid::new(&board)).into_iter().filter(|&t| t != NEVER).max().unwrap_or(0);
+        let stride = (latest / 3).max(1);
+        if !lowers_again(&board, across, down, stride, latest) {
+            continue;
+        }
+        found += 1;
+        let kind = Kind::Run { across, down, stride, horizon: latest, order };
+        compare(&mut r, &Call { board, kind }, seed);
+    }
+    assert!(found > 200, "too few such boards: {}", found);
+}
+
+fn lowers_again(board: &Board, across: u32, down: u32, stride: u32, horizon: u32) -> bool {
+    let grid = Grid::new(board);
+    let tiling = Tiling::new(&grid, across, down);
+    let mut times = vec![NEVER; board.size()];
+    for k in 1..30 {
+        let next = round(&grid, &tiling, bound_of(k, stride, horizon), &times);
+        if times.iter().zip(&next).any(|(&before, &after)| before != NEVER && after < before) {
+            return true;
+        }
+        times = next;
+    }
+    false
+}
+
+/// The order of the tiles shows in nothing.
+#[test]
+fn every_order_of_the_tiles_gives_the_same() {
+    for seed in 9_000_000..9_000_400 {
+        let mut r = Random::new(seed);
+        let board = generate::board(&mut r, 8);
+        let (across, down) = (r.within(1, 3), r.within(1, 3));
+        let bound = generate::horizon(&mut r, &board);
+        let times = generate::stored(&mut r, &board);
+        let stride = (bound / r.within(1, 40)).max(1);
+        let tiles = tile_count(board.width, board.height, across, down);
+        let mut seen = Vec::new();
+        for _ in 0..4 {
+            let order = generate::order(&mut r, tiles);
+            let round = Kind::Round { across, down, bound, order: order.clone() };
+            let run = Kind::Run { across, down, stride, horizon: bound, order };
+            let work = generate::garbage(&mut r, 4 * board.size());
+            seen.push([round, run].map(|kind| {
+                let call = Call { board: board.clone(), kind };
+                play_both(play, &call, &times, &work, seed)
+            }));
+        }
+        assert!(seen.windows(2).all(|pair| pair[0] == pair[1]), "seed {}: the order shows", seed);
+    }
+}

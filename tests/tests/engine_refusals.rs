@@ -1,0 +1,165 @@
+//! Refused marches, rounds and runs: the table's number, and no lent entry touched.
+
+use second_solver::board::Board;
+use second_solver::calls::{Call, Kind};
+use second_solver::compare::play_both;
+use second_solver::damage::{spoil_call, CALL_CAUSES};
+use second_solver::ffi::engine::play;
+use second_solver::generate::{self, garbage};
+use second_solver::random::Random;
+use second_solver::{Reply, LARGEST, NEVER};
+
+/// Plays a call that is spoilt by the causes, and answers the number that both solvers gave.
+fn refused_by(causes: &[u32], seed: u64) -> u32 {
+    let mut r = Random::new(seed);
+    let board = generate::board(&mut r, 6);
+    let size = board.size();
+    let mut call = generate::call(&mut r, board);
+    let (mut times, mut work) = (size, 4 * size + r.below(3) as usize);
+    for &cause in causes {
+        spoil_call(&mut r, &mut call, &mut times, &mut work, cause);
+    }
+    let (times, work) = (garbage(&mut r, times), garbage(&mut r, work));
+    play_both(play, &call, &times, &work, seed).0.number
+}
+
+#[test]
+fn every_cause_is_refused_by_its_number() {
+    let mut given = [0; 16];
+    for (i, &cause) in CALL_CAUSES.iter().enumerate() {
+        for seed in 0..1_500 {
+            let number = refused_by(&[cause], 10_000_000 + 10_000 * i as u64 + seed);
+            given[number as usize] += 1;
+        }
+    }
+    for cause in CALL_CAUSES {
+        assert!(given[cause as usize] > 700, "{} was given {} times only", cause, given[cause as usize]);
+    }
+}
+
+#[test]
+fn of_two_causes_the_lower_number_is_given() {
+    let mut seed = 20_000_000;
+    for first in CALL_CAUSES {
+        for second in CALL_CAUSES {
+            for _ in 0..120 {
+                refused_by(&[first, second], seed);
+                seed += 1;
+            }
+        }
+    }
+}
+
+#[test]
+fn of_three_causes_the_lowest_number_is_given() {
+    for seed in 30_000_000..30_008_000 {
+        let mut r = Random::new(seed);
+        let causes = [r.pick(&CALL_CAUSES), r.pick(&CALL_CAUSES), r.pick(&CALL_CAUSES)];
+        refused_by(&causes, seed);
+    }
+}
+
+fn good_board() -> Board {
+    Board { width: 3, height: 2, slow: vec![10, 20, 0, 4_095, 1, 10], cells: vec![0, 4], begins: vec![0, 1_000_000] }
+}
+
+fn number(board: Board, kind: Kind, times: usize, work: usize) -> u32 {
+    let call = Call { board, kind };
+    play_both(play, &call, &vec![5; times], &vec![6; work], 0).0.number
+}
+
+fn march(board: Board) -> u32 {
+    number(board, Kind::March { horizon: LARGEST }, 6, 24)
+}
+
+#[test]
+fn each_limit_passes_and_one_beyond_it_does_not() {
+    let good = good_board();
+    let with = |change: &dyn Fn(&mut Board)| {
+        let mut board = good.clone();
+        change(&mut board);
+        march(board)
+    };
+    assert_eq!(march(good.clone()), 0);
+    assert_eq!(with(&|b| b.slow[3] = 4_096), 5);
+    assert_eq!(with(&|b| b.begins[1] = 1_000_001), 8);
+    assert_eq!(with(&|b| b.cells[1] = 5), 0);
+    assert_eq!(with(&|b| b.cells[1] = 6), 7);
+    assert_eq!(with(&|b| b.cells[1] = 0), 7);
+    assert_eq!(with(&|b| b.cells.reverse()), 7);
+    assert_eq!(with(&|b| b.cells[1] = 2), 9);
+    assert_eq!(with(&|b| drop(b.begins.pop())), 4);
+    assert_eq!(with(&|b| drop(b.cells.pop())), 4);
+    assert_eq!(with(&|b| b.slow.push(1)), 4);
+    assert_eq!(with(&|b| drop(b.slow.pop())), 4);
+    assert_eq!(number(good.clone(), Kind::March { horizon: LARGEST + 1 }, 6, 24), 10);
+    for (times, work, want) in [(6, 24, 0), (6, 23, 14), (5, 24, 13), (7, 28, 13), (0, 0, 13), (6, 0, 14)] {
+        assert_eq!(number(good.clone(), Kind::March { horizon: 9 }, times, work), want, "{} {}", times, work);
+    }
+}
+
+#[test]
+fn each_limit_of_tiles_and_strides_passes_and_one_beyond_it_does_not() {
+    let good = good_board();
+    let run = |across, down, stride, horizon, order: &[u32]| {
+        number(good.clone(), Kind::Run { across, down, stride, horizon, order: order.to_vec() }, 6, 24)
+    };
+    let round = |across, down, bound, order: &[u32]| {
+        number(good.clone(), Kind::Round { across, down, bound, order: order.to_vec() }, 6, 24)
+    };
+    assert_eq!(run(256, 256, LARGEST, LARGEST, &[0]), 0);
+    assert_eq!(run(256, 256, 1, 0, &[0]), 0);
+    assert_eq!(run(256, 256, 0, 0, &[0]), 10);
+    assert_eq!(run(256, 256, LARGEST + 1, 0, &[0]), 10);
+    assert_eq!(run(256, 256, 1, LARGEST + 1, &[0]), 10);
+    assert_eq!(round(256, 256, LARGEST, &[0]), 0);
+    assert_eq!(round(256, 256, LARGEST + 1, &[0]), 10);
+    for side in [0, 257, 1 << 31, NEVER] {
+        assert_eq!([run(side, 1, 1, 1, &[0]), run(1, side, 1, 1, &[0])], [11, 11], "{}", side);
+        assert_eq!([round(side, 1, 1, &[0]), round(1, side, 1, &[0])], [11, 11], "{}", side);
+    }
+    let wrong: [&[u32]; 9] = [
+        &[],
+        &[0],
+        &[0, 1, 2],
+        &[1, 2, 3, 4],
+        &[0, 0, 1, 2],
+        &[0, 1, 1, 3],
+        &[3, 3, 0, 0],
+        &[0, 1, 2, NEVER],
+        &[0, 1, 2, 3, 0],
+    ];
+    for order in wrong {
+        assert_eq!([run(2, 1, 1, 1, order), round(2, 1, 1, order)], [12, 12], "{:?}", order);
+    }
+    assert_eq!([run(2, 1, 1, 1, &[3, 1, 0, 2]), round(2, 1, 1, &[2, 3, 1, 0])], [0, 0]);
+}
+
+/// Sides whose product wraps at 32 bits, with lists as long as the wrapped product.
+#[test]
+fn sides_whose_product_wraps_are_refused_by_2() {
+    let sides = [(65_536, 65_536, 0), (1 << 31, 2, 0), (65_537, 65_535, 0), (0, 0, 0), (0, 5, 0), (3, 0, 0)];
+    for (width, height, size) in sides.into_iter().chain([(1_431_655_766, 3, 2), (257, 1, 257), (1, 257, 257)]) {
+        let board = Board { width, height, slow: vec![10; size], cells: vec![], begins: vec![] };
+        assert_eq!(number(board, Kind::March { horizon: 1 }, size, 4 * size), 2, "{} by {}", width, height);
+    }
+}
+
+/// A long order over the most tiles that there are, wrong in one place.
+#[test]
+fn an_order_of_65536_tiles_is_judged_to_its_last_entry() {
+    let board = Board { width: 256, height: 256, slow: vec![1; 65_536], cells: vec![], begins: vec![] };
+    let mut r = Random::new(5);
+    let mut order = generate::order(&mut r, 65_536);
+    let round = |order: &[u32]| {
+        let call =
+            Call { board: board.clone(), kind: Kind::Round { across: 1, down: 1, bound: 1, order: order.to_vec() } };
+        play_both(play, &call, &vec![NEVER; 65_536], &vec![1; 4 * 65_536], 5).0
+    };
+    assert_eq!(round(&order), Reply::accepted(0));
+    for (at, value) in [(65_535, order[0]), (0, order[65_535]), (40_000, order[39_999]), (7, 65_536)] {
+        let right = std::mem::replace(&mut order[at], value);
+        assert_eq!(round(&order), Reply::refused(12), "entry {}", at);
+        order[at] = right;
+    }
+}
