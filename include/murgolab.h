@@ -31,6 +31,32 @@ murgolab_reply murgolab_local_rule(uint32_t slowness, uint32_t left, uint32_t ri
 /* D: the least d with 2*d*d >= slowness*slowness. Refused by 5 only: slowness above 4,095. The count is d. */
 murgolab_reply murgolab_diagonal(uint32_t slowness);
 
+/* The calls below take a board: width and height 1 to 256, N = width * height; slow: N slownesses, 0 is a wall; cells and
+ * begins: the starts' cells, rising, and their times. times is N long. work is at least 4N long, and may hold anything;
+ * after an accepted call its first 4N entries are 0 and later ones as they were. */
+
+/* The time at which the front reaches each cell; never where that is past the horizon or no front comes. times may hold
+ * anything at first. The count is the number of cells reached. Refused by 2 4 5 7 8 9 10 13 14. */
+murgolab_reply murgolab_march_plain(uint32_t width, uint32_t height, const uint32_t *slow, size_t slow_len,
+    const uint32_t *cells, size_t cells_len, const uint32_t *begins, size_t begins_len,
+    uint32_t horizon, uint32_t *times, size_t times_len, uint32_t *work, size_t work_len);
+
+/* One round: every tile, across by down cells, is solved up to the bound with the times that times holds beyond its edges.
+ * order names every tile once; it never shows. The count is the number of entries altered.
+ * Refused by 2 4 5 7 8 9 10 11 12 13 14. */
+murgolab_reply murgolab_one_round_plain(uint32_t width, uint32_t height, const uint32_t *slow, size_t slow_len,
+    const uint32_t *cells, size_t cells_len, const uint32_t *begins, size_t begins_len,
+    uint32_t across, uint32_t down, uint32_t bound, const uint32_t *order, size_t order_len,
+    uint32_t *times, size_t times_len, uint32_t *work, size_t work_len);
+
+/* Rounds from all never, the j-th with the bound j * stride or the horizon, the lesser, until one at the horizon alters
+ * nothing. times is then what the march gives. The count is the number of rounds, the last among them.
+ * Refused by 2 4 5 7 8 9 10 11 12 13 14. */
+murgolab_reply murgolab_tile_run_plain(uint32_t width, uint32_t height, const uint32_t *slow, size_t slow_len,
+    const uint32_t *cells, size_t cells_len, const uint32_t *begins, size_t begins_len,
+    uint32_t across, uint32_t down, uint32_t stride, uint32_t horizon, const uint32_t *order, size_t order_len,
+    uint32_t *times, size_t times_len, uint32_t *work, size_t work_len);
+
 #ifdef __cplusplus
 }
 #endif
