@@ -1,0 +1,60 @@
+-- Every accepted file is the file of what it holds, so what it holds has one file. Assumes nothing.
+use mathlib.Core.Path.{_≡_, sym, ap₂, _∙_}
+use mathlib.Core.List.{List, _++_}
+use Prim.Native.Nat.{ℕ, _+_, _*_, _≤_}
+use native.Mathlib.Omega.{arith}
+use lib.ListN.{length, take, drop, length-drop}
+use lib.Seq.{take-add, take-all}
+use Rattle.eikonal.specs.Board.{size}
+use Rattle.scenario.specs.Bytes.{two, four, two-bytes, four-bytes, Bytes}
+use Rattle.scenario.specs.Runs.{run}
+use Rattle.scenario.specs.File.{run-bytes, start-bytes, head-bytes, file-of, run-in, start-in, width-in, height-in, ticks-in, ground-in, run-count, start-count, runs-in, starts-in, held}
+use Rattle.scenario.specs.Promise.{Accepted-is-file-of, One-file}
+use Rattle.scenario.proofs.Numbers.{bytes-drop, two-back, four-back}
+use Rattle.scenario.proofs.Records.{write-back, length-records}
+use Rattle.scenario.proofs.Painted.{good-maximal}
+use Rattle.scenario.proofs.Causes.{accepted}
+
+-- pieces that stand one behind the other
+joined : (n m : ℕ) (f x y : List ℕ) → x ≡ take n f → y ≡ take m (drop n f) → x ++ y ≡ take (n + m) f
+joined n m f x y p q = ap₂ _++_ p q ∙ sym (take-add n m f)
+
+module _ (f : List ℕ) (h : Bytes f) where
+  two-at : (n : ℕ) → n + 2 ≤ length f → two-bytes (two (drop n f)) ≡ take 2 (drop n f)
+  two-at n l = two-back (drop n f) (bytes-drop n f h) (omega (arith, length-drop n f))
+
+  four-at : (n : ℕ) → n + 4 ≤ length f → four-bytes (four (drop n f)) ≡ take 4 (drop n f)
+  four-at n l = four-back (drop n f) (bytes-drop n f h) (omega (arith, length-drop n f))
+
+  run-back : 10 ≤ length f → run-bytes (run-in f) ≡ take 10 f
+  unfolding run-bytes run-in run
+  run-back l = joined 8 2 f _ _ (joined 4 4 f _ _ (four-back f h (omega arith)) (four-at 4 (omega arith))) (two-at 8 (omega arith))
+
+  start-back : 8 ≤ length f → start-bytes (start-in f) ≡ take 8 f
+  unfolding start-bytes start-in
+  start-back l = joined 4 4 f _ _ (four-back f h (omega arith)) (four-at 4 (omega arith))
+
+  head-back : 16 ≤ length f → head-bytes (width-in f) (height-in f) (ticks-in f) (ground-in f) (run-count f) (start-count f) ≡ take 16 f
+  unfolding head-bytes width-in height-in ticks-in ground-in run-count start-count
+  head-back l =
+      joined 12 4 f _ _ (joined 8 4 f _ _ (joined 6 2 f _ _ (joined 4 2 f _ _ (joined 2 2 f _ _ (two-back f h (omega arith)) (two-at 2 (omega arith)))
+      (two-at 4 (omega arith))) (two-at 6 (omega arith))) (four-at 8 (omega arith))) (four-at 12 (omega arith))
+
+pub accepted-is-file-of : Accepted-is-file-of
+unfolding Accepted-is-file-of file-of held size runs-in starts-in
+accepted-is-file-of f h e =
+    let a = accepted f e in
+    let runs = good-maximal (width-in f * height-in f) (ground-in f) (runs-in f) (a .rest .runs) in
+    let head = head-back f h (a .front .head) in
+    let some = write-back 10 run-in run-bytes run-back (run-count f) (drop 16 f) (bytes-drop 16 f h) (omega (arith, a .front .long, length-drop 16 f)) in
+    let last = write-back 8 start-in start-bytes start-back (start-count f) (drop (16 + 10 * run-count f) f) (bytes-drop (16 + 10 * run-count f) f h) (omega (arith, a .front .long, length-drop (16 + 10 * run-count f) f)) in
+    let all = joined (16 + 10 * run-count f) (8 * start-count f) f _ _ (joined 16 (10 * run-count f) f _ _ head some) last in
+    sym (rw (runs, length-records 10 run-in (run-count f) (drop 16 f), length-records 8 start-in (start-count f) (drop (16 + 10 * run-count f) f))
+    (all ∙ take-all (16 + 10 * run-count f + 8 * start-count f) f (omega (arith, a .front .long))))
+
+pub one-file : One-file
+unfolding One-file Accepted-is-file-of held
+one-file e f he hf re rf b t g =
+    accepted-is-file-of e he re
+    ∙ (λ i. file-of (b i .wide) (b i .high) (t i) (g i) (b i .slow) (b i .starts))
+    ∙ sym (accepted-is-file-of f hf rf)

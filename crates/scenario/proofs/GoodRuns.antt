@@ -1,0 +1,177 @@
+-- What the rules of runs say, as facts, and the maximal runs of a list of slownesses obey them. Assumes nothing.
+use mathlib.Core.Path.{_≡_, refl, sym, ap, ap₂, _∙_}
+use mathlib.Core.Bool.{Bool, true, false, _&&_, not, cond, true≢false}
+use mathlib.Core.List.{List, [], _∷_, map}
+use mathlib.Core.Logic.{_⊎_, inl, inr, ⊎-elim}
+use Prim.Native.Nat.{ℕ, suc, _+_, _-_, _≤_, _<_}
+use native.Mathlib.Omega.{arith}
+use native.Mathlib.Decide.{ℕ-discrete}
+use lib.Dec.{leb, eqb, ltb}
+use lib.ListN.{length}
+use borrow.Author.Tests.{leb-true, le-leb, eqb-true, eqb-false, eq-eqb, ne-eqb, not-true, ltb-false, le-ltb}
+use Rattle.eikonal.specs.Refusals.{any-above}
+use Rattle.eikonal.proofs.Good.{and-true, or-false}
+use Rattle.scenario.specs.declared.Run.{Run}
+use Rattle.scenario.specs.Runs.{run, end, run-good, runs-good, closed, runs-on, runs-of}
+use Rattle.scenario.proofs.Records.{All}
+
+-- the rules of a run, where the one before ended at a and had slowness z
+pub record Fits (n g a z : ℕ) (x : Run) : Type 0 where
+  pub behind : a ≤ x .offset
+  pub some : 1 ≤ x .long
+  pub within : x .offset + x .long ≤ n
+  pub other : x .slow ≡ g → ⊥
+  pub apart : x .offset ≡ a → x .slow ≡ z → ⊥
+
+and-false : (p q : Bool) → (p ≡ true → q ≡ true → ⊥) → p && q ≡ false
+and-false true true h = absurd (h refl refl)
+and-false true false h = refl
+and-false false q h = refl
+
+pub good-fits : (n g a z : ℕ) (x : Run) → run-good n g a z x ≡ true → Fits n g a z x
+unfolding run-good end
+good-fits n g a z x e =
+    let r4 = and-true _ (not (eqb (x .offset) a && eqb (x .slow) z)) e in
+    let r3 = and-true _ (not (eqb (x .slow) g)) (r4 .0) in
+    let r2 = and-true _ (leb (x .offset + x .long) n) (r3 .0) in
+    let r1 = and-true (leb a (x .offset)) (leb 1 (x .long)) (r2 .0) in
+    record {
+      behind = leb-true a (x .offset) (r1 .0);
+      some = leb-true 1 (x .long) (r1 .1);
+      within = leb-true (x .offset + x .long) n (r2 .1);
+      other = eqb-false (x .slow) g (not-true _ (r3 .1));
+      apart = λ p q. true≢false (sym (ap₂ _&&_ (eq-eqb (x .offset) a p) (eq-eqb (x .slow) z q)) ∙ not-true _ (r4 .1));
+    }
+
+pub fits-good : (n g a z : ℕ) (x : Run) → Fits n g a z x → run-good n g a z x ≡ true
+unfolding run-good end
+fits-good n g a z x h =
+    rw (le-leb a (x .offset) (h .behind), le-leb 1 (x .long) (h .some), le-leb (x .offset + x .long) n (h .within), ne-eqb (x .slow) g (h .other))
+    (ap not (and-false (eqb (x .offset) a) (eqb (x .slow) z) (λ p q. h .apart (eqb-true _ _ p) (eqb-true _ _ q))))
+
+-- ---- a stretch that ends is a run, or ground
+pub closed-ground : (g a i : ℕ) (xs : List Run) → closed g a i g xs ≡ xs
+unfolding closed
+closed-ground g a i xs = rw (eq-eqb g g refl)
+
+pub closed-run : (g a i z : ℕ) (xs : List Run) → (z ≡ g → ⊥) → closed g a i z xs ≡ run a (i - a) z ∷ xs
+unfolding closed
+closed-run g a i z xs h = rw (ne-eqb z g h)
+
+-- the stretch of slowness z from a to i may follow a run that ended at b and had slowness y
+record May (g b y a i z : ℕ) : Type 0 where
+  low : b ≤ a
+  high : a ≤ i
+  ground : z ≡ g → (y ≡ g) ⊎ (b < i)
+  some : (z ≡ g → ⊥) → a < i
+  apart : (z ≡ g → ⊥) → a ≡ b → z ≡ y → ⊥
+
+closed-good : (n g b y a i z : ℕ) (xs : List Run) → May g b y a i z → i ≤ n
+    → (z ≡ g → runs-good n g b y xs ≡ true) → ((z ≡ g → ⊥) → runs-good n g i z xs ≡ true) → runs-good n g b y (closed g a i z xs) ≡ true
+unfolding runs-good run end
+closed-good n g b y a i z xs m l ground other = elim (ℕ-discrete z g) [
+  | yes q ↦ rw (ap (λ u. closed g a i u xs) q ∙ closed-ground g a i xs) (ground q)
+  | no q ↦
+      let fit : Fits n g b y (run a (i - a) z) = record { behind = m .low; some = omega (arith, m .some q); within = omega (arith, m .high); other = q; apart = m .apart q } in
+      let e : a + (i - a) ≡ i = omega (arith, m .high) in
+      rw (closed-run g a i z xs q, fits-good n g b y (run a (i - a) z) fit, e) (other q)
+]
+
+runs-on-good : (n g b y a i z : ℕ) (ss : List ℕ) → May g b y a i z → i + length ss ≡ n → runs-good n g b y (runs-on g a i z ss) ≡ true
+unfolding runs-on runs-good
+runs-on-good n g b y a i z [] m e = closed-good n g b y a i z [] m (omega arith) (λ _. refl) (λ _. refl)
+runs-on-good n g b y a i z (s ∷ ss) m e = go (eqb s z) refl (runs-on-good n g b y a (suc i) z ss) (runs-on-good n g b y i (suc i) s ss) (runs-on-good n g i z i (suc i) s ss)
+  where
+    go : (p : Bool) → eqb s z ≡ p → (May g b y a (suc i) z → suc i + length ss ≡ n → runs-good n g b y (runs-on g a (suc i) z ss) ≡ true)
+        → (May g b y i (suc i) s → suc i + length ss ≡ n → runs-good n g b y (runs-on g i (suc i) s ss) ≡ true)
+        → (May g i z i (suc i) s → suc i + length ss ≡ n → runs-good n g i z (runs-on g i (suc i) s ss) ≡ true)
+        → runs-good n g b y (cond p (runs-on g a (suc i) z ss) (closed g a i z (runs-on g i (suc i) s ss))) ≡ true
+    go true q on past new =
+        on (record { low = m .low; high = omega (arith, m .high); ground = λ h. ⊎-elim (λ k. inl k) (λ k. inr (omega arith)) (m .ground h); some = λ h. omega (arith, m .high); apart = m .apart }) (omega arith)
+    go false q on past new =
+        let d = eqb-false s z q in
+        closed-good n g b y a i z (runs-on g i (suc i) s ss) m (omega arith)
+        (λ h. past (record {
+          low = omega (arith, m .low, m .high);
+          high = omega arith;
+          ground = λ k. absurd (d (k ∙ sym h));
+          some = λ _. omega arith;
+          apart = λ _ k r. ⊎-elim (λ v. d (r ∙ v ∙ sym h)) (λ v. omega arith) (m .ground h);
+        }) (omega arith))
+        (λ h. new (record { low = omega arith; high = omega arith; ground = λ k. inr (omega arith); some = λ _. omega arith; apart = λ _ _ r. d r }) (omega arith))
+
+-- THE MAXIMAL RUNS OBEY THE RULES
+pub runs-of-good : (g : ℕ) (ss : List ℕ) → runs-good (length ss) g 0 g (runs-of g ss) ≡ true
+unfolding runs-of
+runs-of-good g ss =
+    runs-on-good (length ss) g 0 g 0 0 g ss
+    (record { low = omega arith; high = omega arith; ground = λ _. inl refl; some = λ h. absurd (h refl); apart = λ h _ _. h refl }) (omega arith)
+
+-- their slownesses are the board's
+pub slows-of : List Run → List ℕ
+slows-of xs = map (λ x. x .slow) xs
+
+closed-above : (m g a i z : ℕ) (xs : List Run) → z ≤ m → any-above m (slows-of xs) ≡ false → any-above m (slows-of (closed g a i z xs)) ≡ false
+unfolding closed slows-of any-above run
+closed-above m g a i z xs l e = go (eqb z g)
+  where
+    go : (p : Bool) → any-above m (slows-of (cond p xs (run a (i - a) z ∷ xs))) ≡ false
+    go true = e
+    go false = rw (le-ltb m z l) e
+
+runs-on-above : (m g a i z : ℕ) (ss : List ℕ) → z ≤ m → any-above m ss ≡ false → any-above m (slows-of (runs-on g a i z ss)) ≡ false
+unfolding runs-on any-above slows-of
+runs-on-above m g a i z [] l e = closed-above m g a i z [] l refl
+runs-on-above m g a i z (s ∷ ss) l e =
+    let r = or-false (ltb m s) (any-above m ss) e in
+    go (eqb s z) (runs-on-above m g a (suc i) z ss l (r .1)) (closed-above m g a i z _ l (runs-on-above m g i (suc i) s ss (ltb-false m s (r .0)) (r .1)))
+  where
+    go : (p : Bool) → any-above m (slows-of (runs-on g a (suc i) z ss)) ≡ false → any-above m (slows-of (closed g a i z (runs-on g i (suc i) s ss))) ≡ false
+        → any-above m (slows-of (cond p (runs-on g a (suc i) z ss) (closed g a i z (runs-on g i (suc i) s ss)))) ≡ false
+    go true h k = h
+    go false h k = k
+
+pub runs-of-above : (m g : ℕ) (ss : List ℕ) → g ≤ m → any-above m ss ≡ false → any-above m (map (λ x. x .slow) (runs-of g ss)) ≡ false
+unfolding runs-of slows-of
+runs-of-above m g ss l e = runs-on-above m g 0 0 g ss l e
+
+-- and there are no more than cells, but one
+closed-count : (g a i z : ℕ) (xs : List Run) → length (closed g a i z xs) ≤ suc (length xs)
+unfolding closed
+closed-count g a i z xs = go (eqb z g)
+  where
+    go : (p : Bool) → length (cond p xs (run a (i - a) z ∷ xs)) ≤ suc (length xs)
+    go true = omega arith
+    go false = omega arith
+
+runs-on-count : (g a i z : ℕ) (ss : List ℕ) → length (runs-on g a i z ss) ≤ suc (length ss)
+unfolding runs-on
+runs-on-count g a i z [] = closed-count g a i z []
+runs-on-count g a i z (s ∷ ss) =
+    go (eqb s z) (runs-on-count g a (suc i) z ss) (closed-count g a i z (runs-on g i (suc i) s ss)) (runs-on-count g i (suc i) s ss)
+  where
+    go : (p : Bool) → length (runs-on g a (suc i) z ss) ≤ suc (length ss) → length (closed g a i z (runs-on g i (suc i) s ss)) ≤ suc (length (runs-on g i (suc i) s ss))
+        → length (runs-on g i (suc i) s ss) ≤ suc (length ss) → length (cond p (runs-on g a (suc i) z ss) (closed g a i z (runs-on g i (suc i) s ss))) ≤ suc (suc (length ss))
+    go true h k l = omega arith
+    go false h k l = omega arith
+
+pub runs-of-count : (g : ℕ) (ss : List ℕ) → length (runs-of g ss) ≤ suc (length ss)
+unfolding runs-of
+runs-of-count g ss = runs-on-count g 0 0 g ss
+
+-- the numbers of good runs fit their bytes
+pub record Small (x : Run) : Type 0 where
+  pub offset : x .offset < 4294967296
+  pub long : x .long < 4294967296
+  pub slow : x .slow < 65536
+
+pub all-small : (n g a z : ℕ) (xs : List Run) → n < 4294967296 → runs-good n g a z xs ≡ true → any-above 4095 (map (λ x. x .slow) xs) ≡ false → All Small xs
+unfolding runs-good any-above end
+all-small n g a z [] l e k = tt
+all-small n g a z (x ∷ xs) l e k =
+    let r = and-true (run-good n g a z x) _ e in
+    let f = good-fits n g a z x (r .0) in
+    let s = or-false (ltb 4095 (x .slow)) _ k in (
+      record { offset = omega (arith, f .within); long = omega (arith, f .within); slow = omega (arith, ltb-false 4095 (x .slow) (s .0)) },
+      all-small n g (x .offset + x .long) (x .slow) xs l (r .1) (s .1),
+    )

@@ -1,0 +1,15 @@
+-- What is promised of the scenario file, proved. Assumes nothing.
+use Rattle.scenario.specs.Promise.{Accepted-is-file-of, One-file, File-of-is-accepted, Read-then-write, Write-then-read}
+use Rattle.scenario.proofs.Accepted.{accepted-is-file-of, one-file}
+use Rattle.scenario.proofs.Written.{file-of-is-accepted}
+use Rattle.scenario.proofs.Composed.{read-then-write, write-then-read}
+
+pub record Promises : Type 0 where
+  pub accepted : Accepted-is-file-of
+  pub one : One-file
+  pub written : File-of-is-accepted
+  pub read-write : Read-then-write
+  pub write-read : Write-then-read
+
+pub promises : Promises
+promises = record { accepted = accepted-is-file-of; one = one-file; written = file-of-is-accepted; read-write = read-then-write; write-read = write-then-read }

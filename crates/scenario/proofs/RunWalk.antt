@@ -1,0 +1,79 @@
+-- A walk over the runs of a file: what the run in hand says of all from there on. Assumes nothing.
+use mathlib.Core.Path.{_≡_, sym, _∙_}
+use mathlib.Core.Bool.{Bool, true, false, not}
+use mathlib.Core.List.{List, [], _∷_, map}
+use Prim.Native.Nat.{ℕ, _+_, _*_, _≤_, _<_}
+use lib.ListN.{drop}
+use borrow.Author.Tests.{lt-ltb, le-ltb, le-leb, lt-leb, not-true, not-false}
+use Rattle.eikonal.specs.Refusals.{any-above}
+use Rattle.scenario.specs.declared.Run.{Run}
+use Rattle.scenario.specs.Bytes.{records}
+use Rattle.scenario.specs.Runs.{end, run-good, runs-good}
+use Rattle.scenario.specs.File.{run-in}
+use Rattle.scenario.specs.Inner.Walk.{runs-onward, past, near}
+use Rattle.scenario.proofs.Records.{onward-none, onward-next, onward-all}
+
+abbrev pub steep : List Run → Bool
+steep xs = any-above 4095 (map (λ x. x .slow) xs)
+
+-- all runs, from the first on
+pub runs-all : (f : List ℕ) (count : ℕ) → records 10 run-in count (drop 16 f) ≡ runs-onward f count 0
+runs-all f count = sym (onward-all 10 run-in f 16 count)
+
+-- none is left
+module _ (f : List ℕ) (count i : ℕ) (l : count ≤ i) where
+  none : runs-onward f count i ≡ []
+  none = onward-none 10 run-in f 16 count i l
+
+  pub steep-none : steep (runs-onward f count i) ≡ false
+  unfolding any-above
+  steep-none = rw none
+
+  pub good-none : (n g a z : ℕ) → runs-good n g a z (runs-onward f count i) ≡ true
+  unfolding runs-good
+  good-none n g a z = rw none
+
+  pub past-none : (c : ℕ) → past c (runs-onward f count i) ≡ runs-onward f count i
+  unfolding past
+  past-none c = rw none
+
+  pub near-none : (g c : ℕ) → near g c (runs-onward f count i) ≡ g
+  unfolding near
+  near-none g c = rw none
+
+-- the run in hand
+module _ (f : List ℕ) (count i : ℕ) (x : Run) (l : i < count) (e : x ≡ run-in (drop (16 + 10 * i) f)) where
+  pub runs-next : runs-onward f count i ≡ x ∷ runs-onward f count (i + 1)
+  runs-next = onward-next 10 run-in f 16 count i x l e
+
+  pub steep-here : 4095 < x .slow → steep (runs-onward f count i) ≡ true
+  unfolding any-above
+  steep-here h = rw (runs-next, lt-ltb 4095 (x .slow) h)
+
+  pub steep-next : x .slow ≤ 4095 → steep (runs-onward f count i) ≡ steep (runs-onward f count (i + 1))
+  unfolding any-above
+  steep-next h = rw (runs-next, le-ltb 4095 (x .slow) h)
+
+  pub good-here : (n g a z : ℕ) (p : Bool) → p ≡ run-good n g a z x → not p ≡ true → runs-good n g a z (runs-onward f count i) ≡ false
+  unfolding runs-good
+  good-here n g a z p q h = rw (runs-next, sym q ∙ not-true p h)
+
+  pub good-next : (n g a z : ℕ) (p : Bool) → p ≡ run-good n g a z x → not p ≡ false → runs-good n g a z (runs-onward f count i) ≡ runs-good n g (x .offset + x .long) (x .slow) (runs-onward f count (i + 1))
+  unfolding runs-good end
+  good-next n g a z p q h = rw (runs-next, sym q ∙ not-false p h)
+
+  pub past-here : (c : ℕ) → c < x .offset + x .long → past c (runs-onward f count i) ≡ runs-onward f count i
+  unfolding past end
+  past-here c h = rw (runs-next, lt-leb (x .offset + x .long) c h)
+
+  pub past-next : (c : ℕ) → x .offset + x .long ≤ c → past c (runs-onward f count i) ≡ past c (runs-onward f count (i + 1))
+  unfolding past end
+  past-next c h = rw (runs-next, le-leb (x .offset + x .long) c h)
+
+  pub near-in : (g c : ℕ) → x .offset ≤ c → near g c (runs-onward f count i) ≡ x .slow
+  unfolding near
+  near-in g c h = rw (runs-next, le-leb (x .offset) c h)
+
+  pub near-before : (g c : ℕ) → c < x .offset → near g c (runs-onward f count i) ≡ g
+  unfolding near
+  near-before g c h = rw (runs-next, lt-leb (x .offset) c h)

@@ -1,0 +1,31 @@
+-- `scenario::bytes::four_at` meets its contract. Assumes nothing.
+use mathlib.Core.Path.{sym, ap₂, _∙_}
+use Prim.Native.Nat.{_+_, _*_}
+use borrow.Author.Needs.{needs}
+use Rattle.scenario.proofs.Numbers.{four-drop}
+use Rattle.scenario.proofs.bytes.four_at.Statement.{statement}
+use Rattle.scenario.proofs.bytes.four_at.Tie as tie
+
+two-at-requires : tie.Need-two-at-requires
+two-at-requires c κs = search needs
+
+add-two-at : tie.Need-add-two-at
+add-two-at c = search needs
+
+two-at-requires-2 : tie.Need-two-at-requires-2
+two-at-requires-2 c κs = search needs
+
+mul-result : tie.Need-mul-result
+mul-result c = search needs
+
+add-result : tie.Need-add-result
+add-result c = search needs
+
+returns : tie.Need-returns
+returns c =
+    let a = c .before .before .before .args in
+    ap₂ (λ x y. x + 65536 * y) (c .before .two-at .ensures .0) (c .two-at2 .ensures .0) ∙ sym (four-drop (a .bytes .now) (a .at))
+
+pub four-at-spec : {M : Type 1} → statement M
+four-at-spec =
+    tie.close (tie.spec two-at-requires add-two-at two-at-requires-2 mul-result add-result returns)

@@ -1,0 +1,33 @@
+-- Starts looked up among sorted runs, both in one walk. No public promise rests on these. Assumes nothing: these are definitions.
+use mathlib.Core.Bool.{Bool, false, _||_, cond}
+use mathlib.Core.List.{List, [], _∷_}
+use Prim.Native.Nat.{ℕ, _+_, _-_, _*_}
+use lib.Dec.{leb, eqb}
+use lib.ListN.{drop}
+use Rattle.eikonal.specs.Board.{Start}
+use Rattle.scenario.specs.declared.Run.{Run}
+use Rattle.scenario.specs.Bytes.{records}
+use Rattle.scenario.specs.Runs.{end}
+use Rattle.scenario.specs.File.{run-in, start-in}
+
+-- the runs of a file from the i-th on, of n
+abbrev pub runs-onward : List ℕ → (n i : ℕ) → List Run
+runs-onward f n i = records 10 run-in (n - i) (drop (16 + 10 * i) f)
+
+-- the starts of a file from the i-th on, of n that begin at a base
+abbrev pub starts-onward : List ℕ → (base n i : ℕ) → List Start
+starts-onward f a n i = records 8 start-in (n - i) (drop (a + 8 * i) f)
+
+-- without the runs in front that end at a cell or before it
+unfoldable pub past : (cell : ℕ) → List Run → List Run
+past c [] = []
+past c (x ∷ xs) = cond (leb (end x) c) (past c xs) (x ∷ xs)
+
+-- the slowness of a cell that lies in the first run or in front of it
+unfoldable pub near : (ground cell : ℕ) → List Run → ℕ
+near g c [] = g
+near g c (x ∷ xs) = cond (leb (x .offset) c) (x .slow) g
+
+unfoldable pub wall-among : (ground : ℕ) → List Run → List Start → Bool
+wall-among g xs [] = false
+wall-among g xs (s ∷ ss) = eqb (near g (s .cell) (past (s .cell) xs)) 0 || wall-among g xs ss

@@ -1,0 +1,66 @@
+// The scenario file: its format, with numbers and runs as bytes; and turn numbers.
+pub mod bytes;
+pub mod runs;
+
+ghost use mathlib.Core.Path.{_≡_};
+ghost use Rattle.scenario.specs.File.{sides-good, ticks-good};
+ghost use Rattle.scenario.specs.Calls.{Turn-says};
+use eikonal::Reply;
+use eikonal::refusals::side_good;
+
+// What a file holds besides its lists: number 0 and the rest, or a refusal's number and zeros.
+#[repr(C)]
+pub struct Scenario {
+    pub number: u32,
+    pub width: u32,
+    pub height: u32,
+    pub ticks: u32,
+    pub ground: u32,
+    pub starts: u32,
+}
+
+// So many cells from an offset on, with one slowness.
+pub struct Run {
+    pub offset: u32,
+    pub long: u32,
+    pub slow: u32,
+}
+
+const NEVER: u32 = 4294967295;
+
+pub fn sides_good(width: u32, height: u32) -> bool
+    ensures { λ r. ⌜ r ≡ sides-good width height ⌝ }
+{
+    if side_good(width) {
+        return side_good(height);
+    }
+    false
+}
+
+pub fn ticks_good(ticks: u32) -> bool
+    ensures { λ r. ⌜ r ≡ ticks-good ticks ⌝ }
+{
+    if ticks < 1 {
+        return false;
+    }
+    ticks <= 65535
+}
+
+// The turn of a time: never for never, and for a time above 300,000,000.
+pub fn turn(time: u32, ticks: u32) -> Reply
+    ensures { λ x. ⌜ Turn-says time ticks x ⌝ }
+{
+    if !ticks_good(ticks) {
+        return eikonal::refused(3);
+    }
+    if time > 300000000 {
+        return Reply {
+            number: 0,
+            count: NEVER,
+        };
+    }
+    Reply {
+        number: 0,
+        count: time / ticks,
+    }
+}

@@ -1,0 +1,125 @@
+// The runs in a file, judged before anything is written.
+ghost use mathlib.Core.Path.{_≡_};
+ghost use mathlib.Core.List.{map};
+ghost use Prim.Native.Nat.{_+_, _*_, _≤_};
+ghost use lib.ListN.{length, drop};
+ghost use Rattle.eikonal.specs.Refusals.{any-above};
+ghost use Rattle.scenario.specs.Bytes.{records};
+ghost use Rattle.scenario.specs.Runs.{run-good, runs-good};
+ghost use Rattle.scenario.specs.File.{run-in};
+ghost use Rattle.scenario.specs.Inner.Walk.{runs-onward, past, near};
+use super::Run;
+use super::bytes::four_at;
+use super::bytes::two_at;
+
+pub fn wide(x: u32) -> usize
+    ensures { λ r. ⌜ r ≡ x ⌝ }
+{
+    x as usize
+}
+
+// usize has 64 bits: the sum of two numbers of 32 bits does not wrap.
+pub fn run_end(x: Run) -> usize
+    ensures { λ r. ⌜ r ≡ x .offset + x .long ⌝ }
+{
+    wide(x.offset) + wide(x.long)
+}
+
+pub fn run_at(file: &[u8], at: usize) -> Run
+    requires { ⌜ at + 10 ≤ length (now file) ⌝ }
+    ensures { λ r. ⌜ r ≡ run-in (drop at (now (file .entry))) ⌝ }
+{
+    Run {
+        offset: four_at(file, at),
+        long: four_at(file, at + 4),
+        slow: two_at(file, at + 8),
+    }
+}
+
+// The rules of a run, where cells are free from one on, and the run that ends there has a slowness.
+fn run_good(n: usize, ground: u32, free: usize, last: u32, x: Run) -> bool
+    ensures { λ r. ⌜ r ≡ run-good n ground free last x ⌝ }
+{
+    let from = wide(x.offset);
+    if from < free {
+        return false;
+    }
+    if x.long < 1 {
+        return false;
+    }
+    if n < run_end(x) {
+        return false;
+    }
+    if x.slow == ground {
+        return false;
+    }
+    if from == free {
+        return x.slow != last;
+    }
+    true
+}
+
+// Whether a run has a slowness above 4,095.
+pub fn any_steep(file: &[u8], count: usize) -> bool
+    requires { ⌜ 16 + 10 * count ≤ length (now file) ⌝ }
+    ensures { λ r. ⌜ r ≡ any-above 4095 (map (λ x. x .slow) (records 10 run-in count (drop 16 (now (file .entry))))) ⌝ }
+{
+    let mut i = 0;
+    while i < count {
+        let x = run_at(file, 16 + 10 * i);
+        if x.slow > 4095 {
+            return true;
+        }
+        i += 1;
+    }
+    false
+}
+
+pub fn runs_good(file: &[u8], count: usize, n: usize, ground: u32) -> bool
+    requires { ⌜ 16 + 10 * count ≤ length (now file) ⌝ }
+    ensures { λ r. ⌜ r ≡ runs-good n ground 0 ground (records 10 run-in count (drop 16 (now (file .entry)))) ⌝ }
+{
+    let mut free = 0;
+    let mut last = ground;
+    let mut i = 0;
+    while i < count {
+        let x = run_at(file, 16 + 10 * i);
+        if !run_good(n, ground, free, last, x) {
+            return false;
+        }
+        free = run_end(x);
+        last = x.slow;
+        i += 1;
+    }
+    true
+}
+
+// The first run from the i-th on that ends behind a cell.
+pub fn pass(file: &[u8], count: usize, i: usize, cell: usize) -> usize
+    requires { ⌜ (16 + 10 * count ≤ length (now file)) × (i ≤ count) ⌝ }
+    ensures most { λ r. ⌜ r ≤ count ⌝ }
+    ensures is { λ r. ⌜ runs-onward (now (file .entry)) count r ≡ past cell (runs-onward (now (file .entry)) count i) ⌝ }
+{
+    let mut k = i;
+    while k < count {
+        if cell < run_end(run_at(file, 16 + 10 * k)) {
+            return k;
+        }
+        k += 1;
+    }
+    k
+}
+
+// The slowness of a cell that lies in the i-th run or in front of it.
+pub fn slow_near(file: &[u8], count: usize, i: usize, cell: usize, ground: u32) -> u32
+    requires { ⌜ 16 + 10 * count ≤ length (now file) ⌝ }
+    ensures { λ r. ⌜ r ≡ near ground cell (runs-onward (now (file .entry)) count i) ⌝ }
+{
+    if i < count {
+        let x = run_at(file, 16 + 10 * i);
+        if wide(x.offset) <= cell {
+            return x.slow;
+        }
+    }
+    ground
+}

@@ -1,0 +1,2 @@
+mod StartWalk
+mod Painting

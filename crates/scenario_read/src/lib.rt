@@ -1,0 +1,75 @@
+// The reader of scenario files: a file is judged whole, then read.
+pub mod judge;
+pub mod paint;
+pub mod starts;
+
+ghost use mathlib.Core.Path.{_≡_};
+ghost use mathlib.Core.List.{map};
+ghost use Prim.Native.Nat.{_+_, _*_, _≤_, min};
+ghost use lib.ListN.{length, drop};
+ghost use Rattle.eikonal.specs.Board.{size};
+ghost use Rattle.scenario.specs.Bytes.{records};
+ghost use Rattle.scenario.specs.File.{held, start-in, start-count, starts-in, file-refusal};
+ghost use Rattle.scenario.specs.Calls.{filled, Reads};
+use scenario::Scenario;
+use scenario::bytes::four_at;
+
+fn shorter(a: usize, b: usize) -> usize
+    ensures { λ r. ⌜ r ≡ min a b ⌝ }
+{
+    if a < b { a } else { b }
+}
+
+// The starts from a place in the file on, as many as the lists hold.
+pub fn read_starts(file: &[u8], base: usize, cells: &mut [u32], begins: &mut [u32])
+    requires { ⌜ (base + 8 * length (now cells) ≤ length (now file)) × (length (now cells) ≡ length (now begins)) ⌝ }
+    ensures cells { λ r. ⌜ now (cells .exit) ≡ map (λ x. x .cell) (records 8 start-in (length (now (cells .entry))) (drop base (now (file .entry)))) ⌝ }
+    ensures begins { λ r. ⌜ now (begins .exit) ≡ map (λ x. x .time) (records 8 start-in (length (now (cells .entry))) (drop base (now (file .entry)))) ⌝ }
+{
+    let mut i = 0;
+    while i < cells.len() {
+        let at = base + 8 * i;
+        cells[i] = four_at(file, at);
+        begins[i] = four_at(file, at + 4);
+        i += 1;
+    }
+}
+
+// The slownesses of a file that was judged; later entries stay.
+pub fn fill_slow(file: &[u8], slow: &mut [u32])
+    requires { ⌜ (file-refusal (now file) ≡ 0) × (size (held (now file)) ≤ length (now slow)) ⌝ }
+    ensures { λ r. ⌜ now (slow .exit) ≡ filled 0 (held (now (file .entry)) .slow) (now (slow .entry)) ⌝ }
+{
+    let n = judge::board_size(file);
+    paint::read_slow(file, &mut slow[..n]);
+}
+
+// Its starts; later entries stay.
+fn fill_starts(file: &[u8], cells: &mut [u32], begins: &mut [u32])
+    requires { ⌜ (file-refusal (now file) ≡ 0) × (start-count (now file) ≤ length (now cells)) × (start-count (now file) ≤ length (now begins)) ⌝ }
+    ensures cells { λ r. ⌜ now (cells .exit) ≡ filled 0 (map (λ x. x .cell) (starts-in (now (file .entry)))) (now (cells .entry)) ⌝ }
+    ensures begins { λ r. ⌜ now (begins .exit) ≡ filled 0 (map (λ x. x .time) (starts-in (now (file .entry)))) (now (begins .entry)) ⌝ }
+{
+    let base = judge::starts_base(file);
+    let q = judge::start_count(file);
+    read_starts(file, base, &mut cells[..q], &mut begins[..q]);
+}
+
+// Fills the slownesses and the starts that a file holds; later entries stay. The whole file is judged first: a refused
+// one leaves the lists as they were.
+pub fn read_scenario(
+    file: &[u8],
+    slow: &mut [u32],
+    cells: &mut [u32],
+    begins: &mut [u32],
+) -> Scenario
+    ensures { λ x. ⌜ Reads (now (file .entry)) (now (slow .entry)) (now (slow .exit)) (now (cells .entry)) (now (cells .exit)) (now (begins .entry)) (now (begins .exit)) x ⌝ }
+{
+    let answer = judge::judge_scenario(file, slow.len(), shorter(cells.len(), begins.len()));
+    if answer.number != 0 {
+        return answer;
+    }
+    fill_slow(file, slow);
+    fill_starts(file, cells, begins);
+    answer
+}

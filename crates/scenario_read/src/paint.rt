@@ -1,0 +1,55 @@
+// The slownesses of a board, from the ground and the runs in a file that was judged.
+ghost use mathlib.Core.Path.{_≡_};
+ghost use mathlib.Core.Bool.{true};
+ghost use mathlib.Core.List.{_++_};
+ghost use Prim.Native.Nat.{_+_, _*_, _-_, _≤_};
+ghost use lib.ListN.{length, take, replicate};
+ghost use Rattle.scenario.specs.Runs.{painted, runs-good};
+ghost use Rattle.scenario.specs.File.{ground-in, run-count, runs-in};
+use super::judge::run_count;
+use scenario::Run;
+use scenario::bytes::two_at;
+use scenario::runs::run_at;
+use scenario::runs::run_end;
+use scenario::runs::wide;
+
+// The cells from one up to another get a slowness; those in front of them stay.
+fn fill(slow: &mut [u32], from: usize, until: usize, x: u32)
+    requires { ⌜ (from ≤ until) × (until ≤ length (now slow)) ⌝ }
+    ensures { λ r. ⌜ take until (now (slow .exit)) ≡ take from (now (slow .entry)) ++ replicate (until - from) x ⌝ }
+{
+    let mut i = from;
+    while i < until {
+        slow[i] = x;
+        i += 1;
+    }
+}
+
+// Ground up to a run, and then the run.
+fn paint(slow: &mut [u32], from: usize, ground: u32, x: Run)
+    requires { ⌜ (from ≤ x .offset) × (x .offset + x .long ≤ length (now slow)) ⌝ }
+    ensures { λ r. ⌜ take (x .offset + x .long) (now (slow .exit)) ≡ take from (now (slow .entry)) ++ (replicate (x .offset - from) ground ++ replicate (x .long) (x .slow)) ⌝ }
+{
+    let offset = wide(x.offset);
+    fill(slow, from, offset, ground);
+    fill(slow, offset, run_end(x), x.slow);
+}
+
+// A list as long as the board has cells.
+pub fn read_slow(file: &[u8], slow: &mut [u32])
+    requires { ⌜ (16 + 10 * run-count (now file) ≤ length (now file)) × (runs-good (length (now slow)) (ground-in (now file)) 0 (ground-in (now file)) (runs-in (now file)) ≡ true) ⌝ }
+    ensures { λ r. ⌜ now (slow .exit) ≡ painted (ground-in (now (file .entry))) 0 (length (now (slow .entry))) (runs-in (now (file .entry))) ⌝ }
+{
+    let ground = two_at(file, 6);
+    let count = run_count(file);
+    let mut free = 0;
+    let mut i = 0;
+    while i < count {
+        let x = run_at(file, 16 + 10 * i);
+        paint(slow, free, ground, x);
+        free = run_end(x);
+        i += 1;
+    }
+    let n = slow.len();
+    fill(slow, free, n, ground);
+}
