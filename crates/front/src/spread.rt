@@ -1,6 +1,6 @@
 // Cells hear of a neighbour's time, and are lowered to what the local rule then gives them.
 ghost use mathlib.Core.Path.{_≡_};
-ghost use mathlib.Core.Logic.{_≢_};
+ghost use mathlib.Core.Logic.{_⊎_, _≢_};
 ghost use Prim.Native.Nat.{ℕ, _+_, _-_, _*_, _/_, _≤_, _<_};
 ghost use Rattle.front.specs.Seams.{edge, seam, beyond, near};
 ghost use Rattle.front.specs.Board.{land, rule-at, tentative, Ground, Site};
@@ -8,7 +8,7 @@ ghost use Rattle.front.specs.State.{Held, Touched, Told};
 use super::Shape;
 
 // Lowers the cell e to what the rule gives it, if that is earlier.
-fn relax(
+pub fn relax(
     slow: &[u32],
     times: &[u32],
     work: &mut [u32],
@@ -20,7 +20,7 @@ fn relax(
     col: usize,
 )
     requires { ⌜ Ground shape (now slow) (now times) (now cols) (now rows) × Site shape e row col × Held (shape .cells) (now work) ⌝ }
-    ensures { λ r. ⌜ ((t : ℕ) → t < tentative (now (work .entry)) (shape .cells) e → Touched (shape .cells) (rule-at shape (now (slow .entry)) (now (times .entry))) t e (now (work .entry)) (now (work .exit))) ⌝ }
+    ensures { λ r. ⌜ ((t : ℕ) → (t ≡ 0) ⊎ (t < tentative (now (work .entry)) (shape .cells) e) → Touched (shape .cells) (rule-at shape (now (slow .entry)) (now (times .entry))) t e (now (work .entry)) (now (work .exit))) ⌝ }
 {
     let n = shape.cells;
     let v = super::sight::rule(slow, times, work, cols, rows, shape, e, row, col);
@@ -32,7 +32,7 @@ fn relax(
 }
 
 // The cell e hears of a cell whose time is t. One that is no later, and a wall, need not be looked at.
-pub fn touch(
+fn touch(
     slow: &[u32],
     times: &[u32],
     work: &mut [u32],

@@ -22,18 +22,7 @@ fn wake_row(
     let first = row * w;
     let mut col = 0;
     while col < w {
-        super::spread::touch(
-            slow,
-            times,
-            work,
-            cols,
-            rows,
-            shape,
-            first + col,
-            row,
-            col,
-            0,
-        );
+        super::spread::relax(slow, times, work, cols, rows, shape, first + col, row, col);
         col += 1;
     }
 }

@@ -34,9 +34,9 @@ module _ (n : ℕ) (v : List ℕ) (he : Held n v) (e x : ℕ) (l : e < n) where
   stored-key h = rw (getD-set-other v (2 * n + e) (n + e) x 0 (omega arith)) (⊎-elim (λ q. omega (arith, he .tied .small e l)) (λ q. omega arith) (he .tied .tied e l))
 
   module _ (L : ℕ → (ℕ → ℕ) → ℕ) (is : x ≡ L e (tentative v n)) (low : x < tentative v n e) (v' : List ℕ) (put : Put (set v (2 * n + e) x) n e x v') where
-    pub lowers : (t : ℕ) → t < tentative v n e → Touched n L t e v v'
+    pub lowers : (t : ℕ) → (t ≡ 0) ⊎ (t < tentative v n e) → Touched n L t e v v'
     lowers t h = drops (record {
-      late = h;
+      late = ⊎-elim (λ z. omega arith) (λ m. m) h;
       drop = subst (λ u. Drop n e u (tentative v n) (keys v n) (tentative v' n) (keys v' n)) is (record {
         cell = l;
         low = low;

@@ -66,7 +66,7 @@ returns-3 : tie.Need-returns-3
 returns-3 c =
     let p = c .before .before .before .before .before .before .before .before .before .before .before in
     let a = p .args in
-    c .before .before .relax .ensures (a .t) (omega (arith, c .before .before .before .before .before .before .if1 .left))
+    c .before .before .relax .ensures (a .t) (inr (omega (arith, c .before .before .before .before .before .before .if1 .left)))
 
 pub touch-spec : {M : Type 1} → statement M
 touch-spec =

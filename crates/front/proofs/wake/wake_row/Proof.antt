@@ -1,5 +1,6 @@
 -- `front::wake::wake_row` meets its contract. Assumes nothing.
 use mathlib.Core.Path.{_≡_, refl, subst, _∙_}
+use mathlib.Core.Logic.{inl}
 use mathlib.Core.List.{List}
 use Prim.Native.Nat.{ℕ, suc, _+_, _-_, _*_, _≤_}
 use native.Mathlib.Omega.{arith}
@@ -33,13 +34,13 @@ loop-holds c =
     let at : a .row * a .shape .width ≡ a .row * a .shape .width + 0 = omega arith in
     (omega arith, p .pre .1, refl, λ v ts. subst (λ k. Told (a .shape .cells) (rule-at (a .shape) (a .slow .now) (a .times .now)) 0 (cells-below k) v (a .work .now)) at ts)
 
-add-touch : tie.Need-add-touch Inv-loop μ-loop
-add-touch c =
+add-relax : tie.Need-add-relax Inv-loop μ-loop
+add-relax c =
     let p = c .before .before .before .before .before .before in
     omega (arith, rows-fit (p .pre .0) (p .pre .2), c .before .loop-test .taken)
 
-touch-requires : tie.Need-touch-requires Inv-loop μ-loop
-touch-requires c κs =
+relax-requires : tie.Need-relax-requires Inv-loop μ-loop
+relax-requires c κs =
     let p = c .before .before .before .before .before .before in
     (p .pre .0, record { cell = refl; column = omega (arith, c .before .loop-test .taken); line = p .pre .2 }, c .before .before .loop .inv .1)
 
@@ -55,7 +56,7 @@ loop-again : tie.Need-loop-again Inv-loop μ-loop
 loop-again c =
     let a = c .before .before .before .before .before .before .before .before .before .args in
     let l = c .before .before .before .before .before .loop in
-    let h = c .before .before .touch .ensures in
+    let h = c .before .before .relax .ensures 0 (inl refl) in
     let k : ℕ = a .row * a .shape .width + l .col in
     let then : a .row * a .shape .width + (l .col + 1) ≡ suc k = omega arith in (
       omega (arith, c .before .before .before .before .loop-test .taken),
@@ -82,8 +83,8 @@ wake-row-spec =
     μ-loop
     mul-first
     loop-holds
-    add-touch
-    touch-requires
+    add-relax
+    relax-requires
     add-col
     loop-less
     loop-again
