@@ -193,15 +193,16 @@ pub fn scenario(r: &mut Random, board: Board) -> Held {
 }
 
 /// How the slownesses of a board lie in its file.
-#[derive(Clone, Copy, PartialEq, Eq)]
+#[derive(Clone, Copy)]
 enum Lay {
     NoRun,
+    OneRun,
     RunACell,
     Touching,
     GroundBetween,
 }
 
-const LAYS: [Lay; 4] = [Lay::NoRun, Lay::RunACell, Lay::Touching, Lay::GroundBetween];
+const LAYS: [Lay; 5] = [Lay::NoRun, Lay::OneRun, Lay::RunACell, Lay::Touching, Lay::GroundBetween];
 
 /// A scenario of a small board, in every lay.
 pub fn small_scenario(r: &mut Random) -> Held {
@@ -226,6 +227,13 @@ pub fn scenarios_of_extreme_sides(first_seed: u64, mut each: impl FnMut(&mut Ran
     }
 }
 
+/// The scenario with the longest file: a run and a start to each of 65,536 cells.
+pub fn longest_scenario() -> Held {
+    let slow = (0..65_536).map(|c| 1 + c % 4_094).collect();
+    let (cells, begins) = ((0..65_536).collect(), vec![LATEST_START; 65_536]);
+    Held { ticks: 65_535, ground: SLOWEST, board: Board { width: 256, height: 256, slow, cells, begins } }
+}
+
 /// A scenario whose slownesses lie as said.
 fn laid_scenario(r: &mut Random, width: u32, height: u32, lay: Lay) -> Held {
     let ground = r.pick(&[0, 10, 10, 4_095]);
@@ -237,13 +245,18 @@ fn laid_scenario(r: &mut Random, width: u32, height: u32, lay: Lay) -> Held {
 fn laid(r: &mut Random, n: usize, ground: u32, lay: Lay) -> Vec<u32> {
     let mut slow = Vec::with_capacity(n);
     let mut last = ground;
+    let longest = r.pick(&[6, 40, 1_000]);
     while slow.len() < n {
         last = match lay {
             Lay::NoRun => ground,
             Lay::GroundBetween if last != ground => ground,
             _ => neither(r, ground, last),
         };
-        let length = if lay == Lay::RunACell { 1 } else { r.within(1, 6) as usize };
+        let length = match lay {
+            Lay::NoRun | Lay::OneRun => n,
+            Lay::RunACell => 1,
+            _ => r.within(1, longest) as usize,
+        };
         slow.resize(n.min(slow.len() + length), last);
     }
     slow

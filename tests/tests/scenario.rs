@@ -102,20 +102,23 @@ fn the_shortest_and_the_longest_sides_are_read_in_every_lay() {
     tally.assert_each(&READER_CAUSES, 50);
 }
 
-/// A run and a start to each of 65,536 cells, whole and wrong in its last entries.
+/// Whole, and wrong in its last entries.
 #[test]
 fn the_longest_file_is_read_to_its_end() {
-    let slow = (0..65_536).map(|c| 1 + c % 4_095).collect();
-    let (cells, begins) = ((0..65_536).collect(), vec![1_000_000; 65_536]);
-    let held = Held { ticks: 65_535, ground: 0, board: Board { width: 256, height: 256, slow, cells, begins } };
+    let held = generate::longest_scenario();
     let file = Draft::of(&held).bytes();
-    assert_eq!(file.len(), 16 + 18 * 65_536);
-    let mut tally = Tally::default();
+    let (runs_end, end) = (16 + 10 * 65_536, 16 + 18 * 65_536);
+    assert_eq!(file.len(), end);
     let lists = marked(65_536, 65_536);
-    assert!(read_and_write_again(&file, &lists, &mut tally, 0) == Some(held));
-    let (runs_end, end) = (16 + 10 * 65_536, file.len());
-    // the last run's slowness and length, the last start's cell and time
-    for (at, byte, number) in [(runs_end - 1, 0x10, 5), (runs_end - 6, 2, 6), (end - 8, 0xFE, 7), (end - 4, 0x41, 8)] {
+    assert!(read_and_write_again(&file, &lists, &mut Tally::default(), 0) == Some(held));
+    let changes = [
+        (runs_end - 1, 0x10, 5), // the last run's slowness 4,128
+        (runs_end - 6, 2, 6),    // its length 2
+        (end - 8, 0xFE, 7),      // the last start's cell is that of the start before
+        (end - 4, 0x41, 8),      // its time 1,000,001
+        (runs_end - 2, 0, 9),    // a wall under it
+    ];
+    for (at, byte, number) in changes {
         let mut damaged = file.clone();
         damaged[at] = byte;
         assert_eq!(read_both(read, &damaged, &lists, at as u64).0, Scenario::refused(number), "byte {}", at);

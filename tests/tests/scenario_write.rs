@@ -73,6 +73,22 @@ fn the_shortest_and_the_longest_sides_are_written_in_every_lay() {
     tally.assert_each(&WRITER_CAUSES, 100);
 }
 
+/// Whole, and wrong in its last entries.
+#[test]
+fn the_longest_file_is_written_to_its_end() {
+    let number = |change: &dyn Fn(&mut Board), out: usize| {
+        let mut held = generate::longest_scenario();
+        change(&mut held.board);
+        write_and_read(&mut Random::new(82_000_000), &held, out, 0).number
+    };
+    let length = 16 + 18 * 65_536;
+    assert_eq!(number(&|b| b.slow[65_535] = 4_096, length), 5);
+    assert_eq!(number(&|b| b.cells[65_535] = 65_534, length), 7);
+    assert_eq!(number(&|b| b.begins[65_535] = 1_000_001, length), 8);
+    assert_eq!(number(&|b| b.slow[65_535] = 0, length), 9);
+    assert_eq!([number(&|_| (), length - 1), number(&|_| (), length)], [14, 0]);
+}
+
 #[test]
 fn a_file_typed_by_hand_is_written() {
     let (reply, out) = write_both(write, &typed::held(), &[0xEE; 60], 0);
