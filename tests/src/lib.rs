@@ -15,6 +15,7 @@
 //! | `scenario` | the scenario file's reader and writer |
 //! | `shown` | what the tablet's call answers and what `rings` prints |
 //! | `random`, `generate` | seeded boards, calls and scenarios |
+//! | `typed` | a scenario file typed by hand |
 //! | `damage`, `drafts` | calls and files that are damaged in every way that the table names |
 //! | `lent`, `compare` | lists lent with marked entries on both sides; a call played on both solvers |
 //! | `ffi` | the engine's C names, one module to a family, so that a test links what it calls |
@@ -34,6 +35,7 @@ pub mod rule;
 pub mod scenario;
 pub mod shown;
 pub mod tiles;
+pub mod typed;
 
 /// The mark for a time that does not come.
 pub const NEVER: u32 = u32::MAX;
