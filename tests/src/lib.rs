@@ -19,11 +19,13 @@
 //! | `damage`, `drafts` | calls and files that are damaged in every way that the table names |
 //! | `lent`, `compare` | lists lent with marked entries on both sides; a call played on both solvers |
 //! | `ffi` | the engine's C names, one module to a family, so that a test links what it calls |
+//! | `declared` | the C interface as the header, the source and Rust code state it |
 
 pub mod board;
 pub mod calls;
 pub mod compare;
 pub mod damage;
+pub mod declared;
 pub mod drafts;
 pub mod ffi;
 pub mod generate;
