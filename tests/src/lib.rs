@@ -20,6 +20,7 @@
 //! | `lent`, `compare` | lists lent with marked entries on both sides; a call played on both solvers |
 //! | `ffi` | the engine's C names, one module to a family, so that a test links what it calls |
 //! | `declared` | the C interface as the header, the source and Rust code state it |
+//! | `programs` | programs that are compiled and run |
 
 pub mod board;
 pub mod calls;
@@ -32,6 +33,7 @@ pub mod generate;
 pub mod leap;
 pub mod lent;
 pub mod march;
+pub mod programs;
 pub mod random;
 pub mod rule;
 pub mod scenario;
