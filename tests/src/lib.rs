@@ -21,6 +21,7 @@
 //! | `ffi` | the engine's C names, one module to a family, so that a test links what it calls |
 //! | `declared` | the C interface as the header, the source and Rust code state it |
 //! | `programs` | programs that are compiled and run |
+//! | `stacks` | threads with small stacks, and how much of a stack a call takes |
 
 pub mod board;
 pub mod calls;
@@ -38,6 +39,7 @@ pub mod random;
 pub mod rule;
 pub mod scenario;
 pub mod shown;
+pub mod stacks;
 pub mod tiles;
 pub mod typed;
 
