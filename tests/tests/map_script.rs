@@ -42,7 +42,7 @@ fn the_maps_of_the_examples_are_their_files() {
         let stored = fs::read(map.with_extension("scenario")).expect("the map's file");
         assert_eq!(made("file", &text), stored, "{}", map.display());
         let drawn = made("text", &stored);
-        let again = many(&["text", "file", "text"], &[stored.clone()]);
+        let again = many(&["text", "file", "text"], std::slice::from_ref(&stored));
         assert_eq!(again, [drawn.clone(), stored, drawn], "{}, drawn by the script", map.display());
     }
 }
