@@ -8,7 +8,6 @@ ghost use Rattle.front.specs.Seams.{border, near};
 ghost use Rattle.front.specs.Board.{land, rule-at, tentative, noted, Ground};
 ghost use Rattle.front.specs.State.{Held, Announced};
 use super::Shape;
-use super::seams::BORDER;
 
 fn wide(x: u32) -> usize
     ensures { λ r. ⌜ r ≡ x ⌝ }
@@ -46,7 +45,7 @@ pub fn announce(
     let mut i = 0;
     while i < m {
         let c = wide(work[3 * n + i]);
-        super::spread::tell(slow, times, work, cols, rows, shape, c, times[c], BORDER);
+        super::spread::tell_others(slow, times, work, cols, rows, shape, c, times[c]);
         i += 1;
     }
 }

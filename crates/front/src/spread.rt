@@ -1,11 +1,15 @@
 // Cells hear of a neighbour's time, and are lowered to what the local rule then gives them.
 ghost use mathlib.Core.Path.{_≡_};
 ghost use mathlib.Core.Logic.{_⊎_, _≢_};
-ghost use Prim.Native.Nat.{ℕ, _+_, _-_, _*_, _/_, _≤_, _<_};
-ghost use Rattle.front.specs.Seams.{edge, seam, beyond, near};
+ghost use Prim.Native.Nat.{ℕ, _+_, _-_, _*_, _/_, _≤_, _<_, min};
+ghost use lib.Dec.{eqb};
+ghost use lib.ListN.{getD};
+ghost use Rattle.front.specs.Seams.{edge, border, inside, seam, beyond, near};
 ghost use Rattle.front.specs.Board.{land, rule-at, tentative, Ground, Site};
 ghost use Rattle.front.specs.State.{Held, Touched, Told};
 use super::Shape;
+use super::seams::BORDER;
+use super::seams::INSIDE;
 
 // Lowers the cell e to what the rule gives it, if that is earlier.
 pub fn relax(
@@ -176,4 +180,43 @@ pub fn tell(
     tell_right(slow, times, work, cols, rows, shape, c, row, col, t, kind);
     tell_above(slow, times, work, cols, rows, shape, c, row, col, t, kind);
     tell_below(slow, times, work, cols, rows, shape, c, row, col, t, kind);
+}
+
+fn lesser(a: u8, b: u8) -> u8
+    ensures { λ r. ⌜ r ≡ min a b ⌝ }
+{
+    if a < b { a } else { b }
+}
+
+// Whether all four seams around a cell are inside its tile. One branch is compiled: an inside seam is the greatest.
+fn inner(cols: &[u8; 257], rows: &[u8; 257], row: usize, col: usize) -> bool
+    requires { ⌜ (row < 256) × (col < 256) ⌝ }
+    ensures { λ r. ⌜ r ≡ eqb (min (min (getD (now (cols .entry)) col 0) (getD (now (cols .entry)) (col + 1) 0)) (min (getD (now (rows .entry)) row 0) (getD (now (rows .entry)) (row + 1) 0))) inside ⌝ }
+{
+    let beside = lesser(cols[col], cols[col + 1]);
+    let over = lesser(rows[row], rows[row + 1]);
+    lesser(beside, over) == INSIDE
+}
+
+// The neighbours of c in other tiles hear of it. Most cells have none.
+pub fn tell_others(
+    slow: &[u32],
+    times: &[u32],
+    work: &mut [u32],
+    cols: &[u8; 257],
+    rows: &[u8; 257],
+    shape: Shape,
+    c: usize,
+    t: u32,
+)
+    requires { ⌜ Ground shape (now slow) (now times) (now cols) (now rows) × Held (shape .cells) (now work) × (c < shape .cells) ⌝ }
+    ensures { λ r. ⌜ Told (shape .cells) (rule-at shape (now (slow .entry)) (now (times .entry))) t (near (land shape (now (slow .entry))) (shape .across) (shape .down) border c) (now (work .entry)) (now (work .exit)) ⌝ }
+{
+    let w = shape.width;
+    let row = row_of(c, w);
+    let col = c - row * w;
+    if inner(cols, rows, row, col) {
+        return;
+    }
+    tell(slow, times, work, cols, rows, shape, c, t, BORDER);
 }

@@ -2,7 +2,7 @@
 use mathlib.Core.Path.{_≡_, refl, sym, ap, subst, _∙_}
 use mathlib.Core.Logic.{_⊎_, inl, inr, ⊎-elim, _≢_}
 use mathlib.Core.List.{List, [], _∷_}
-use Prim.Native.Nat.{ℕ, zero, suc, _+_, _*_, _-_, _/_, _%_, _≤_, _<_}
+use Prim.Native.Nat.{ℕ, zero, suc, _+_, _*_, _-_, _/_, _%_, _≤_, _<_, min}
 use native.Mathlib.Omega.{arith}
 use native.Mathlib.Nat.{div-add-mod', mod-lt, mul-le-mul-right}
 use native.Mathlib.Numerals.{add-one}
@@ -14,7 +14,7 @@ use Rattle.eikonal.proofs.Levels.{order}
 use Rattle.queue.specs.Tree.{Tree, keys, Put}
 use Rattle.queue.proofs.Tree.{tree-past}
 use Rattle.front.specs.Front.{Tied, Drop}
-use Rattle.front.specs.Seams.{edge, seam, beyond, near}
+use Rattle.front.specs.Seams.{edge, border, inside, seam, beyond, near}
 use Rattle.front.specs.Board.{land, tentative, Laid, Ground, Site}
 use Rattle.front.specs.State.{Held, Dropped, Touched, stays, drops, Told, all, next}
 use Rattle.front.specs.declared.Shape.{Shape}
@@ -151,3 +151,16 @@ module _ (s : Shape) (slow ts cols rows : List ℕ) (gr : Ground s slow ts cols 
             ∷ [])
             (near (land s slow) (s .across) (s .down) k c)
         listed = rw (col-is s slow ts cols rows gr c row col si, row-is s slow ts cols rows gr c row col si, gr .cells, add-one col, add-one row, add-one c)
+
+    -- ---- behind inside seams there is nobody to tell in other tiles
+    pub near-none : (L : ℕ → (ℕ → ℕ) → ℕ) (t : ℕ) (v : List ℕ) → min (min (getD cols col 0) (getD cols (col + 1) 0)) (min (getD rows row 0) (getD rows (row + 1) 0)) ≡ inside
+        → Told (s .cells) L t (near (land s slow) (s .across) (s .down) border c) v v
+    near-none L t v q =
+        near-told L t border v v v v v
+        (not-across border _ (c - 1) (λ z. apart (gr .columns col (omega (arith, si .column))) z (omega arith)))
+        (not-across border _ (c + 1) (λ z. apart (gr .columns (col + 1) (omega (arith, si .column))) z (omega arith)))
+        (not-across border _ (c - s .width) (λ z. apart (gr .lines row (omega (arith, si .line))) z (omega arith)))
+        (not-across border _ (c + s .width) (λ z. apart (gr .lines (row + 1) (omega (arith, si .line))) z (omega arith)))
+      where
+        apart : {x y : ℕ} → x ≡ y → y ≡ border → inside ≤ x → ⊥
+        apart e z l = omega arith

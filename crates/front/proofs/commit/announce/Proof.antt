@@ -54,23 +54,23 @@ slice-read-wide c =
 wide-requires : tie.Need-wide-requires Inv-loop μ-loop
 wide-requires c κs = tt
 
-mul-tell : tie.Need-mul-tell Inv-loop μ-loop
-mul-tell c =
+mul-tell-others : tie.Need-mul-tell-others Inv-loop μ-loop
+mul-tell-others c =
     let p = c .before .before .before .before .before .before .before .before in
     let a = p .args in
     omega (arith, cells-most (a .shape) (a .slow .now) (a .times .now) (a .cols .now) (a .rows .now) (p .pre .0), p .pre .3 (c .before .before .before .before .loop .i) (c .before .before .before .loop-test .taken), (c .before .wide .ensures ∙ announced-rest (c .before .before .before .before .loop .inv .2) (3 * a .shape .cells + c .before .before .before .before .loop .i) (omega arith)))
 
-shared-slice-read-tell : tie.Need-shared-slice-read-tell Inv-loop μ-loop
-shared-slice-read-tell c =
+shared-slice-read-tell-others : tie.Need-shared-slice-read-tell-others Inv-loop μ-loop
+shared-slice-read-tell-others c =
     let p = c .before .before .before .before .before .before .before .before .before in
     let a = p .args in
     omega (arith, p .pre .0 .many, p .pre .3 (c .before .before .before .before .before .loop .i) (c .before .before .before .before .loop-test .taken), (c .before .before .wide .ensures ∙ announced-rest (c .before .before .before .before .before .loop .inv .2) (3 * a .shape .cells + c .before .before .before .before .before .loop .i) (omega arith)))
 
-tell-requires : tie.Need-tell-requires Inv-loop μ-loop
-tell-requires c κs =
+tell-others-requires : tie.Need-tell-others-requires Inv-loop μ-loop
+tell-others-requires c κs =
     let p = c .before .before .before .before .before .before .before .before .before in
     let a = p .args in
-    (p .pre .0, c .before .before .before .before .before .loop .inv .1, omega (arith, p .pre .3 (c .before .before .before .before .before .loop .i) (c .before .before .before .before .loop-test .taken), (c .before .before .wide .ensures ∙ announced-rest (c .before .before .before .before .before .loop .inv .2) (3 * a .shape .cells + c .before .before .before .before .before .loop .i) (omega arith))), λ z. omega arith)
+    (p .pre .0, c .before .before .before .before .before .loop .inv .1, omega (arith, p .pre .3 (c .before .before .before .before .before .loop .i) (c .before .before .before .before .loop-test .taken), (c .before .before .wide .ensures ∙ announced-rest (c .before .before .before .before .before .loop .inv .2) (3 * a .shape .cells + c .before .before .before .before .before .loop .i) (omega arith))))
 
 add-i : tie.Need-add-i Inv-loop μ-loop
 add-i c =
@@ -89,8 +89,8 @@ loop-again c =
     let on = p .pre .3 (l .i) (c .before .before .before .before .before .before .before .loop-test .taken) in
     let at : c .before .before .before .before .before .wide .result ≡ noted (a .work .now) (a .shape .cells) (l .i) = c .before .before .before .before .before .wide .ensures ∙ announced-rest (l .inv .2) (3 * a .shape .cells + l .i) (omega arith) in (
       omega arith,
-      told-held (a .shape .cells) (rule-at (a .shape) (a .slow .now) (a .times .now)) _ (l .inv .1) (c .before .before .tell .ensures),
-      announced-more (a .shape .cells) (rule-at (a .shape) (a .slow .now) (a .times .now)) (time (a .times .now)) (noted (a .work .now) (a .shape .cells)) (λ e. near (land (a .shape) (a .slow .now)) (a .shape .across) (a .shape .down) border e) (l .i) _ _ (a .work .now) (l .work) _ (l .inv .2) at (sym (time-at (a .times .now) _ (omega (arith, at, on, p .pre .0 .many)))) (c .before .before .tell .ensures),
+      told-held (a .shape .cells) (rule-at (a .shape) (a .slow .now) (a .times .now)) _ (l .inv .1) (c .before .before .tell-others .ensures),
+      announced-more (a .shape .cells) (rule-at (a .shape) (a .slow .now) (a .times .now)) (time (a .times .now)) (noted (a .work .now) (a .shape .cells)) (λ e. near (land (a .shape) (a .slow .now)) (a .shape .across) (a .shape .down) border e) (l .i) _ _ (a .work .now) (l .work) _ (l .inv .2) at (sym (time-at (a .times .now) _ (omega (arith, at, on, p .pre .0 .many)))) (c .before .before .tell-others .ensures),
     )
 
 same-length : tie.Need-same-length Inv-loop μ-loop
@@ -116,9 +116,9 @@ announce-spec =
     mul-wide-2
     slice-read-wide
     wide-requires
-    mul-tell
-    shared-slice-read-tell
-    tell-requires
+    mul-tell-others
+    shared-slice-read-tell-others
+    tell-others-requires
     add-i
     loop-less
     loop-again
