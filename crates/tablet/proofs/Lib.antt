@@ -1,0 +1,5 @@
+mod SmallFiles
+mod Orders
+mod Runs
+mod TimesBytes
+mod Answers
