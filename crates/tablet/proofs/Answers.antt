@@ -1,17 +1,16 @@
 -- What the tablet's call answers and leaves. Assumes nothing.
-use mathlib.Core.Path.{_≡_, refl, sym, ap, _∙_}
-use mathlib.Core.Bool.{Bool, true, false, _&&_, _||_, cond, true≢false}
+use mathlib.Core.Path.{_≡_, refl, ap}
+use mathlib.Core.Bool.{Bool, true, false, _&&_, _||_, cond}
 use mathlib.Core.List.{List, _++_}
-use Prim.Native.Nat.{ℕ, suc, _*_, _≤_}
+use Prim.Native.Nat.{ℕ, _*_, _≤_}
 use native.Mathlib.Omega.{arith}
 use lib.Dec.{ltb, eqb}
 use lib.ListN.{length, drop}
 use borrow.Author.Tests.{eq-eqb, ne-eqb, eqb-false, ltb-false}
-use Rattle.eikonal.specs.Board.{size, largest, marched}
+use Rattle.eikonal.specs.Board.{size, largest}
 use Rattle.eikonal.specs.Tiles.{rounds}
 use Rattle.eikonal.specs.Refusals.{side-good}
 use Rattle.eikonal.proofs.Good.{and-true, or-false}
-use Rattle.scenario.specs.Bytes.{four-bytes, bytes-of}
 use Rattle.scenario.specs.File.{held}
 use Rattle.scenario.proofs.Causes.{passed, or-else-zero}
 use Rattle.scenario.proofs.Answers.{kept, part-entered}

@@ -1,4 +1,5 @@
 mod SmallFiles
+mod Parts
 mod Orders
 mod Runs
 mod TimesBytes

@@ -1,5 +1,5 @@
 -- Files with sides to 32: what one that is not refused has, and the board that it holds. Assumes nothing.
-use mathlib.Core.Path.{_≡_, refl, sym, ap, _∙_}
+use mathlib.Core.Path.{_≡_, refl, sym, _∙_}
 use mathlib.Core.Bool.{Bool, true, false, _||_, cond, true≢false}
 use mathlib.Core.List.{List, map}
 use Prim.Native.Nat.{ℕ, _*_, _≤_}
@@ -67,6 +67,11 @@ starts-few f s =
 -- ---- its board, as it is handed on in plain lists
 unfoldable pub handed : List ℕ → Plain
 handed f = plain (width-in f) (height-in f) (held f .slow) (map (λ x. x .cell) (starts-in f)) (map (λ x. x .time) (starts-in f))
+
+pub handed-is : (f : List ℕ) (w h : ℕ) (slow cells begins : List ℕ) → w ≡ width-in f → h ≡ height-in f → slow ≡ held f .slow
+    → cells ≡ map (λ x. x .cell) (starts-in f) → begins ≡ map (λ x. x .time) (starts-in f) → plain w h slow cells begins ≡ handed f
+unfolding handed
+handed-is f w h slow cells begins a b c d e = λ i. plain (a i) (b i) (c i) (d i) (e i)
 
 pub handed-board : (f : List ℕ) → board (handed f) ≡ held f
 unfolding handed board plain held

@@ -70,7 +70,7 @@ pub fn tablet_run(file: &[u8], stride: u32, across: u32, down: u32, out: &mut [u
         return number as u64;
     }
     let n = board_size(file);
-    let mut times = [0u32; 1024];
+    let mut times = run::entries();
     let rounds = run::run_file(file, stride, across, down, &mut times[..n]);
     let bytes = 4 * n;
     put_times(&mut out[..bytes], &times[..n]);

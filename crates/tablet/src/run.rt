@@ -13,6 +13,19 @@ use scenario_read::judge;
 
 const HORIZON: u32 = 6000000;
 
+// Zeros for a list of so many cells. Only the length is told: no entry is read before it is written.
+pub fn entries() -> [u32; 1024]
+    ensures { λ r. ⌜ length r ≡ 1024 ⌝ }
+{
+    [0; 1024]
+}
+
+fn work_entries() -> [u32; 4096]
+    ensures { λ r. ⌜ length r ≡ 4096 ⌝ }
+{
+    [0; 4096]
+}
+
 // How many tiles of a side lie along a side of the board.
 fn tiles_along(side: u32, tile: u32) -> usize
     requires { ⌜ (side ≤ 32) × (1 ≤ tile) × (tile ≤ 256) ⌝ }
@@ -51,10 +64,10 @@ fn run_board(
     ensures rounds { λ r. ⌜ r ≡ rounds (board (plain width height (now (slow .entry)) (now (cells .entry)) (now (begins .entry)))) across down stride horizon ⌝ }
     ensures times { λ r. ⌜ now (times .exit) ≡ marched (board (plain width height (now (slow .entry)) (now (cells .entry)) (now (begins .entry)))) horizon ⌝ }
 {
-    let mut order = [0u32; 1024];
+    let mut order = entries();
     let tiles = tiles_along(width, across) * tiles_along(height, down);
     rise(&mut order[..tiles]);
-    let mut work = [0u32; 4096];
+    let mut work = work_entries();
     let reply = engine::calls::tile_run(
         width,
         height,
@@ -72,25 +85,29 @@ fn run_board(
     reply.count
 }
 
-// The board of a file that was judged, with a list as long as it has cells. Answers the rounds.
-pub fn run_file(file: &[u8], stride: u32, across: u32, down: u32, times: &mut [u32]) -> u32
-    requires board { ⌜ (small-refusal (now file) ≡ 0) × (length (now times) ≡ size (held (now file))) ⌝ }
+// The board of a file that was judged, whose slownesses were read. Times are as many as it has cells.
+fn run_starts(
+    file: &[u8],
+    slow: &[u32],
+    stride: u32,
+    across: u32,
+    down: u32,
+    times: &mut [u32],
+) -> u32
+    requires board { ⌜ (small-refusal (now file) ≡ 0) × (now slow ≡ held (now file) .slow) × (length (now times) ≡ size (held (now file))) ⌝ }
     requires tiles { ⌜ Tiled stride across down ⌝ }
     ensures rounds { λ r. ⌜ r ≡ rounds (held (now (file .entry))) across down stride horizon ⌝ }
     ensures times { λ r. ⌜ now (times .exit) ≡ marched (held (now (file .entry))) horizon ⌝ }
 {
-    let n = judge::board_size(file);
     let q = judge::start_count(file);
     let base = judge::starts_base(file);
-    let mut slow = [0u32; 1024];
-    let mut cells = [0u32; 1024];
-    let mut begins = [0u32; 1024];
-    scenario_read::fill_slow(file, &mut slow[..n]);
+    let mut cells = entries();
+    let mut begins = entries();
     scenario_read::read_starts(file, base, &mut cells[..q], &mut begins[..q]);
     run_board(
         two_at(file, 0),
         two_at(file, 2),
-        &slow[..n],
+        slow,
         &cells[..q],
         &begins[..q],
         stride,
@@ -98,4 +115,17 @@ pub fn run_file(file: &[u8], stride: u32, across: u32, down: u32, times: &mut [u
         down,
         times,
     )
+}
+
+// The board of a file that was judged, with as many times as it has cells. Answers the rounds.
+pub fn run_file(file: &[u8], stride: u32, across: u32, down: u32, times: &mut [u32]) -> u32
+    requires board { ⌜ (small-refusal (now file) ≡ 0) × (length (now times) ≡ size (held (now file))) ⌝ }
+    requires tiles { ⌜ Tiled stride across down ⌝ }
+    ensures rounds { λ r. ⌜ r ≡ rounds (held (now (file .entry))) across down stride horizon ⌝ }
+    ensures times { λ r. ⌜ now (times .exit) ≡ marched (held (now (file .entry))) horizon ⌝ }
+{
+    let n = times.len();
+    let mut slow = entries();
+    scenario_read::fill_slow(file, &mut slow);
+    run_starts(file, &slow[..n], stride, across, down, times)
 }

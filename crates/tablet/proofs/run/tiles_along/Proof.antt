@@ -1,5 +1,5 @@
 -- `tablet::run::tiles_along` meets its contract. Assumes nothing.
-use mathlib.Core.Path.{_≡_, refl}
+use mathlib.Core.Path.{refl}
 use Prim.Native.Nat.{ℕ, suc, _+_, _*_, _-_, _/_, _≤_, _<_}
 use native.Mathlib.Nat.{mul-le-mul, le-refl, div-lt-iff-lt-mul}
 use native.Mathlib.Omega.{arith}
