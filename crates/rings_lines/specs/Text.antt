@@ -1,0 +1,14 @@
+-- Numbers as text. A byte is a number: 48 is `0`. Assumes nothing: these are definitions.
+use mathlib.Core.Bool.{cond}
+use mathlib.Core.List.{List, [], _∷_, _++_}
+use Prim.Native.Nat.{ℕ, zero, suc, _+_, _/_, _%_}
+use lib.Dec.{ltb}
+
+-- decimal digits with no zero in front, so many at most
+unfoldable pub digits : (most : ℕ) → ℕ → List ℕ
+digits zero x = []
+digits (suc k) x = cond (ltb x 10) ((48 + x) ∷ []) (digits k (x / 10) ++ ((48 + x % 10) ∷ []))
+
+-- a number of 32 bits has 10 at most
+unfoldable pub decimal : ℕ → List ℕ
+decimal x = digits 10 x
