@@ -1,2 +1,3 @@
 mod Stores
 mod Texts
+mod Rows

@@ -24,7 +24,7 @@ rows w k c [] = []
 rows w k c (t ∷ ts) = (turn-text k t ++ (behind w c ∷ [])) ++ rows w k (c + 1) ts
 
 unfoldable pub head-line : (wide high ticks : ℕ) → List ℕ
-head-line w h k = (decimal w ++ (32 ∷ [])) ++ (decimal h ++ (32 ∷ [])) ++ (decimal k ++ (10 ∷ []))
+head-line w h k = (decimal w ++ (32 ∷ [])) ++ ((decimal h ++ (32 ∷ [])) ++ (decimal k ++ (10 ∷ [])))
 
 -- `refused`, a space and the number
 unfoldable pub refused-line : (number : ℕ) → List ℕ
