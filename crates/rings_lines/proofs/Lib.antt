@@ -1,3 +1,4 @@
 mod Stores
 mod Texts
 mod Rows
+mod Answers

@@ -1,5 +1,5 @@
-mod SmallFiles
-mod Parts
+pub mod SmallFiles
+pub mod Parts
 mod Orders
 mod Runs
 mod TimesBytes

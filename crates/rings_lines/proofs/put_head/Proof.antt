@@ -32,9 +32,9 @@ returns c =
     let y = decimal (a .height) ++ (32 ∷ []) in
     let z = decimal (a .ticks) ++ (10 ∷ []) in
     let place = r .ensures .0 ∙ then-place y (p .last .0) (q .last .0) (p .result) (q .result) (q .ensures .0) (q .ensures .1 .0) z
-          ∙ then-place x (a .out .now) (p .last .0) 0 (p .result) (p .ensures .0) (p .ensures .1 .0) (y ++ z) in
+    ∙ then-place x (a .out .now) (p .last .0) 0 (p .result) (p .ensures .0) (p .ensures .1 .0) (y ++ z) in
     let bytes = r .ensures .1 .0 ∙ then-bytes y (p .last .0) (q .last .0) (p .result) (q .result) (q .ensures .0) (q .ensures .1 .0) z
-          ∙ then-bytes x (a .out .now) (p .last .0) 0 (p .result) (p .ensures .0) (p .ensures .1 .0) (y ++ z) in
+    ∙ then-bytes x (a .out .now) (p .last .0) 0 (p .result) (p .ensures .0) (p .ensures .1 .0) (y ++ z) in
     (omega (arith, place), (bytes, omega (arith, p .ensures .1 .1, q .ensures .1 .1, r .ensures .1 .1)))
 
 pub put-head-spec : {M : Type 1} → statement M
