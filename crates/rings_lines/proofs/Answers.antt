@@ -33,14 +33,16 @@ lines-refused f k e n = rw (← e, ne-eqb k 0 n) refl
 
 -- ---- the answer
 pub says-short : (f out : List ℕ) → length out < room → Rings-says f out out 0
-says-short f out h = record { answers = rw (lt-ltb (length out) room h) refl; leaves = rw (lt-ltb (length out) room h) refl; within = refl }
+says-short f out h = record { answers = rw (lt-ltb (length out) room h) refl; leaves = rw (lt-ltb (length out) room h) refl; within = omega arith; counts = refl }
 
 pub says-lines : (f out now xs : List ℕ) (r : ℕ) → room ≤ length out → xs ≡ lines f → r ≡ length xs → now ≡ sets out 0 xs → r ≤ length out → Rings-says f out now r
 says-lines f out now xs r h e p b m =
     let fits : 0 + length xs ≤ length out = omega arith in
     let none : 0 + length xs ≡ length xs = omega arith in
+    let within : r ≤ length now = omega (arith, ap length b, length-sets out 0 xs) in
     record {
       answers = rw (le-ltb (length out) room h) (p ∙ ap length e);
       leaves = rw (le-ltb (length out) room h) (b ∙ sets-eq xs out 0 fits ∙ ap (λ u. xs ++ drop u out) none ∙ ap (λ u. u ++ drop (length u) out) e);
-      within = sym (length-take-le r now (omega (arith, ap length b, length-sets out 0 xs)));
+      within = within;
+      counts = sym (length-take-le r now within);
     }

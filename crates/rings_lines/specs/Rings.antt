@@ -2,7 +2,7 @@
 use mathlib.Core.Path.{_≡_}
 use mathlib.Core.Bool.{cond}
 use mathlib.Core.List.{List, [], _∷_, _++_}
-use Prim.Native.Nat.{ℕ, _+_, _%_}
+use Prim.Native.Nat.{ℕ, _+_, _%_, _≤_}
 use lib.Dec.{ltb, eqb}
 use lib.ListN.{length, take, drop}
 use Rattle.eikonal.specs.Board.{never, marched}
@@ -50,4 +50,6 @@ room = 11300
 pub record Rings-says (f out out-now : List ℕ) (r : ℕ) : Type 0 where
   pub answers : r ≡ cond (ltb (length out) room) 0 (length (lines f))
   pub leaves : out-now ≡ cond (ltb (length out) room) out (lines f ++ drop (length (lines f)) out)
-  pub within : r ≡ length (take r out-now)
+  -- these two follow from the others: whoever lends the first r bytes on finds them here
+  pub within : r ≤ length out-now
+  pub counts : r ≡ length (take r out-now)
