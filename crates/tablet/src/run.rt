@@ -1,4 +1,4 @@
-// The run of a small board, tiles in rising order. Every list that it needs is a local one: 36 KiB with those of the engine.
+// The run of a small board, tiles in rising order. Every list that it needs is a local one: 32 KiB, beside the caller's times.
 ghost use mathlib.Core.Path.{_≡_};
 ghost use Prim.Native.Nat.{ℕ, _*_, _≤_, _<_};
 ghost use lib.ListN.{length, getD};

@@ -1,11 +1,8 @@
 -- `rings_lines::put_turn` meets its contract. Assumes nothing.
-use mathlib.Core.Path.{refl, sym, ap, _∙_}
-use mathlib.Core.List.{[], _∷_, _++_}
-use Prim.Native.Nat.{_+_}
+use mathlib.Core.Path.{refl}
 use native.Mathlib.Numerals.{add-one}
 use native.Mathlib.Omega.{arith}
-use lib.ListN.{length, length-set}
-use lib.Seq.{sets}
+use lib.ListN.{length-set}
 use borrow.Author.Needs.{needs}
 use Rattle.rings_lines.proofs.Rows.{text-never, text-turn}
 use Rattle.rings_lines.proofs.put_turn.Statement.{statement}
