@@ -11,14 +11,15 @@ use Rattle.scenario.specs.Calls.{turn-of}
 use Rattle.tablet.specs.Small.{horizon, small-refusal}
 use Rattle.rings_lines.specs.Text.{decimal}
 
--- 32 is a space, 10 a newline, 45 is `-`
+-- the turn of a time, `-` for never. 32 is a space, 10 a newline, 45 is `-`
 unfoldable pub turn-text : (ticks time : ℕ) → List ℕ
 turn-text k t = cond (eqb (turn-of t k) never) (45 ∷ []) (decimal (turn-of t k))
 
--- the field of cell c, with a newline behind it where a row ends and else a space
+-- behind the field of cell c: a newline where a row ends, else a space
 unfoldable pub behind : (wide c : ℕ) → ℕ
 behind w c = cond (eqb ((c + 1) % w) 0) 10 32
 
+-- a field for each time, from cell c on
 unfoldable pub rows : (wide ticks c : ℕ) → (times : List ℕ) → List ℕ
 rows w k c [] = []
 rows w k c (t ∷ ts) = (turn-text k t ++ (behind w c ∷ [])) ++ rows w k (c + 1) ts

@@ -15,14 +15,14 @@ use Rattle.scenario.specs.File.{held}
 use Rattle.scenario.proofs.Causes.{passed, or-else-zero}
 use Rattle.scenario.proofs.Answers.{kept, part-entered}
 use Rattle.tablet.specs.Small.{horizon, small-refusal, Tiled}
-use Rattle.tablet.specs.Tablet.{tiles-refusal, tablet-refusal, tablet-answer, times-bytes, Tablet-says}
+use Rattle.tablet.specs.Tablet.{tiling-refusal, tablet-refusal, tablet-answer, times-bytes, Tablet-says}
 
 eleven : (p : Bool) → cond {A = ℕ} p 0 11 ≡ 0 → p ≡ true
 eleven true e = refl
 eleven false e = absurd (omega arith)
 
-pub tiled : (s tw th : ℕ) → tiles-refusal s tw th ≡ 0 → Tiled s tw th
-unfolding tiles-refusal
+pub tiled : (s tw th : ℕ) → tiling-refusal s tw th ≡ 0 → Tiled s tw th
+unfolding tiling-refusal
 tiled s tw th e =
     let r = passed (eqb s 0 || ltb largest s) 9 _ e in
     let q = or-false (eqb s 0) (ltb largest s) (r .0) in
@@ -42,7 +42,7 @@ pub taken : (f : List ℕ) (s tw th n : ℕ) → tablet-refusal f s tw th n ≡ 
 unfolding tablet-refusal
 taken f s tw th n e =
     let r = or-else-zero (small-refusal f) _ e in
-    let q = or-else-zero (tiles-refusal s tw th) _ (r .1) in
+    let q = or-else-zero (tiling-refusal s tw th) _ (r .1) in
     record { accepted = r .0; tiles = tiled s tw th (q .0); room = ltb-false n (4 * size (held f)) (passed (ltb n (4 * size (held f))) 13 0 (q .1) .0) }
 
 module _ (f : List ℕ) (s tw th : ℕ) (out : List ℕ) (k : ℕ) (e : k ≡ tablet-refusal f s tw th (length out)) where

@@ -14,13 +14,13 @@ use Rattle.scenario.specs.Calls.{filled}
 use Rattle.tablet.specs.Small.{horizon, small-refusal}
 
 -- 10, 11: the stride, the tiles' sides
-unfoldable pub tiles-refusal : (stride across down : ℕ) → ℕ
-tiles-refusal s tw th = cond (eqb s 0 || ltb largest s) 10 (cond (side-good tw && side-good th) 0 11)
+unfoldable pub tiling-refusal : (stride across down : ℕ) → ℕ
+tiling-refusal s tw th = cond (eqb s 0 || ltb largest s) 10 (cond (side-good tw && side-good th) 0 11)
 
 -- and 14: an output under 4 N bytes
 unfoldable pub tablet-refusal : (file : List ℕ) → (stride across down out : ℕ) → ℕ
 tablet-refusal f s tw th n =
-    or-else (small-refusal f) (or-else (tiles-refusal s tw th) (cond (ltb n (4 * size (held f))) 14 0))
+    or-else (small-refusal f) (or-else (tiling-refusal s tw th) (cond (ltb n (4 * size (held f))) 14 0))
 
 -- a bare refusal, or the rounds × 256
 unfoldable pub tablet-answer : (file : List ℕ) → (stride across down : ℕ) → (refusal : ℕ) → ℕ

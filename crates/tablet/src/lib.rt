@@ -6,14 +6,14 @@ ghost use mathlib.Core.Path.{_≡_};
 ghost use Prim.Native.Nat.{_*_};
 ghost use lib.ListN.{length};
 ghost use Rattle.scenario.specs.Bytes.{four-bytes, bytes-of};
-ghost use Rattle.tablet.specs.Tablet.{tiles-refusal, tablet-refusal, Tablet-says};
+ghost use Rattle.tablet.specs.Tablet.{tiling-refusal, tablet-refusal, Tablet-says};
 use eikonal::refusals::side_good;
 use scenario::bytes::put_four;
 use scenario_read::judge::board_size;
 
 // 10 and 11.
-fn tiles_refusal(stride: u32, across: u32, down: u32) -> u32
-    ensures { λ r. ⌜ r ≡ tiles-refusal stride across down ⌝ }
+fn tiling_refusal(stride: u32, across: u32, down: u32) -> u32
+    ensures { λ r. ⌜ r ≡ tiling-refusal stride across down ⌝ }
 {
     if stride == 0 {
         return 10;
@@ -38,9 +38,9 @@ fn tablet_refusal(file: &[u8], stride: u32, across: u32, down: u32, room: usize)
     if number != 0 {
         return number;
     }
-    let tiles = tiles_refusal(stride, across, down);
-    if tiles != 0 {
-        return tiles;
+    let tiling = tiling_refusal(stride, across, down);
+    if tiling != 0 {
+        return tiling;
     }
     if room < 4 * board_size(file) {
         return 14;

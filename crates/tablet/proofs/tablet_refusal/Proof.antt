@@ -11,7 +11,7 @@ use Rattle.eikonal.specs.Board.{size}
 use Rattle.scenario.specs.File.{held}
 use Rattle.scenario.proofs.Causes.{or-else-first, or-else-next}
 use Rattle.tablet.specs.Small.{small-refusal}
-use Rattle.tablet.specs.Tablet.{tiles-refusal, tablet-refusal}
+use Rattle.tablet.specs.Tablet.{tiling-refusal, tablet-refusal}
 use Rattle.tablet.proofs.SmallFiles.{Small, small, cells-few}
 use Rattle.tablet.proofs.tablet_refusal.Statement.{statement}
 use Rattle.tablet.proofs.tablet_refusal.Tie as tie
@@ -25,14 +25,14 @@ returns c =
     let k = c .before .small-refusal in
     k .ensures ∙ sym (or-else-first _ _ (λ q. c .if1 .taken (k .ensures ∙ q)))
 
-tiles-refusal-requires : tie.Need-tiles-refusal-requires
-tiles-refusal-requires c κs = search needs
+tiling-refusal-requires : tie.Need-tiling-refusal-requires
+tiling-refusal-requires c κs = search needs
 
 returns-2 : tie.Need-returns-2
 unfolding tablet-refusal
 returns-2 c =
     let k = c .before .before .before .small-refusal in
-    let t = c .before .tiles-refusal in
+    let t = c .before .tiling-refusal in
     t .ensures ∙ sym (or-else-next _ _ (sym (k .ensures) ∙ c .before .before .if1 .left) ∙ or-else-first _ _ (λ q. c .if2 .taken (t .ensures ∙ q)))
 
 -- the file is small
@@ -48,7 +48,7 @@ mul-if3 c =
     omega (arith, cells-few _ s, c .board-size .ensures)
 
 -- 14, or nothing
-last : (f : List ℕ) (s tw th n k t : ℕ) → k ≡ small-refusal f → k ≡ 0 → t ≡ tiles-refusal s tw th → t ≡ 0
+last : (f : List ℕ) (s tw th n k t : ℕ) → k ≡ small-refusal f → k ≡ 0 → t ≡ tiling-refusal s tw th → t ≡ 0
     → tablet-refusal f s tw th n ≡ cond (ltb n (4 * size (held f))) 14 0
 unfolding tablet-refusal
 last f s tw th n k t e z d y = or-else-next _ _ (sym e ∙ z) ∙ or-else-next _ _ (sym d ∙ y)
@@ -57,14 +57,14 @@ returns-3 : tie.Need-returns-3
 returns-3 c =
     let a = c .before .before .before .before .before .before .before .args in
     let b = c .before .board-size in
-    sym (last (a .file .now) (a .stride) (a .across) (a .down) (a .room) _ _ (c .before .before .before .before .before .small-refusal .ensures) (c .before .before .before .before .if1 .left) (c .before .before .before .tiles-refusal .ensures) (c .before .before .if2 .left)
+    sym (last (a .file .now) (a .stride) (a .across) (a .down) (a .room) _ _ (c .before .before .before .before .before .small-refusal .ensures) (c .before .before .before .before .if1 .left) (c .before .before .before .tiling-refusal .ensures) (c .before .before .if2 .left)
     ∙ rw (← b .ensures, lt-ltb (a .room) (4 * b .result) (c .if3 .taken)) refl)
 
 returns-4 : tie.Need-returns-4
 returns-4 c =
     let a = c .before .before .before .before .before .before .before .args in
     let b = c .before .board-size in
-    sym (last (a .file .now) (a .stride) (a .across) (a .down) (a .room) _ _ (c .before .before .before .before .before .small-refusal .ensures) (c .before .before .before .before .if1 .left) (c .before .before .before .tiles-refusal .ensures) (c .before .before .if2 .left)
+    sym (last (a .file .now) (a .stride) (a .across) (a .down) (a .room) _ _ (c .before .before .before .before .before .small-refusal .ensures) (c .before .before .before .before .if1 .left) (c .before .before .before .tiling-refusal .ensures) (c .before .before .if2 .left)
     ∙ rw (← b .ensures, le-ltb (a .room) (4 * b .result) (c .if3 .left)) refl)
 
 pub tablet-refusal-spec : {M : Type 1} → statement M
@@ -73,7 +73,7 @@ tablet-refusal-spec =
     (tie.spec
     small-refusal-requires
     returns
-    tiles-refusal-requires
+    tiling-refusal-requires
     returns-2
     board-size-requires
     mul-if3
