@@ -4,8 +4,10 @@
 #include "lent.h"
 
 enum kind { MARCH, ROUND, RUN, KINDS };
+enum form { PLAIN, RECORDS, FORMS };
 
 static const char *const names[KINDS] = {"march", "one_round", "tile_run"};
+static const char *const endings[FORMS] = {"_plain", ""};
 
 /* The arguments of a march, a round or a run, and the lengths that are stated for its lists. */
 typedef struct {
@@ -21,12 +23,61 @@ static const game good = {
 };
 static const uint32_t solved[9] = {0, 10, MURGOLAB_NEVER, 10, 18, 28, 20, 26, 34};
 
+/* The game's lists as they are lent; starts are its cells and begins as records. */
+typedef struct {
+    lent slow, cells, begins, starts, order, times, work;
+} lists;
+
+static murgolab_reply plain_call(enum kind kind, const game *g, const lists *l)
+{
+    switch (kind) {
+    case MARCH:
+        return murgolab_march_plain(g->width, g->height, l->slow.list, g->slow_len, l->cells.list, g->cells_len,
+            l->begins.list, g->begins_len, g->bound, l->times.list, g->times_len, l->work.list, g->work_len);
+    case ROUND:
+        return murgolab_one_round_plain(g->width, g->height, l->slow.list, g->slow_len, l->cells.list, g->cells_len,
+            l->begins.list, g->begins_len, g->across, g->down, g->bound, l->order.list, g->order_len,
+            l->times.list, g->times_len, l->work.list, g->work_len);
+    default:
+        return murgolab_tile_run_plain(g->width, g->height, l->slow.list, g->slow_len, l->cells.list, g->cells_len,
+            l->begins.list, g->begins_len, g->across, g->down, g->stride, g->bound, l->order.list, g->order_len,
+            l->times.list, g->times_len, l->work.list, g->work_len);
+    }
+}
+
+static murgolab_reply record_call(enum kind kind, const game *g, const lists *l)
+{
+    switch (kind) {
+    case MARCH:
+        return murgolab_march(g->width, g->height, l->slow.list, g->slow_len, l->starts.list, g->cells_len,
+            g->bound, l->times.list, g->times_len, l->work.list, g->work_len);
+    case ROUND:
+        return murgolab_one_round(g->width, g->height, l->slow.list, g->slow_len, l->starts.list, g->cells_len,
+            g->across, g->down, g->bound, l->order.list, g->order_len,
+            l->times.list, g->times_len, l->work.list, g->work_len);
+    default:
+        return murgolab_tile_run(g->width, g->height, l->slow.list, g->slow_len, l->starts.list, g->cells_len,
+            g->across, g->down, g->stride, g->bound, l->order.list, g->order_len,
+            l->times.list, g->times_len, l->work.list, g->work_len);
+    }
+}
+
+static void records_of(const uint32_t *cells, const uint32_t *begins, murgolab_start *records)
+{
+    size_t i;
+    for (i = 0; i < 3; i++) {
+        records[i].cell = cells[i];
+        records[i].time = begins[i];
+    }
+}
+
 /* Plays the game with times that hold 7 and work that holds 9; it must give this answer and leave these times. */
-static void play(enum kind kind, game g, uint32_t number, uint32_t count, const uint32_t *after)
+static void play_form(enum form form, enum kind kind, game g, uint32_t number, uint32_t count, const uint32_t *after)
 {
     uint32_t times[10], work[40], cleared[40];
-    murgolab_reply r = {99, 99};
-    lent slow, cells, begins, order, lent_times, lent_work;
+    murgolab_start records[3];
+    murgolab_reply r;
+    lists l;
     size_t i;
     for (i = 0; i < 10; i++)
         times[i] = 7;
@@ -34,36 +85,33 @@ static void play(enum kind kind, game g, uint32_t number, uint32_t count, const 
         work[i] = 9;
         cleared[i] = i < 4 * g.width * g.height ? 0 : 9;
     }
-    slow = lend(g.slow, g.slow_len, 4);
-    cells = lend(g.cells, g.cells_len, 4);
-    begins = lend(g.begins, g.begins_len, 4);
-    order = lend(g.order, g.order_len, 4);
-    lent_times = lend(times, g.times_len, 4);
-    lent_work = lend(work, g.work_len, 4);
-    sprintf(now, "%s_plain, wanted number %u", names[kind], (unsigned)number);
-    switch (kind) {
-    case MARCH:
-        r = murgolab_march_plain(g.width, g.height, slow.list, g.slow_len, cells.list, g.cells_len,
-            begins.list, g.begins_len, g.bound, lent_times.list, g.times_len, lent_work.list, g.work_len);
-        break;
-    case ROUND:
-        r = murgolab_one_round_plain(g.width, g.height, slow.list, g.slow_len, cells.list, g.cells_len,
-            begins.list, g.begins_len, g.across, g.down, g.bound, order.list, g.order_len,
-            lent_times.list, g.times_len, lent_work.list, g.work_len);
-        break;
-    default:
-        r = murgolab_tile_run_plain(g.width, g.height, slow.list, g.slow_len, cells.list, g.cells_len,
-            begins.list, g.begins_len, g.across, g.down, g.stride, g.bound, order.list, g.order_len,
-            lent_times.list, g.times_len, lent_work.list, g.work_len);
-    }
+    records_of(g.cells, g.begins, records);
+    l.slow = lend(g.slow, g.slow_len, 4);
+    l.cells = lend(g.cells, g.cells_len, 4);
+    l.begins = lend(g.begins, g.begins_len, 4);
+    l.starts = lend(records, g.cells_len, sizeof *records);
+    l.order = lend(g.order, g.order_len, 4);
+    l.times = lend(times, g.times_len, 4);
+    l.work = lend(work, g.work_len, 4);
+    sprintf(now, "%s%s, wanted number %u", names[kind], endings[form], (unsigned)number);
+    r = form == PLAIN ? plain_call(kind, &g, &l) : record_call(kind, &g, &l);
     check(r.number == number, "another number");
     check(r.count == count, "another count");
-    back(slow, g.slow, "slow is altered");
-    back(cells, g.cells, "cells is altered");
-    back(begins, g.begins, "begins is altered");
-    back(order, g.order, "order is altered");
-    back(lent_times, number == 0 ? after : times, "times");
-    back(lent_work, number == 0 ? cleared : work, "work");
+    back(l.slow, g.slow, "slow is altered");
+    back(l.cells, g.cells, "cells is altered");
+    back(l.begins, g.begins, "begins is altered");
+    back(l.starts, records, "starts is altered");
+    back(l.order, g.order, "order is altered");
+    back(l.times, number == 0 ? after : times, "times");
+    back(l.work, number == 0 ? cleared : work, "work");
+}
+
+/* In every form that the game has: start records have no lists of unequal length. */
+static void play(enum kind kind, game g, uint32_t number, uint32_t count, const uint32_t *after)
+{
+    play_form(PLAIN, kind, g, number, count, after);
+    if (g.cells_len == g.begins_len)
+        play_form(RECORDS, kind, g, number, count, after);
 }
 
 static void refused(enum kind kind, game g, uint32_t number)
@@ -140,17 +188,27 @@ static void read_file(const uint8_t *bytes, size_t length, size_t slow_len, size
     static const uint32_t garbage[10] = {5, 5, 5, 5, 5, 5, 5, 5, 5, 5};
     uint32_t slow[10] = {10, 10, 0, 10, 10, 10, 10, 10, 10, 5}, cells[3] = {0, 4, 5}, begins[3] = {0, 1000000, 5};
     murgolab_scenario s, want = {0, 3, 3, 10, 10, 2}, none = {0, 0, 0, 0, 0, 0};
-    lent file = lend(bytes, length, 1), lent_slow = lend(garbage, slow_len, 4), lent_cells = lend(garbage, cells_len, 4),
-         lent_begins = lend(garbage, begins_len, 4);
-    sprintf(now, "read_scenario_plain, wanted number %u", (unsigned)number);
-    s = murgolab_read_scenario_plain(file.list, length, lent_slow.list, slow_len, lent_cells.list, cells_len,
-        lent_begins.list, begins_len);
+    murgolab_start records[3];
+    int form;
+    records_of(cells, begins, records);
     none.number = number;
-    check(memcmp(&s, number == 0 ? &want : &none, sizeof s) == 0, "another answer");
-    back(file, bytes, "file is altered");
-    back(lent_slow, number == 0 ? slow : garbage, "slow");
-    back(lent_cells, number == 0 ? cells : garbage, "cells");
-    back(lent_begins, number == 0 ? begins : garbage, "begins");
+    for (form = PLAIN; form < (cells_len == begins_len ? FORMS : RECORDS); form++) {
+        lent file = lend(bytes, length, 1), lent_slow = lend(garbage, slow_len, 4),
+             lent_cells = lend(garbage, cells_len, 4), lent_begins = lend(garbage, begins_len, 4),
+             lent_starts = lend(garbage, cells_len, sizeof *records);
+        sprintf(now, "read_scenario%s, wanted number %u", endings[form], (unsigned)number);
+        if (form == PLAIN)
+            s = murgolab_read_scenario_plain(file.list, length, lent_slow.list, slow_len, lent_cells.list, cells_len,
+                lent_begins.list, begins_len);
+        else
+            s = murgolab_read_scenario(file.list, length, lent_slow.list, slow_len, lent_starts.list, cells_len);
+        check(memcmp(&s, number == 0 ? &want : &none, sizeof s) == 0, "another answer");
+        back(file, bytes, "file is altered");
+        back(lent_slow, number == 0 ? slow : garbage, "slow");
+        back(lent_cells, number == 0 && form == PLAIN ? cells : garbage, "cells");
+        back(lent_begins, number == 0 && form == PLAIN ? begins : garbage, "begins");
+        back(lent_starts, number == 0 && form == RECORDS ? (const void *)records : garbage, "starts");
+    }
 }
 
 /* The good file with one byte put in. */
@@ -187,20 +245,30 @@ static void reading(void)
 static void write_file(game g, uint32_t ticks, uint32_t ground, size_t out_len, uint32_t number)
 {
     uint8_t garbage[FILE_LENGTH + 1];
+    murgolab_start records[3];
     murgolab_reply r;
-    lent slow = lend(g.slow, g.slow_len, 4), cells = lend(g.cells, g.cells_len, 4),
-         begins = lend(g.begins, g.begins_len, 4), out;
+    int form;
     memset(garbage, 77, sizeof garbage);
-    out = lend(garbage, out_len, 1);
-    sprintf(now, "write_scenario_plain, wanted number %u", (unsigned)number);
-    r = murgolab_write_scenario_plain(g.width, g.height, ticks, ground, slow.list, g.slow_len, cells.list, g.cells_len,
-        begins.list, g.begins_len, out.list, out_len);
-    check(r.number == number, "another number");
-    check(r.count == (number == 0 ? FILE_LENGTH : 0), "another count");
-    back(slow, g.slow, "slow is altered");
-    back(cells, g.cells, "cells is altered");
-    back(begins, g.begins, "begins is altered");
-    back(out, number == 0 ? good_file : garbage, "out");
+    records_of(g.cells, g.begins, records);
+    for (form = PLAIN; form < (g.cells_len == g.begins_len ? FORMS : RECORDS); form++) {
+        lent slow = lend(g.slow, g.slow_len, 4), cells = lend(g.cells, g.cells_len, 4),
+             begins = lend(g.begins, g.begins_len, 4), starts = lend(records, g.cells_len, sizeof *records),
+             out = lend(garbage, out_len, 1);
+        sprintf(now, "write_scenario%s, wanted number %u", endings[form], (unsigned)number);
+        if (form == PLAIN)
+            r = murgolab_write_scenario_plain(g.width, g.height, ticks, ground, slow.list, g.slow_len,
+                cells.list, g.cells_len, begins.list, g.begins_len, out.list, out_len);
+        else
+            r = murgolab_write_scenario(g.width, g.height, ticks, ground, slow.list, g.slow_len,
+                starts.list, g.cells_len, out.list, out_len);
+        check(r.number == number, "another number");
+        check(r.count == (number == 0 ? FILE_LENGTH : 0), "another count");
+        back(slow, g.slow, "slow is altered");
+        back(cells, g.cells, "cells is altered");
+        back(begins, g.begins, "begins is altered");
+        back(starts, records, "starts is altered");
+        back(out, number == 0 ? good_file : garbage, "out");
+    }
 }
 
 #define UNWRITTEN(number, change) do { game g = two; change; write_file(g, 10, 10, FILE_LENGTH, number); } while (0)
@@ -226,6 +294,58 @@ static void writing(void)
     UNWRITTEN(7, g.cells[1] = 0);
     UNWRITTEN(8, g.begins[1] = 1000001);
     UNWRITTEN(9, g.cells[1] = 2);
+}
+
+static void tablet_call(const uint8_t *bytes, size_t length, uint32_t stride, uint32_t across, uint32_t down,
+    size_t out_len, uint64_t want)
+{
+    uint8_t garbage[4 * 9 + 1], times[4 * 9 + 1];
+    uint64_t answer;
+    lent file = lend(bytes, length, 1), out;
+    size_t i;
+    memset(garbage, 77, sizeof garbage);
+    memcpy(times, garbage, sizeof times);
+    for (i = 0; i < 4 * 9; i++)
+        times[i] = (uint8_t)(solved[i / 4] >> 8 * (i % 4));
+    out = lend(garbage, out_len, 1);
+    sprintf(now, "tablet_run, wanted answer %u", (unsigned)want);
+    answer = murgolab_tablet_run(file.list, length, stride, across, down, out.list, out_len);
+    check(answer == want, "another answer");
+    back(file, bytes, "file is altered");
+    back(out, want >= 256 ? times : garbage, "out");
+}
+
+/* The good file with one byte put in. */
+static void tablet_with(size_t place, uint8_t byte, uint64_t want)
+{
+    uint8_t file[FILE_LENGTH];
+    memcpy(file, good_file, FILE_LENGTH);
+    file[place] = byte;
+    tablet_call(file, FILE_LENGTH, 6000000, 3, 3, 36, want);
+}
+
+static void tablet(void)
+{
+    /* one tile: one round reaches all, the next alters nothing */
+    tablet_call(good_file, FILE_LENGTH, 6000000, 3, 3, 36, 256 * 2);
+    tablet_call(good_file, FILE_LENGTH, 300000000, 256, 256, 37, 256 * 2);
+    tablet_call(good_file, 0, 0, 0, 0, 0, 1);
+    tablet_call(good_file, FILE_LENGTH - 1, 0, 0, 0, 36, 1);
+    tablet_with(0, 0, 2);
+    tablet_with(0, 33, 15);
+    tablet_with(2, 255, 15);
+    tablet_with(4, 0, 3);
+    tablet_with(7, 16, 5);
+    tablet_with(20, 0, 6);
+    tablet_with(26, 4, 7);
+    tablet_with(40, 0x10, 8);
+    tablet_with(34, 2, 9);
+    tablet_call(good_file, FILE_LENGTH, 0, 0, 0, 0, 10);
+    tablet_call(good_file, FILE_LENGTH, 300000001, 3, 3, 36, 10);
+    tablet_call(good_file, FILE_LENGTH, 1, 0, 3, 0, 11);
+    tablet_call(good_file, FILE_LENGTH, 1, 3, 257, 36, 11);
+    tablet_call(good_file, FILE_LENGTH, 1, 3, 3, 35, 14);
+    tablet_call(good_file, FILE_LENGTH, 1, 3, 3, 0, 14);
 }
 
 static void answers(const char *what, murgolab_reply r, uint32_t number, uint32_t count)
@@ -259,6 +379,7 @@ int main(int count, char **arguments)
         refused_games((enum kind)kind);
     reading();
     writing();
+    tablet();
     printf("%u checks, %u wrong\n", checks, wrong);
     return wrong != 0;
 }
