@@ -5,13 +5,14 @@ use second_solver::board::Board;
 use second_solver::calls::{Call, Kind};
 use second_solver::declared::header;
 use second_solver::ffi::local_rule::{diagonal, local_rule};
+use second_solver::ffi::tablet::tablet_run;
 use second_solver::ffi::turn::turn;
-use second_solver::ffi::{engine, scenario};
+use second_solver::ffi::{engine, engine_records, scenario, scenario_records};
 use second_solver::random::Random;
 use second_solver::scenario::{file_of, Scenario};
 use second_solver::stacks::{on_a_stack_of, stack_of};
 use second_solver::tiles::tile_count;
-use second_solver::{Reply, LARGEST, NEVER};
+use second_solver::{Reply, Start, LARGEST, NEVER};
 use std::collections::BTreeSet;
 
 /// The most that a call may take.
@@ -56,11 +57,11 @@ fn largest_file() -> (Board, Vec<u8>) {
     (board, file)
 }
 
-fn engine_name(kind: &Kind) -> &'static str {
+fn engine_names(kind: &Kind) -> [&'static str; 2] {
     match kind {
-        Kind::March { .. } => "murgolab_march_plain",
-        Kind::Round { .. } => "murgolab_one_round_plain",
-        Kind::Run { .. } => "murgolab_tile_run_plain",
+        Kind::March { .. } => ["murgolab_march_plain", "murgolab_march"],
+        Kind::Round { .. } => ["murgolab_one_round_plain", "murgolab_one_round"],
+        Kind::Run { .. } => ["murgolab_tile_run_plain", "murgolab_tile_run"],
     }
 }
 
@@ -74,43 +75,82 @@ fn engine_kinds() -> Vec<Kind> {
     kinds
 }
 
+/// The calls over plain start lists and over records.
 fn engine_cases() -> Vec<Case> {
     let mut cases = Vec::new();
     for starts in [1, 65_536] {
         for kind in engine_kinds() {
-            let name = engine_name(&kind);
             let told = match kind {
                 Kind::March { .. } => format!("{} starts", starts),
                 Kind::Round { across, .. } | Kind::Run { across, .. } => {
                     format!("{} starts, tiles of {}", starts, across)
                 }
             };
-            let call = Call { board: large_board(2, starts), kind };
-            let (mut times, mut work) = (vec![NEVER; 65_536], vec![1; 4 * 65_536]);
-            cases.push(Case::new(name, told, move || {
-                times.fill(NEVER);
-                one(engine::play(&call, &mut times, &mut work))
-            }));
+            for (name, play) in engine_names(&kind).into_iter().zip([engine::play, engine_records::play]) {
+                let call = Call { board: large_board(2, starts), kind: kind.clone() };
+                let (mut times, mut work) = (vec![NEVER; 65_536], vec![1; 4 * 65_536]);
+                cases.push(Case::new(name, told.clone(), move || {
+                    times.fill(NEVER);
+                    one(play(&call, &mut times, &mut work))
+                }));
+            }
         }
     }
     cases
 }
 
-fn other_cases() -> Vec<Case> {
+/// The reader's answer, which must be that of the largest file.
+fn as_reply(answer: Scenario) -> Reply {
+    let Scenario { number, width, height, ticks, ground, starts } = answer;
+    assert_eq!([width, height, ticks, ground], [256, 256, 65_535, 1]);
+    Reply { number, count: starts }
+}
+
+fn scenario_cases() -> Vec<Case> {
     let (board, file) = largest_file();
-    let mut out = vec![0; file.len()];
-    let (mut slow, mut cells, mut begins) = (vec![0; 65_536], vec![0; 65_536], vec![0; 65_536]);
     let told = format!("{} bytes", file.len());
-    let read = move || {
-        let answer = scenario::read(&file, &mut slow, &mut cells, &mut begins);
-        let Scenario { number, width, height, ticks, ground, starts } = answer;
-        assert_eq!([width, height, ticks, ground], [256, 256, 65_535, 1]);
-        one(Reply { number, count: starts })
-    };
-    let write = move || one(scenario::write(&board, 65_535, 1, &mut out));
+    let (same_board, same_file) = (board.clone(), file.clone());
+    let (mut out, mut same_out) = (vec![0; file.len()], vec![0; file.len()]);
+    let (mut slow, mut cells, mut begins) = (vec![0; 65_536], vec![0; 65_536], vec![0; 65_536]);
+    let (mut same_slow, mut starts) = (vec![0; 65_536], vec![Start { cell: 0, time: 0 }; 65_536]);
+    let read_plain = move || one(as_reply(scenario::read(&file, &mut slow, &mut cells, &mut begins)));
+    let read = move || one(as_reply(scenario_records::read(&same_file, &mut same_slow, &mut starts)));
+    let write_plain = move || one(scenario::write(&board, 65_535, 1, &mut out));
+    let write = move || one(scenario_records::write(&same_board, 65_535, 1, &mut same_out));
     vec![
-        Case::new("murgolab_read_scenario_plain", told.clone(), read),
-        Case::new("murgolab_write_scenario_plain", told, write),
+        Case::new("murgolab_read_scenario_plain", told.clone(), read_plain),
+        Case::new("murgolab_read_scenario", told.clone(), read),
+        Case::new("murgolab_write_scenario_plain", told.clone(), write_plain),
+        Case::new("murgolab_write_scenario", told, write),
+    ]
+}
+
+/// The largest file that the tablet takes, each cell a run and a start of its own, with two sizes of tiles.
+fn tablet_cases() -> Vec<Case> {
+    let mut cases = Vec::new();
+    for side in [1, 8] {
+        let mut board = large_board(4, 1_024);
+        board.width = 32;
+        board.height = 32;
+        board.slow = (0..1_024).map(|c| 4_094 + c % 2).collect();
+        let file = file_of(&board, 65_535, 1);
+        assert_eq!(file.len(), 18_448);
+        let mut out = vec![0; 4_096];
+        cases.push(Case::new("murgolab_tablet_run", format!("tiles of {}", side), move || {
+            let answer = tablet_run(&file, 65_536, side, side, &mut out);
+            // a bare number below 256 is a refusal
+            if answer < 256 {
+                answer << 32
+            } else {
+                answer
+            }
+        }));
+    }
+    cases
+}
+
+fn number_cases() -> Vec<Case> {
+    vec![
         Case::new("murgolab_local_rule", String::new(), || {
             one(local_rule(4_095, [LARGEST, NEVER, LARGEST - 7, NEVER]))
         }),
@@ -120,8 +160,8 @@ fn other_cases() -> Vec<Case> {
 }
 
 fn cases() -> Vec<Case> {
-    let mut cases = engine_cases();
-    cases.extend(other_cases());
+    let families = [engine_cases(), scenario_cases(), tablet_cases(), number_cases()];
+    let cases: Vec<Case> = families.into_iter().flatten().collect();
     let named: BTreeSet<String> = cases.iter().map(|case| case.name.to_string()).collect();
     let calls: BTreeSet<String> = header().functions.into_keys().collect();
     assert_eq!(named, calls, "every call of the header is tried, and no other");
