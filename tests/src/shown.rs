@@ -4,7 +4,7 @@ use crate::board::{side_is_good, Grid};
 use crate::calls::rounds;
 use crate::march::{cut, solved};
 use crate::rule::turn;
-use crate::scenario::judge;
+use crate::scenario::{judge, Held};
 use crate::tiles::Tiling;
 use crate::{LARGEST, NEVER};
 
@@ -47,8 +47,13 @@ pub fn rings(file: &[u8]) -> String {
         Ok(held) => held,
         Err(number) => return format!("refused {}\n", number),
     };
+    turns(&held, SHOWN_HORIZON)
+}
+
+/// The lines of a scenario: width, height and ticks, then the turns of each row.
+pub fn turns(held: &Held, horizon: u32) -> String {
     let mut lines = format!("{} {} {}\n", held.board.width, held.board.height, held.ticks);
-    let times = cut(solved(&Grid::new(&held.board)), SHOWN_HORIZON);
+    let times = cut(solved(&Grid::new(&held.board)), horizon);
     for row in times.chunks(held.board.width as usize) {
         let fields: Vec<String> = row.iter().map(|&t| field(t, held.ticks)).collect();
         lines += &fields.join(" ");
