@@ -1,7 +1,7 @@
 //! The C interface as texts: what the header declares, what the proved source exports, and what Rust
 //! code declares of it. All three are put into C's words, so that they can be compared.
 
-use std::collections::BTreeMap;
+use std::collections::{BTreeMap, BTreeSet};
 use std::fs;
 use std::path::{Path, PathBuf};
 
@@ -89,8 +89,9 @@ pub fn exported() -> Interface {
             }
         }
     }
-    let named = interface.functions.values().flat_map(types).filter_map(struct_in);
-    let structs: BTreeMap<String, Vec<Field>> = named.map(|name| (name.clone(), source_struct(&name))).collect();
+    let mut structs = structs_in("crates", ".rt");
+    let named: BTreeSet<String> = interface.functions.values().flat_map(types).filter_map(struct_in).collect();
+    structs.retain(|name, _| named.contains(name));
     Interface { structs, ..interface }
 }
 
@@ -102,6 +103,7 @@ pub fn declared_in(folder: &str) -> BTreeMap<String, Function> {
         while let Some(word) = words.next() {
             if word == "extern" && words.take(&["\"", "C", "\"", "{"]) {
                 while !words.take(&["}"]) {
+                    words.take(&["pub"]);
                     words.expect(&["fn"]);
                     let name = words.word();
                     let function = rust_function(&mut words);
@@ -129,30 +131,27 @@ fn struct_in(kind: String) -> Option<String> {
     kind.split(' ').find(|word| word.starts_with("murgolab_")).map(String::from)
 }
 
-/// The fields of the one struct of the crates that has this C name; C's layout is asked for.
-fn source_struct(c_name: &str) -> Vec<Field> {
-    let mut found = Vec::new();
-    for file in files(&repository().join("crates"), ".rt") {
+/// The structs with C's layout that the files of a folder have, under their C names.
+pub fn structs_in(folder: &str, ending: &str) -> BTreeMap<String, Vec<Field>> {
+    let mut found = BTreeMap::new();
+    for file in files(&repository().join(folder), ending) {
         let mut words = Words::new(&without_comments(&read(file)));
         let mut in_c = false;
         while let Some(word) = words.next() {
             match word.as_str() {
                 "repr" => in_c = words.take(&["(", "C", ")"]),
-                "struct" => {
-                    let name = words.word();
-                    if c_type(&name) == c_name {
-                        assert!(in_c, "{} has no `#[repr(C)]`", name);
-                        words.expect(&["{"]);
-                        found.push(rust_fields(&mut words));
-                    }
+                "struct" if in_c => {
                     in_c = false;
+                    let name = c_type(&words.word());
+                    words.expect(&["{"]);
+                    let before = found.insert(name.clone(), rust_fields(&mut words));
+                    assert_eq!(before, None, "{} is there twice in {}", name, folder);
                 }
                 _ => {}
             }
         }
     }
-    assert_eq!(found.len(), 1, "structs of the crates for {}", c_name);
-    found.remove(0)
+    found
 }
 
 /// A number's type, or a struct's, in C's words.

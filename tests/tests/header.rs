@@ -1,7 +1,7 @@
 //! The header beside the proved source: the same functions, parameters and structs, in the same order.
 //! What compiles against a header that differs would call the archive with the wrong words.
 
-use second_solver::declared::{declared_in, exported, header, read};
+use second_solver::declared::{declared_in, exported, header, read, structs_in};
 use std::collections::BTreeSet;
 use std::fmt::Debug;
 
@@ -34,6 +34,21 @@ fn the_tests_declare_every_call_as_the_header_does() {
     let header = header();
     declared.retain(|name, _| header.functions.contains_key(name));
     assert_same(["the header", "tests/src/ffi"], &header.functions, &declared);
+}
+
+/// The wrapper has no use for plain start lists.
+#[test]
+fn the_wrapper_declares_every_call_over_records_as_the_header_does() {
+    let mut header = header();
+    header.functions.retain(|name, _| !name.ends_with("_plain"));
+    assert_same(["the header", "the wrapper"], &header.functions, &declared_in("wrapper/src"));
+}
+
+#[test]
+fn the_structs_of_rust_code_are_those_of_the_header() {
+    for folder in ["tests/src", "wrapper/src"] {
+        assert_same(["the header", folder], &header().structs, &structs_in(folder, ".rs"));
+    }
 }
 
 #[test]

@@ -1,0 +1,95 @@
+//! Boards, tiles and files that are no good are refused by the library, and nothing here falls over before.
+
+use murgolab::*;
+
+fn board() -> Board {
+    Board { width: 3, height: 2, slow: vec![10, 10, 0, 10, 10, 10], starts: vec![Start { cell: 0, time: 0 }] }
+}
+
+const TILES: Tiles = Tiles { across: 2, down: 1 };
+
+/// What march, run, round and writer say of a board.
+fn refusals(board: &Board) -> [Option<Refusal>; 4] {
+    let mut times = vec![NEVER; board.slow.len()];
+    let scenario = Scenario { ticks: 10, ground: 10, board: board.clone() };
+    [
+        march(board, 100).err(),
+        tile_run(board, TILES, 10, 100).err(),
+        one_round(board, TILES, 100, &mut times).err(),
+        write_scenario(&scenario).err(),
+    ]
+}
+
+type Change = dyn Fn(&mut Board);
+
+#[test]
+fn boards_are_judged_by_the_library() {
+    assert_eq!(refusals(&board()), [None; 4]);
+    let cases: [(&Change, Refusal); 10] = [
+        (&|b| b.width = 0, Refusal::BoardSide),
+        (&|b| b.height = u32::MAX, Refusal::BoardSide),
+        (&|b| b.slow.clear(), Refusal::SlownessList),
+        (&|b| b.slow.push(10), Refusal::SlownessList),
+        (&|b| b.slow[5] = 4_096, Refusal::Slowness),
+        (&|b| b.starts[0].cell = 6, Refusal::StartCell),
+        (&|b| b.starts.push(Start { cell: 0, time: 0 }), Refusal::StartCell),
+        (&|b| b.starts[0].time = 1_000_001, Refusal::StartTime),
+        (&|b| b.starts[0].cell = 2, Refusal::StartOnWall),
+        (&|b| *b = Board { width: 0, height: 0, slow: vec![], starts: vec![] }, Refusal::BoardSide),
+    ];
+    for (change, refusal) in cases {
+        let mut changed = board();
+        change(&mut changed);
+        assert_eq!(refusals(&changed), [Some(refusal); 4], "{:?}", changed);
+    }
+}
+
+#[test]
+fn numbers_and_tiles_are_judged_by_the_library() {
+    let board = board();
+    assert_eq!(march(&board, 300_000_001), Err(Refusal::Range));
+    assert_eq!(tile_run(&board, TILES, 0, 1), Err(Refusal::Range));
+    for (across, down) in [(0, 1), (1, 0), (257, 1), (1, u32::MAX)] {
+        let tiles = Tiles { across, down };
+        assert_eq!(tile_run(&board, tiles, 1, 1), Err(Refusal::TileSide));
+        assert_eq!(one_round(&board, tiles, 1, &mut [NEVER; 6]), Err(Refusal::TileSide));
+    }
+    assert_eq!(one_round(&board, TILES, 1, &mut []), Err(Refusal::TimesList));
+    assert_eq!(one_round(&board, TILES, 1, &mut [NEVER; 7]), Err(Refusal::TimesList));
+}
+
+#[test]
+fn files_are_judged_by_the_library() {
+    let file = write_scenario(&Scenario { ticks: 10, ground: 10, board: board() }).expect("a good board");
+    for length in 0..file.len() {
+        assert_eq!(read_scenario(&file[..length]), Err(Refusal::FileLength));
+        assert_eq!(tablet_run(&file[..length], 1, TILES), Err(Refusal::FileLength));
+    }
+    assert_eq!(tablet_run(&file, 0, TILES), Err(Refusal::Range));
+    assert_eq!(tablet_run(&file, 1, Tiles { across: 0, down: 1 }), Err(Refusal::TileSide));
+    let wide = Board { width: 33, height: 1, slow: vec![10; 33], starts: vec![] };
+    let file = write_scenario(&Scenario { ticks: 10, ground: 10, board: wide }).expect("a good board");
+    assert!(read_scenario(&file).is_ok());
+    assert_eq!(tablet_run(&file, 1, TILES), Err(Refusal::SideAbove32));
+}
+
+/// The largest board, each cell a run and a start of its own, through its file and back.
+#[test]
+fn the_largest_scenario_goes_through_its_file() {
+    let starts = (0..65_536).map(|cell| Start { cell, time: 1_000_000 - cell }).collect();
+    let board = Board { width: 256, height: 256, slow: (0..65_536).map(|c| 4_094 + c % 2).collect(), starts };
+    let scenario = Scenario { ticks: 65_535, ground: 0, board };
+    let file = write_scenario(&scenario).expect("a good board");
+    assert_eq!(file.len(), 16 + 18 * 65_536);
+    assert_eq!(read_scenario(&file), Ok(scenario));
+}
+
+#[test]
+fn every_number_has_its_words() {
+    let file = write_scenario(&Scenario { ticks: 10, ground: 10, board: board() }).expect("a good board");
+    let refusal = read_scenario(&file[1..]).unwrap_err();
+    assert_eq!(refusal.number(), 1);
+    assert!(refusal.to_string().starts_with("refused by 1: a file under 16 bytes"));
+    assert_eq!(Refusal::SideAbove32.number(), 15);
+    assert_eq!(Refusal::SideAbove32.to_string(), "refused by 15: a side above 32");
+}
