@@ -1,0 +1,139 @@
+//! The program `rings` beside the second solver, on the examples and on seeded files, damaged ones among them.
+
+use second_solver::board::Board;
+use second_solver::declared::{files, repository};
+use second_solver::drafts::{spoil_byte, Draft, FILE_CAUSES};
+use second_solver::generate;
+use second_solver::programs::{run, told};
+use second_solver::random::Random;
+use second_solver::scenario::{file_of, Held};
+use second_solver::shown::{self, SHOWN_FILE, SHOWN_SIDE};
+use std::fs;
+use std::io::Write;
+use std::process::{Command, Stdio};
+use std::time::Duration;
+
+fn rings() -> Command {
+    Command::new(repository().join("target/bin/rings"))
+}
+
+/// What the program prints for the file, which must be what the second solver prints.
+fn shown(file: &[u8], seed: u64) -> String {
+    let output = run(&mut rings(), file);
+    let cause = || format!("seed {}, {} bytes: {}\n{}", seed, file.len(), output.status, told(&output));
+    assert!(output.status.code().is_some() && output.stderr.is_empty(), "{}", cause());
+    let want = shown::rings(file);
+    assert!(output.stdout == want.as_bytes(), "{}\nand not\n{}", cause(), want);
+    want
+}
+
+#[test]
+fn the_examples_are_shown_as_they_stand() {
+    let examples = files(&repository().join("examples"), ".scenario");
+    assert!(examples.len() >= 5);
+    for path in examples {
+        let want = fs::read_to_string(path.with_extension("rings")).expect("what rings prints");
+        assert_eq!(shown(&fs::read(&path).expect("a scenario"), 0), want, "{}", path.display());
+    }
+}
+
+fn random_scenario(r: &mut Random, longest: u32) -> Held {
+    let board = generate::board(r, longest);
+    generate::scenario(r, board)
+}
+
+#[test]
+fn good_files_are_shown_as_the_second_solver_shows_them() {
+    for seed in 65_000_000..65_002_500 {
+        let mut r = Random::new(seed);
+        let longest = if r.once_in(8) { SHOWN_SIDE } else { 12 };
+        let held = random_scenario(&mut r, longest);
+        let lines = shown(&file_of(&held.board, held.ticks, held.ground), seed);
+        assert!(!lines.starts_with("refused"), "seed {}: {}", seed, lines);
+    }
+}
+
+#[test]
+fn damaged_files_are_refused_as_the_second_solver_refuses_them() {
+    let causes = [&FILE_CAUSES[..], &[15]].concat();
+    let mut given = [0; 16];
+    for seed in 66_000_000..66_003_000 {
+        let mut r = Random::new(seed);
+        let mut draft = Draft::of(&random_scenario(&mut r, 8));
+        for _ in 0..r.within(1, 3) {
+            let cause = r.pick(&causes);
+            draft.spoil(&mut r, cause);
+        }
+        let mut file = draft.bytes();
+        if r.once_in(5) {
+            spoil_byte(&mut r, &mut file);
+        }
+        let lines = shown(&file, seed);
+        if let Some(number) = lines.strip_prefix("refused ") {
+            given[number.trim_end().parse::<usize>().expect("a number")] += 1;
+        }
+    }
+    for cause in causes {
+        assert!(given[cause as usize] > 50, "{} was given {} times only", cause, given[cause as usize]);
+    }
+}
+
+/// 32 by 32, each cell a run and a start of its own.
+fn largest() -> Vec<u8> {
+    let cells: Vec<u32> = (0..1_024).collect();
+    let begins = cells.iter().map(|c| c * 977 % 1_000_001).collect();
+    let slow = cells.iter().map(|c| 4_094 + c % 2).collect();
+    let file = file_of(&Board { width: 32, height: 32, slow, cells, begins }, 7, 1);
+    assert_eq!(file.len(), SHOWN_FILE);
+    file
+}
+
+#[test]
+fn files_of_18448_bytes_pass_and_longer_ones_are_refused_by_15_first() {
+    let mut file = largest();
+    assert!(shown(&file, 0).starts_with("32 32 7\n"));
+    assert_eq!(shown(&file[..SHOWN_FILE - 1], 0), "refused 1\n");
+    file.push(0);
+    assert_eq!(shown(&file, 0), "refused 15\n");
+    // as long as its head says, and still too long
+    file.extend([0; 7]);
+    file[12] = 1;
+    file[13] = 4;
+    assert_eq!(shown(&file, 0), "refused 15\n");
+    for length in SHOWN_FILE - 1..=SHOWN_FILE + 1 {
+        let want = if length > SHOWN_FILE { "refused 15\n" } else { "refused 1\n" };
+        assert_eq!(shown(&vec![0xFF; length], 0), want, "{} bytes", length);
+    }
+}
+
+#[test]
+fn more_than_a_pipe_holds_is_refused_by_15_and_nothing_by_1() {
+    for length in [65_535, 65_536, 65_537, 200_000, 3_000_000] {
+        assert_eq!(shown(&vec![0; length], 0), "refused 15\n", "{} bytes", length);
+    }
+    let mut large = largest();
+    large.resize(200_000, 0);
+    assert_eq!(shown(&large, 0), "refused 15\n");
+    for length in 0..16 {
+        assert_eq!(shown(&vec![1; length], 0), "refused 1\n", "{} bytes", length);
+    }
+}
+
+/// A file that comes in pieces, with pauses between: the program waits for its end.
+#[test]
+fn a_file_may_come_in_pieces() {
+    let file = largest();
+    for pieces in [1, 2, 5, 40] {
+        let piped = rings().stdin(Stdio::piped()).stdout(Stdio::piped()).spawn();
+        let mut child = piped.expect("target/bin/rings, which `rt check rings` makes");
+        let mut pipe = child.stdin.take().expect("a pipe");
+        for piece in file.chunks(file.len() / pieces + 1) {
+            pipe.write_all(piece).expect("a program that reads");
+            pipe.flush().expect("a program that reads");
+            std::thread::sleep(Duration::from_millis(5));
+        }
+        drop(pipe);
+        let output = child.wait_with_output().expect("the program's end");
+        assert!(output.stdout == shown::rings(&file).as_bytes(), "{} pieces: {}", pieces, told(&output));
+    }
+}
