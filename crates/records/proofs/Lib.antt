@@ -1,0 +1,4 @@
+pub mod Walk
+pub mod Filled
+pub mod Split
+pub mod Judging
