@@ -2,11 +2,11 @@
 use mathlib.Core.Path.{_≡_, refl, sym, ap, ap₂, _∙_, subst}
 use mathlib.Core.List.{List, [], _∷_, _++_, map, map-append}
 use Prim.Native.Nat.{ℕ, zero, suc, _+_, _-_, _<_, _≤_, min}
-use native.Mathlib.Nat.{sub-zero, zero-sub, zero-add, suc-add}
+use native.Mathlib.Nat.{sub-zero, zero-sub}
 use native.Mathlib.Numerals.{unary-clauses}
 use native.Mathlib.Omega.{arith}
 use lib.ListN.{length, getD, set, take, drop, replicate, length-map, length-take, length-drop, length-replicate, length-append, List·getD-map}
-use lib.Seq.{take-all, take-append-seam, getD-take, getD-drop}
+use lib.Seq.{take-add, take-all, take-append-seam, getD-take, getD-drop}
 use Rattle.eikonal.specs.Board.{Start as Plain-start}
 use Rattle.eikonal.specs.Refusals.{starts-of}
 use Rattle.records.specs.declared.Start.{Start}
@@ -77,17 +77,8 @@ unfolding starts-of cells-of begins-of
 plain-long [] = refl
 plain-long (x ∷ xs) = ap suc (plain-long xs)
 
-take-none : {A : Type 0} (k : ℕ) → take {A = A} k [] ≡ []
-take-none zero = refl
-take-none (suc k) = refl
-
-take-more : {A : Type 0} (i k : ℕ) (ys : List A) → take (i + k) ys ≡ take i ys ++ take k (drop i ys)
-take-more zero k ys = simp zero-add
-take-more (suc i) k [] = simp suc-add (sym (take-none k))
-take-more (suc i) k (y ∷ ys) = simp suc-add (ap (λ (t : List _). y ∷ t) (take-more i k ys))
-
 pub plain-next : (ys : List Start) (i : ℕ) → plain-of (take (i + 256) ys) ≡ plain-of (take i ys) ++ plain-of (part-at ys i)
-plain-next ys i = ap (λ (t : List Start). plain-of t) (take-more i 256 ys) ∙ plain-append (take i ys) (part-at ys i)
+plain-next ys i = ap (λ (t : List Start). plain-of t) (take-add i 256 ys) ∙ plain-append (take i ys) (part-at ys i)
 
 pub plain-all : (ys : List Start) (i : ℕ) → length ys ≤ i → plain-of (take i ys) ≡ plain-of ys
 plain-all ys i h = ap (λ (t : List Start). plain-of t) (take-all i ys h)

@@ -1,5 +1,6 @@
 // Start records: the calls whose starts are a lent slice of structs.
 pub mod judge;
+pub mod write;
 pub mod parts;
 
 // A start: a cell and a time.
