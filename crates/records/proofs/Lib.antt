@@ -4,3 +4,4 @@ pub mod Split
 pub mod Judging
 pub mod Again
 pub mod Writing
+pub mod Reading

@@ -25,7 +25,7 @@ pub use contract.Monad.{Fun, fact}
 pub use contract.Running.{givenOf, tables}
 unfoldable pub use contract.Running.{tablesOf}
 pub use types.Kit.{anyQ, Given, Item, ‵, raw, _⊛_, ⋆, some, later, atRet, _$_, _∵_, !, qed, by, move, keep, drop as toss, use1, use2, use3, split, join, pick, rewrite, fsplit, fjoin, fpack, fpick, feqI, feqL, fltI, suffices, frame, await, done}
-pub use types.Run.{look, init, store, forget, stop, hop, fld, from, load, lit, unit-lit, of-opd, bin, addr, and-then, no-more, assigns, assigns-last, land, well-typed, first, blocks, branches, skips, jumps, exec, again, Below, returns, enter, alloc1, alloc0, params1, pass1, pass0, free1, free0}
+pub use types.Run.{look, init, store, store-raw, forget, stop, hop, fld, from, load, lit, unit-lit, of-opd, bin, addr, and-then, no-more, assigns, assigns-last, land, well-typed, first, blocks, branches, skips, jumps, exec, again, Below, returns, enter, alloc1, alloc0, params1, pass1, pass0, free1, free0}
 pub use types.Part.{agg, rep, whole, sub, look-in}
 pub use types.Share.{arr-parts}
 pub use types.Tokens.{lft-new, lft-end}

@@ -1,5 +1,6 @@
 // Start records: the calls whose starts are a lent slice of structs.
 pub mod judge;
+pub mod read;
 pub mod write;
 pub mod parts;
 
