@@ -1,8 +1,8 @@
 // Start records: the calls whose starts are a lent slice of structs.
 pub mod judge;
+pub mod parts;
 pub mod read;
 pub mod write;
-pub mod parts;
 
 // A start: a cell and a time.
 #[repr(C)]

@@ -58,8 +58,7 @@ fn fill_starts(file: &[u8], cells: &mut [u32], begins: &mut [u32])
 // What the reader answers, where there is room for so many starts; the slownesses of an accepted file are filled in. A refused
 // one leaves the list as it was.
 pub fn read_ground(file: &[u8], slow: &mut [u32], starts: usize) -> Scenario
-    ensures answers { λ x. ⌜ x ≡ reader-answer (reader-refusal (now (file .entry)) (length (now (slow .entry))) starts) (now (file .entry)) ⌝ }
-    ensures holds { λ x. ⌜ now (slow .exit) ≡ filled (x .number) (held (now (file .entry)) .slow) (now (slow .entry)) ⌝ }
+    ensures { λ x. ⌜ (x ≡ reader-answer (reader-refusal (now (file .entry)) (length (now (slow .entry))) starts) (now (file .entry))) × (now (slow .exit) ≡ filled (x .number) (held (now (file .entry)) .slow) (now (slow .entry))) ⌝ }
 {
     let answer = judge::judge_scenario(file, slow.len(), starts);
     if answer.number != 0 {
