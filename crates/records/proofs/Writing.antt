@@ -1,16 +1,28 @@
 -- Records written part by part as the starts of a file. Assumes nothing.
 use mathlib.Core.Path.{_≡_, refl, sym, ap, ap₂, _∙_, subst}
+use mathlib.Core.Bool.{cond}
 use mathlib.Core.List.{List, [], _∷_, _++_, append-assoc}
 use Prim.Native.Nat.{ℕ, zero, suc, _+_, _-_, _*_, _≤_, _<_, min}
+use native.Mathlib.Nat.{not-suc-le-zero}
 use native.Mathlib.Omega.{arith}
-use lib.ListN.{length, take, drop, length-append, length-take, length-drop, take-append-drop}
+use native.Mathlib.Decide.{ℕ-discrete}
+use lib.Dec.{eqb}
+use borrow.Author.Tests.{eq-eqb, ne-eqb}
+use lib.ListN.{length, take, drop, length-map, length-append, length-take, length-drop, take-append-drop}
 use lib.Seq.{take-add, take-all, take-at, drop-at, drop-drop, length-take-le}
 use Rattle.eikonal.specs.Board.{Start as Plain-start}
 use Rattle.eikonal.specs.Refusals.{starts-of}
+use Rattle.eikonal.specs.Entry.{plain}
+use Rattle.eikonal.specs.Inner.Judge.{judge, nothing-judged}
+use Rattle.eikonal.specs.declared.Reply.{Reply}
+use Rattle.eikonal.specs.declared.refusals.Judged.{Judged}
 use Rattle.scenario.specs.Bytes.{bytes-of}
 use Rattle.scenario.specs.File.{start-bytes}
+use Rattle.scenario.specs.Calls.{Writes}
+use Rattle.scenario.specs.Inner.Begin.{Begins}
 use Rattle.scenario.proofs.Records.{length-bytes, bytes-append}
 use Rattle.scenario.proofs.Written.{start-length}
+use Rattle.scenario.proofs.Beginning.{judged-most, Awaits, awaits, writes-none, writes-all}
 use Rattle.records.specs.declared.Start.{Start}
 use Rattle.records.specs.declared.parts.Part.{Part}
 use Rattle.records.specs.Records.{cells-of, begins-of, part-of}
@@ -19,11 +31,6 @@ use Rattle.records.proofs.Split.{part-at, part-long, plain-of, plain-ap
 -- a list in which bs stands from a place on, and all else stays
 abbrev pub entered : (at : ℕ) → (bs out : List ℕ) → List ℕ
 entered at bs out = take at out ++ (bs ++ drop (at + length bs) out)
-
--- what is left of a part that was lent
-pub part-entered : (at k k′ m : ℕ) (out ys bs : List ℕ) → k′ ≡ k → m ≡ k → length ys ≡ k → take m ys ≡ bs → take at out ++ (ys ++ drop k′ (drop at out)) ≡ take at out ++ (bs ++ drop (at + k) out)
-part-entered at k k′ m out ys bs e f g h =
-    ap₂ (λ u v. take at out ++ (u ++ v)) (sym (take-all m ys (omega arith)) ∙ h) (ap (λ u. drop u (drop at out)) e ∙ drop-drop k at out)
 
 pub entered-long : (at : ℕ) (bs out : List ℕ) → at + length bs ≤ length out → length (entered at bs out) ≡ length out
 entered-long at bs out h = simp (length-append, length-take, length-drop) (omega arith)
@@ -123,3 +130,47 @@ module _ (at count : ℕ) (out : List ℕ) (ys : List Start) where
           ∙ ap (λ (k : ℕ). take (at + length (bytes (take (min i count) ys))) (written-to i) ++ (bytes (part-at ys i) ++ drop (at + length (bytes (take (min i count) ys)) + k) (written-to i))) (sym bytes-of-part)
           ∙ entered-more at (bytes (take (min i count) ys)) (bytes (part-at ys i)) out (omega (arith, bytes-long (take (min i count) ys), under i, room))
           ∙ ap (λ (t : List ℕ). entered at t out) (sym (bytes-append start-bytes (plain-of (take (min i count) ys)) (plain-of (part-at ys i))) ∙ ap (bytes-of start-bytes) (sym (plain-append (take (min i count) ys) (part-at ys i)) ∙ ap plain-of (ap (λ (t : List Start). t ++ part-at ys i) here ∙ sym next)))
+
+-- ---- the call: all in front of the starts is written, and the records come behind it
+module _ (w h t g : ℕ) (ss : List ℕ) (ys : List Start) (j : Judged) (is-judged : j ≡ judge ss (plain-of ys) nothing-judged) where
+  lengths : (length (cells-of ys) ≡ length ys) × (length (begins-of ys) ≡ length ys)
+  unfolding cells-of begins-of
+  lengths = (length-map ys (λ s. s .cell), length-map ys (λ s. s .time))
+
+  -- records without a cause are no more than cells
+  pub records-most : j .number ≡ 0 → length ys ≡ length ys → length ys ≤ length ss
+  records-most z _ = omega (arith, judged-most ss (cells-of ys) (begins-of ys) (ap (λ u. u .number) (sym is-judged) ∙ z) (lengths .0 ∙ sym (lengths .1)), lengths .0)
+
+  module _ (out mid : List ℕ) (x : Reply) (b : Begins w h t g ss (length ys) (length ys) j out mid x) where
+    begun : Begins w h t g ss (length (cells-of ys)) (length (begins-of ys)) j out mid x
+    begun = subst (λ (n : ℕ). Begins w h t g ss n (length (begins-of ys)) j out mid x) (sym (lengths .0)) (subst (λ (n : ℕ). Begins w h t g ss (length ys) n j out mid x) (sym (lengths .1)) b)
+
+    waits : x .number ≡ 0 → Awaits g ss (cells-of ys) (begins-of ys) out mid x
+    waits z = awaits w h t g ss (cells-of ys) (begins-of ys) j is-judged out mid x begun z
+
+    pub place-good : x .number ≡ 0 → 8 * length ys ≤ x .count
+    place-good z = omega (arith, waits z .count, lengths .0)
+
+    module _ (at k : ℕ) (is-at : at ≡ cond (eqb (x .number) 0) (x .count - 8 * length ys) 0) (is-k : k ≡ cond (eqb (x .number) 0) (length ys) 0) where
+      at-zero : x .number ≡ 0 → (at ≡ x .count - 8 * length ys) × (k ≡ length ys)
+      at-zero z = (is-at ∙ rw (eq-eqb (x .number) 0 z), is-k ∙ rw (eq-eqb (x .number) 0 z))
+
+      at-none : (x .number ≡ 0 → ⊥) → (at ≡ 0) × (k ≡ 0)
+      at-none n = (is-at ∙ rw (ne-eqb (x .number) 0 n), is-k ∙ rw (ne-eqb (x .number) 0 n))
+
+      pub records-fit : (0 < k → k ≡ length ys) × (at + 8 * k ≤ length mid)
+      records-fit = elim (ℕ-discrete (x .number) 0) [
+        | yes z ↦ let a = at-zero z in ((λ _. a .1), omega (arith, a .0, a .1, place-good z, waits z .fits, waits z .long))
+        | no n ↦ let a = at-none n in ((λ l. absurd (not-suc-le-zero (subst (λ (m : ℕ). 0 < m) (a .1) l))), omega (arith, a .0, a .1))
+      ]
+
+      pub writes-records : (now : List ℕ) → now ≡ take at mid ++ (bytes (take k ys) ++ drop (at + 8 * k) mid) → Writes (plain w h ss (cells-of ys) (begins-of ys)) t g out now x
+      unfolding bytes-of starts-of cells-of begins-of
+      writes-records now e = elim (ℕ-discrete (x .number) 0) [
+        | yes z ↦ let a = at-zero z in
+            writes-all w h t g ss (cells-of ys) (begins-of ys) j is-judged out mid x begun z at now (omega (arith, a .0, waits z .count, lengths .0))
+            (e ∙ ap₂ (λ u v. take at mid ++ (bytes u ++ drop (at + 8 * v) mid)) (take-all k ys (omega (arith, a .1))) (a .1 ∙ sym (lengths .0)))
+        | no n ↦ let a = at-none n in
+            let stays : now ≡ mid = e ∙ ap₂ (λ u v. take u mid ++ (bytes (take v ys) ++ drop (u + 8 * v) mid)) (a .0) (a .1) in
+            subst (λ (o : List ℕ). Writes (plain w h ss (cells-of ys) (begins-of ys)) t g out o x) (sym stays) (writes-none w h t g ss (cells-of ys) (begins-of ys) j is-judged out mid x begun n)
+      ]
