@@ -1,8 +1,8 @@
 // Medians of interleaved runs: within a run every call is timed once on each board, so that what slows the machine slows all of them.
 // Neither times nor work are cleared before a timed call: times hold what the call before left, work its zeros.
 #include "../include/murgolab.h"
+#include "measure.hpp"
 #include "yardstick.hpp"
-#include <chrono>
 #include <cstdio>
 #include <cstdlib>
 #include <numeric>
@@ -11,18 +11,6 @@
 namespace {
 
 constexpr uint32_t horizon = 300000000;
-using Clock = std::chrono::steady_clock;
-
-double median(std::vector<double> v) {
-    std::nth_element(v.begin(), v.begin() + v.size() / 2, v.end());
-    return v[v.size() / 2];
-}
-
-template <class F> double micros(F f) {
-    auto from = Clock::now();
-    f();
-    return std::chrono::duration<double, std::micro>(Clock::now() - from).count();
-}
 
 uint32_t accepted(murgolab_reply r) {
     if (r.number) {

@@ -22,6 +22,9 @@ extern "C" {
 /* number 0: accepted, and count is the answer; else number is the refusal, and count is 0 */
 typedef struct { uint32_t number, count; } murgolab_reply;
 
+/* number 0: accepted, and the rest is what the file says; else number is the refusal, and the rest is 0 */
+typedef struct { uint32_t number, width, height, ticks, ground, starts; } murgolab_scenario;
+
 /* The local rule: the least whole t, not below the earlier of a and b, with p*p + q*q >= slowness*slowness, where a is the
  * earlier of left and right, b the earlier of above and below, p = t - a if a is earlier than t, else 0, and q likewise
  * from b. Never where both are never or the slowness is 0. A time above 300,000,000 counts as never.
@@ -30,6 +33,10 @@ murgolab_reply murgolab_local_rule(uint32_t slowness, uint32_t left, uint32_t ri
 
 /* D: the least d with 2*d*d >= slowness*slowness. Refused by 5 only: slowness above 4,095. The count is d. */
 murgolab_reply murgolab_diagonal(uint32_t slowness);
+
+/* The turn of a time: time / ticks, the fraction dropped; never for never, and for a time above 300,000,000.
+ * Refused by 3 only: ticks not 1 to 65,535. The count is the turn. */
+murgolab_reply murgolab_turn(uint32_t time, uint32_t ticks);
 
 /* The calls below take a board: width and height 1 to 256, N = width * height; slow: N slownesses, 0 is a wall; cells and
  * begins: the starts' cells, rising, and their times. times is N long. work is at least 4N long, and may hold anything;
@@ -56,6 +63,18 @@ murgolab_reply murgolab_tile_run_plain(uint32_t width, uint32_t height, const ui
     const uint32_t *cells, size_t cells_len, const uint32_t *begins, size_t begins_len,
     uint32_t across, uint32_t down, uint32_t stride, uint32_t horizon, const uint32_t *order, size_t order_len,
     uint32_t *times, size_t times_len, uint32_t *work, size_t work_len);
+
+/* Reads a scenario file: fills the first N entries of slow, and the first `starts` entries of cells and of begins; later
+ * entries stay. Any bytes may be handed in. Refused by 1 2 3 5 6 7 8 9, and by 14 where a list is too short. */
+murgolab_scenario murgolab_read_scenario_plain(const uint8_t *file, size_t file_len, uint32_t *slow, size_t slow_len,
+    uint32_t *cells, size_t cells_len, uint32_t *begins, size_t begins_len);
+
+/* Writes the one scenario file of a board, its ticks per turn, ground slowness and starts; later bytes of out stay. A file
+ * that was read and is written again with its own ground has the same bytes. The count is the file's length.
+ * Refused by 2 3 4 5 7 8 9, and by 14 where out is too short. */
+murgolab_reply murgolab_write_scenario_plain(uint32_t width, uint32_t height, uint32_t ticks, uint32_t ground,
+    const uint32_t *slow, size_t slow_len, const uint32_t *cells, size_t cells_len,
+    const uint32_t *begins, size_t begins_len, uint8_t *out, size_t out_len);
 
 #ifdef __cplusplus
 }

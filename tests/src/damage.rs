@@ -1,38 +1,61 @@
-//! Calls and files that the table has something against.
+//! Calls that the table has something against.
 
+use crate::board::Board;
 use crate::calls::{Call, Kind};
 use crate::random::Random;
+use crate::scenario::Held;
 use crate::{LARGEST, LATEST_START, LONGEST_SIDE, NEVER, SLOWEST};
 
 const BAD_SIDES: [u32; 8] = [0, LONGEST_SIDE + 1, LONGEST_SIDE + 2, 1_000, 65_536, 65_537, 1 << 31, NEVER];
+const TOO_SLOW: [u32; 4] = [SLOWEST + 1, 65_536, 1 << 31, NEVER];
 
 /// The numbers of the table that a march, a round or a run can be refused by.
 pub const CALL_CAUSES: [u32; 11] = [2, 4, 5, 7, 8, 9, 10, 11, 12, 13, 14];
+
+/// The numbers of the table that the writer of scenario files can refuse by.
+pub const WRITER_CAUSES: [u32; 8] = [2, 3, 4, 5, 7, 8, 9, 14];
 
 /// Gives a call the cause `number`, where it can have it. Earlier causes may hide it, so the second
 /// solver says what is answered.
 pub fn spoil_call(r: &mut Random, call: &mut Call, times: &mut usize, work: &mut usize, number: u32) {
     match number {
-        2 if r.once_in(2) => call.board.width = r.pick(&BAD_SIDES),
-        2 => call.board.height = r.pick(&BAD_SIDES),
-        4 => spoil_length(r, call),
-        5 => *any_of(r, &mut call.board.slow) = r.pick(&[SLOWEST + 1, 65_536, 1 << 31, NEVER]),
-        7 => spoil_cells(r, &mut call.board.cells, &mut call.board.begins, call.board.slow.len() as u32),
+        10 => spoil_numbers(r, &mut call.kind),
+        11 | 12 => spoil_tiles(r, &mut call.kind, number),
+        13 => *times = r.pick(&[0, 1, times.saturating_sub(1), *times + 1, 2 * *times]),
+        14 => *work = r.pick(&[0, 1, *work / 4, *work / 2, work.saturating_sub(1)]),
+        _ => spoil_board(r, &mut call.board, number),
+    }
+}
+
+/// The same for what is handed to the writer; `out` is the length of the list that it is lent.
+pub fn spoil_writing(r: &mut Random, held: &mut Held, out: &mut usize, number: u32) {
+    match number {
+        3 => held.ticks = r.pick(&[0, 65_536, 65_537, 1 << 31, NEVER]),
+        5 if r.once_in(3) => held.ground = r.pick(&TOO_SLOW),
+        14 => *out = r.pick(&[0, 15, *out / 2, out.saturating_sub(1)]),
+        _ => spoil_board(r, &mut held.board, number),
+    }
+}
+
+/// 2, 4, 5, 7, 8 and 9.
+fn spoil_board(r: &mut Random, board: &mut Board, number: u32) {
+    match number {
+        2 if r.once_in(2) => board.width = r.pick(&BAD_SIDES),
+        2 => board.height = r.pick(&BAD_SIDES),
+        4 => spoil_length(r, board),
+        5 => *any_of(r, &mut board.slow) = r.pick(&TOO_SLOW),
+        7 => spoil_cells(r, &mut board.cells, &mut board.begins, board.slow.len() as u32),
         8 => {
-            start_at_least_once(call);
-            *any_of(r, &mut call.board.begins) = r.pick(&[LATEST_START + 1, 1_048_576, LARGEST, NEVER]);
+            start_at_least_once(board);
+            *any_of(r, &mut board.begins) = r.pick(&[LATEST_START + 1, 1_048_576, LARGEST, NEVER]);
         }
-        9 => {
-            start_at_least_once(call);
-            let cell = r.pick(&call.board.cells) as usize;
-            if let Some(s) = call.board.slow.get_mut(cell) {
+        _ => {
+            start_at_least_once(board);
+            let cell = r.pick(&board.cells) as usize;
+            if let Some(s) = board.slow.get_mut(cell) {
                 *s = 0;
             }
         }
-        10 => spoil_numbers(r, &mut call.kind),
-        13 => *times = r.pick(&[0, 1, times.saturating_sub(1), *times + 1, 2 * *times]),
-        14 => *work = r.pick(&[0, 1, *work / 4, *work / 2, work.saturating_sub(1)]),
-        _ => spoil_tiles(r, &mut call.kind, number),
     }
 }
 
@@ -41,16 +64,14 @@ fn any_of<'a, T>(r: &mut Random, list: &'a mut [T]) -> &'a mut T {
     &mut list[at]
 }
 
-fn start_at_least_once(call: &mut Call) {
-    let board = &mut call.board;
+fn start_at_least_once(board: &mut Board) {
     if board.cells.is_empty() || board.begins.is_empty() {
         board.cells = vec![0];
         board.begins = vec![0];
     }
 }
 
-fn spoil_length(r: &mut Random, call: &mut Call) {
-    let board = &mut call.board;
+fn spoil_length(r: &mut Random, board: &mut Board) {
     let list = match r.below(4) {
         0 | 1 => &mut board.slow,
         2 => &mut board.cells,

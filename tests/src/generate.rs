@@ -175,16 +175,99 @@ pub fn call(r: &mut Random, board: Board) -> Call {
     Call { board, kind }
 }
 
-/// Ticks and ground for a board; the ground is mostly one of its slownesses.
-pub fn scenario(r: &mut Random, board: Board) -> Held {
-    let ticks = match r.below(4) {
+fn ticks(r: &mut Random) -> u32 {
+    match r.below(4) {
         0 => r.pick(&[1, 10, 65_535]),
         _ => r.spread(65_535).max(1),
-    };
+    }
+}
+
+/// Ticks and ground for a board; the ground is mostly one of its slownesses.
+pub fn scenario(r: &mut Random, board: Board) -> Held {
     let ground = match r.below(5) {
         0 => 0,
         1 => r.within(0, SLOWEST),
         _ => r.pick(&board.slow),
     };
-    Held { ticks, ground, board }
+    Held { ticks: ticks(r), ground, board }
+}
+
+/// How the slownesses of a board lie in its file.
+#[derive(Clone, Copy)]
+enum Lay {
+    NoRun,
+    OneRun,
+    RunACell,
+    Touching,
+    GroundBetween,
+}
+
+const LAYS: [Lay; 5] = [Lay::NoRun, Lay::OneRun, Lay::RunACell, Lay::Touching, Lay::GroundBetween];
+
+/// A scenario of a small board, in every lay.
+pub fn small_scenario(r: &mut Random) -> Held {
+    if r.once_in(2) {
+        let board = board(r, 14);
+        return scenario(r, board);
+    }
+    let (width, height, lay) = (r.within(1, 12), r.within(1, 12), r.pick(&LAYS));
+    laid_scenario(r, width, height, lay)
+}
+
+/// Scenarios with the shortest and the longest sides, in every lay; each has a seed of its own.
+pub fn scenarios_of_extreme_sides(first_seed: u64, mut each: impl FnMut(&mut Random, &Held, u64)) {
+    let mut seed = first_seed;
+    for (width, height, times) in [(1, 1, 60), (256, 1, 20), (1, 256, 20), (256, 256, 2)] {
+        for lay in LAYS.into_iter().cycle().take(LAYS.len() * times) {
+            let mut r = Random::new(seed);
+            let held = laid_scenario(&mut r, width, height, lay);
+            each(&mut r, &held, seed);
+            seed += 1;
+        }
+    }
+}
+
+/// The scenario with the longest file: a run and a start to each of 65,536 cells.
+pub fn longest_scenario() -> Held {
+    let slow = (0..65_536).map(|c| 1 + c % 4_094).collect();
+    let (cells, begins) = ((0..65_536).collect(), vec![LATEST_START; 65_536]);
+    Held { ticks: 65_535, ground: SLOWEST, board: Board { width: 256, height: 256, slow, cells, begins } }
+}
+
+/// A scenario whose slownesses lie as said.
+fn laid_scenario(r: &mut Random, width: u32, height: u32, lay: Lay) -> Held {
+    let ground = r.pick(&[0, 10, 10, 4_095]);
+    let slow = laid(r, (width * height) as usize, ground, lay);
+    let (cells, begins) = starts(r, &slow);
+    Held { ticks: ticks(r), ground, board: Board { width, height, slow, cells, begins } }
+}
+
+fn laid(r: &mut Random, n: usize, ground: u32, lay: Lay) -> Vec<u32> {
+    let mut slow = Vec::with_capacity(n);
+    let mut last = ground;
+    let longest = r.pick(&[6, 40, 1_000]);
+    while slow.len() < n {
+        last = match lay {
+            Lay::NoRun => ground,
+            Lay::GroundBetween if last != ground => ground,
+            _ => neither(r, ground, last),
+        };
+        let length = match lay {
+            Lay::NoRun | Lay::OneRun => n,
+            Lay::RunACell => 1,
+            _ => r.within(1, longest) as usize,
+        };
+        slow.resize(n.min(slow.len() + length), last);
+    }
+    slow
+}
+
+/// A slowness that is neither of two.
+fn neither(r: &mut Random, one: u32, other: u32) -> u32 {
+    loop {
+        let s = if r.once_in(4) { 0 } else { r.within(1, SLOWEST) };
+        if s != one && s != other {
+            return s;
+        }
+    }
 }

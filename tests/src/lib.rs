@@ -15,25 +15,33 @@
 //! | `scenario` | the scenario file's reader and writer |
 //! | `shown` | what the tablet's call answers and what `rings` prints |
 //! | `random`, `generate` | seeded boards, calls and scenarios |
+//! | `typed` | a scenario file typed by hand |
 //! | `damage`, `drafts` | calls and files that are damaged in every way that the table names |
 //! | `lent`, `compare` | lists lent with marked entries on both sides; a call played on both solvers |
 //! | `ffi` | the engine's C names, one module to a family, so that a test links what it calls |
+//! | `declared` | the C interface as the header, the source and Rust code state it |
+//! | `programs` | programs that are compiled and run |
+//! | `stacks` | threads with small stacks, and how much of a stack a call takes |
 
 pub mod board;
 pub mod calls;
 pub mod compare;
 pub mod damage;
+pub mod declared;
 pub mod drafts;
 pub mod ffi;
 pub mod generate;
 pub mod leap;
 pub mod lent;
 pub mod march;
+pub mod programs;
 pub mod random;
 pub mod rule;
 pub mod scenario;
 pub mod shown;
+pub mod stacks;
 pub mod tiles;
+pub mod typed;
 
 /// The mark for a time that does not come.
 pub const NEVER: u32 = u32::MAX;

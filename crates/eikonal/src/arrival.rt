@@ -8,9 +8,9 @@ ghost use Rattle.eikonal.specs.Board.{never, local};
 ghost use Rattle.eikonal.specs.Entry.{seen, Local-says};
 use super::Reply;
 
-const NEVER: u32 = 4294967295;
+pub const NEVER: u32 = 4294967295;
 
-const LARGEST: u32 = 300000000;
+pub const LARGEST: u32 = 300000000;
 
 fn lesser(a: u32, b: u32) -> u32
     ensures { λ r. ⌜ r ≡ min a b ⌝ }

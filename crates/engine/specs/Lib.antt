@@ -1,9 +1,2 @@
-pub mod Front
-pub mod Seams
-pub mod Board
-pub mod State
 pub mod Run
 pub mod Calls
-pub mod Orders
-pub mod Lists
-pub mod Rows

@@ -4,18 +4,14 @@ use mathlib.Core.Logic.{_≢_}
 use mathlib.Core.List.{List}
 use Prim.Native.Nat.{ℕ, suc, _*_, _≤_, _<_, min}
 use lib.ListN.{length, getD}
-use Rattle.eikonal.specs.Board.{Board, size, start-time, time, marched, largest}
-use Rattle.eikonal.specs.Tiles.{counts-as, altered, after-rounds, rounds}
-use Rattle.eikonal.specs.Refusals.{starts-of}
+use Rattle.eikonal.specs.Board.{Board, Start, size, start-time, time, marched}
+use Rattle.eikonal.specs.Tiles.{altered, after-rounds, rounds}
+use Rattle.eikonal.proofs.Good.{Good}
 use Rattle.queue.specs.Tree.{keys}
-use Rattle.engine.specs.Front.{gives, Tied, Settled, Upheld, Drift}
-use Rattle.engine.specs.Board.{tentative}
-use Rattle.engine.specs.State.{Held}
-use Rattle.engine.specs.declared.Shape.{Shape}
-
--- the rule of a board with stored times as ghosts
-abbrev pub rule-by : Board → (tw th : ℕ) → (stored : List ℕ) → ℕ → (ℕ → ℕ) → ℕ
-rule-by b tw th ts = gives b tw th (λ c e. counts-as b ts e)
+use Rattle.front.specs.Front.{Tied, Settled, Upheld, Drift}
+use Rattle.front.specs.Board.{rule-by, tentative}
+use Rattle.front.specs.State.{Held}
+use Rattle.front.specs.declared.Shape.{Shape}
 
 abbrev pub starts : Board → ℕ → ℕ
 starts b c = start-time c (b .starts)
@@ -29,22 +25,28 @@ pub record Between (b : Board) (tw th s h j : ℕ) (ts : List ℕ) (y k : ℕ �
   pub drift : (note : ℕ → ℕ) → Drift (size b) (time ts) y k 0 0 note
 
 -- the board with its starts
-abbrev pub whole : Shape → (slow cells begins : List ℕ) → Board
-whole s ss cs bs = record { wide = s .width; high = s .height; slow = ss; starts = starts-of cs bs }
+abbrev pub whole : Shape → (slow : List ℕ) → List Start → Board
+whole s ss xs = record { wide = s .width; high = s .height; slow = ss; starts = xs }
 
 -- after j rounds, with the work list at hand
-pub record At-round (s : Shape) (slow cells begins : List ℕ) (stride horizon j : ℕ) (times work : List ℕ) : Type 0 where
+pub record At-round (s : Shape) (slow : List ℕ) (xs : List Start) (stride horizon j : ℕ) (times work : List ℕ) : Type 0 where
   pub held : Held (s .cells) work
-  pub between : Between (whole s slow cells begins) (s .across) (s .down) stride horizon j times (tentative work (s .cells)) (keys work (s .cells))
+  pub between : Between (whole s slow xs) (s .across) (s .down) stride horizon j times (tentative work (s .cells)) (keys work (s .cells))
+
+-- the same, of some legal board that has the sides and slownesses
+pub record Amid (s : Shape) (slow : List ℕ) (stride horizon j : ℕ) (times work : List ℕ) : Type 0 where
+  pub starts : List Start
+  pub good : Good (whole s slow starts)
+  pub at : At-round s slow starts stride horizon j times work
 
 -- ONE ROUND MORE, in which m cells were taken: none just if the round alters nothing
-pub record One-round (s : Shape) (slow cells begins : List ℕ) (stride horizon j m : ℕ) (times times' work work' : List ℕ) : Type 0 where
+pub record One-round (s : Shape) (slow : List ℕ) (xs : List Start) (stride horizon j m : ℕ) (times times' work work' : List ℕ) : Type 0 where
   pub long : length times' ≡ length times
   pub kept : length work' ≡ length work
   pub past : (i : ℕ) → 4 * s .cells ≤ i → getD work' i 0 ≡ getD work i 0
-  pub next : At-round s slow cells begins stride horizon (suc j) times' work'
-  pub idle : m ≡ 0 → after-rounds (suc j) (whole s slow cells begins) (s .across) (s .down) stride horizon ≡ after-rounds j (whole s slow cells begins) (s .across) (s .down) stride horizon
-  pub busy : 1 ≤ m → altered (after-rounds j (whole s slow cells begins) (s .across) (s .down) stride horizon) (after-rounds (suc j) (whole s slow cells begins) (s .across) (s .down) stride horizon) ≢ 0
+  pub next : At-round s slow xs stride horizon (suc j) times' work'
+  pub idle : m ≡ 0 → after-rounds (suc j) (whole s slow xs) (s .across) (s .down) stride horizon ≡ after-rounds j (whole s slow xs) (s .across) (s .down) stride horizon
+  pub busy : 1 ≤ m → altered (after-rounds j (whole s slow xs) (s .across) (s .down) stride horizon) (after-rounds (suc j) (whole s slow xs) (s .across) (s .down) stride horizon) ≢ 0
 
 -- a leap: rounds up to r are before the least key and before the horizon
 pub record Leapt (least done stride horizon r : ℕ) : Type 0 where
@@ -52,9 +54,16 @@ pub record Leapt (least done stride horizon r : ℕ) : Type 0 where
   pub short : done < r → r * stride < min least horizon
 
 -- A WHOLE TILE RUN: its rounds, and the march's times
-pub record Ran (s : Shape) (slow cells begins : List ℕ) (stride horizon r : ℕ) (times times' work work' : List ℕ) : Type 0 where
-  pub counted : r ≡ rounds (whole s slow cells begins) (s .across) (s .down) stride horizon
-  pub marches : times' ≡ marched (whole s slow cells begins) horizon
+pub record Ran (s : Shape) (slow : List ℕ) (xs : List Start) (stride horizon r : ℕ) (times times' work work' : List ℕ) : Type 0 where
+  pub counted : r ≡ rounds (whole s slow xs) (s .across) (s .down) stride horizon
+  pub marches : times' ≡ marched (whole s slow xs) horizon
   pub long : length times' ≡ length times
   pub kept : length work' ≡ length work
   pub past : (i : ℕ) → 4 * s .cells ≤ i → getD work' i 0 ≡ getD work i 0
+
+-- WHATEVER STARTS the work list stands for: one round more, and a whole run
+abbrev pub Rounds-on : Shape → (slow : List ℕ) → (stride horizon j m : ℕ) → (times times' work work' : List ℕ) → Type 0
+Rounds-on s ss S H j m ts ts' v v' = (xs : List Start) → Good (whole s ss xs) → At-round s ss xs S H j ts v → One-round s ss xs S H j m ts ts' v v'
+
+abbrev pub Runs : Shape → (slow : List ℕ) → (stride horizon r : ℕ) → (times times' work work' : List ℕ) → Type 0
+Runs s ss S H r ts ts' v v' = (xs : List Start) → Good (whole s ss xs) → At-round s ss xs S H 0 ts v → Ran s ss xs S H r ts ts' v v'

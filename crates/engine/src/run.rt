@@ -4,11 +4,10 @@ ghost use Prim.Native.Nat.{ℕ, suc, _*_, _≤_, _<_, min};
 ghost use lib.Dec.{leb};
 ghost use lib.ListN.{length};
 ghost use Rattle.eikonal.specs.Board.{largest};
-ghost use Rattle.eikonal.proofs.Good.{Good};
 ghost use Rattle.queue.specs.Tree.{Tree, keys};
-ghost use Rattle.engine.specs.Board.{Ground};
-ghost use Rattle.engine.specs.Run.{whole, At-round, One-round, Leapt, Ran};
-use super::Shape;
+ghost use Rattle.front.specs.Board.{Ground};
+ghost use Rattle.engine.specs.Run.{Amid, Leapt, Rounds-on, Runs};
+use front::Shape;
 
 // The bound of the round after so many.
 fn bound_after(done: u32, stride: u32, horizon: u32) -> u32
@@ -62,8 +61,6 @@ fn leap(least: u32, done: u32, stride: u32, horizon: u32) -> u32
 // Works out the round after `done` rounds: the times are then those after one round more. Answers how many cells were taken.
 fn round(
     slow: &[u32],
-    cells: &[u32],
-    begins: &[u32],
     times: &mut [u32],
     work: &mut [u32],
     cols: &[u8; 257],
@@ -73,22 +70,20 @@ fn round(
     stride: u32,
     horizon: u32,
 ) -> usize
-    requires { ⌜ Ground shape (now slow) (now times) (now cols) (now rows) × Good (whole shape (now slow) (now cells) (now begins)) × At-round shape (now slow) (now cells) (now begins) stride horizon done (now times) (now work) × (done ≤ 1000000000) × (1 ≤ stride) × (stride ≤ largest) × (horizon ≤ largest) ⌝ }
-    ensures { λ m. ⌜ One-round shape (now (slow .entry)) (now (cells .entry)) (now (begins .entry)) stride horizon done m (now (times .entry)) (now (times .exit)) (now (work .entry)) (now (work .exit)) ⌝ }
+    requires { ⌜ Ground shape (now slow) (now times) (now cols) (now rows) × Amid shape (now slow) stride horizon done (now times) (now work) × (done ≤ 1000000000) × (1 ≤ stride) × (stride ≤ largest) × (horizon ≤ largest) ⌝ }
+    ensures { λ m. ⌜ Rounds-on shape (now (slow .entry)) stride horizon done m (now (times .entry)) (now (times .exit)) (now (work .entry)) (now (work .exit)) ⌝ }
 {
     let n = shape.cells;
     let bound = bound_after(done, stride, horizon);
-    let m = super::drain::drain(slow, times, work, cols, rows, shape, bound);
-    super::commit::store(times, work, n, m);
-    super::commit::announce(slow, times, work, cols, rows, shape, m);
+    let m = front::drain::drain(slow, times, work, cols, rows, shape, bound);
+    front::commit::store(times, work, n, m);
+    front::commit::announce(slow, times, work, cols, rows, shape, m);
     m
 }
 
 // Works rounds out, or leaps over them, until a round at the horizon alters nothing. Answers how many there are.
 pub fn run(
     slow: &[u32],
-    cells: &[u32],
-    begins: &[u32],
     times: &mut [u32],
     work: &mut [u32],
     cols: &[u8; 257],
@@ -97,25 +92,13 @@ pub fn run(
     stride: u32,
     horizon: u32,
 ) -> u32
-    requires { ⌜ Ground shape (now slow) (now times) (now cols) (now rows) × Good (whole shape (now slow) (now cells) (now begins)) × At-round shape (now slow) (now cells) (now begins) stride horizon 0 (now times) (now work) × (1 ≤ stride) × (stride ≤ largest) × (horizon ≤ largest) ⌝ }
-    ensures { λ r. ⌜ Ran shape (now (slow .entry)) (now (cells .entry)) (now (begins .entry)) stride horizon r (now (times .entry)) (now (times .exit)) (now (work .entry)) (now (work .exit)) ⌝ }
+    requires { ⌜ Ground shape (now slow) (now times) (now cols) (now rows) × Amid shape (now slow) stride horizon 0 (now times) (now work) × (1 ≤ stride) × (stride ≤ largest) × (horizon ≤ largest) ⌝ }
+    ensures { λ r. ⌜ Runs shape (now (slow .entry)) stride horizon r (now (times .entry)) (now (times .exit)) (now (work .entry)) (now (work .exit)) ⌝ }
 {
     let n = shape.cells;
     let mut done = 0;
     loop {
-        let m = round(
-            slow,
-            cells,
-            begins,
-            times,
-            work,
-            cols,
-            rows,
-            shape,
-            done,
-            stride,
-            horizon,
-        );
+        let m = round(slow, times, work, cols, rows, shape, done, stride, horizon);
         done += 1;
         if m == 0 {
             if at_horizon(done, stride, horizon) {

@@ -1,6 +1,8 @@
 // What others call: the C interface that include/murgolab.h declares. Each call meets the contract of the function that it hands over to.
-ghost use Rattle.eikonal.specs.Entry.{Local-says, Diagonal-says, March-says, Round-says, Run-says};
+ghost use Rattle.eikonal.specs.Entry.{plain, Local-says, Diagonal-says, March-says, Round-says, Run-says};
+ghost use Rattle.scenario.specs.Calls.{Turn-says, Reads, Writes};
 use eikonal::Reply;
+use scenario::Scenario;
 
 #[no_mangle]
 pub extern "C" fn murgolab_local_rule(
@@ -100,4 +102,39 @@ pub extern "C" fn murgolab_tile_run_plain(
         times,
         work,
     )
+}
+
+#[no_mangle]
+pub extern "C" fn murgolab_turn(time: u32, ticks: u32) -> Reply
+    ensures { λ x. ⌜ Turn-says time ticks x ⌝ }
+{
+    scenario::turn(time, ticks)
+}
+
+#[no_mangle]
+pub extern "C" fn murgolab_read_scenario_plain(
+    file: &[u8],
+    slow: &mut [u32],
+    cells: &mut [u32],
+    begins: &mut [u32],
+) -> Scenario
+    ensures { λ x. ⌜ Reads (now (file .entry)) (now (slow .entry)) (now (slow .exit)) (now (cells .entry)) (now (cells .exit)) (now (begins .entry)) (now (begins .exit)) x ⌝ }
+{
+    scenario_read::read_scenario(file, slow, cells, begins)
+}
+
+#[no_mangle]
+pub extern "C" fn murgolab_write_scenario_plain(
+    width: u32,
+    height: u32,
+    ticks: u32,
+    ground: u32,
+    slow: &[u32],
+    cells: &[u32],
+    begins: &[u32],
+    out: &mut [u8],
+) -> Reply
+    ensures { λ x. ⌜ Writes (plain width height (now (slow .entry)) (now (cells .entry)) (now (begins .entry))) ticks ground (now (out .entry)) (now (out .exit)) x ⌝ }
+{
+    scenario_write::write_scenario(width, height, ticks, ground, slow, cells, begins, out)
 }

@@ -5,10 +5,11 @@ use mathlib.Core.Logic.{_≢_}
 use mathlib.Core.List.{List, [], _++_}
 use Prim.Native.Nat.{ℕ, _*_, _≤_, _<_}
 use native.Mathlib.Omega.{arith}
+use native.Mathlib.Nat.{mul-le-mul}
 use lib.Dec.{eqb}
 use lib.ListN.{length, drop, replicate}
 use borrow.Author.Tests.{eq-eqb, ne-eqb, eqb-true, not-false}
-use Rattle.eikonal.specs.Board.{size, largest, solved, marched, reached}
+use Rattle.eikonal.specs.Board.{Start, size, largest, solved, marched, reached}
 use Rattle.eikonal.specs.Tiles.{round, altered, rounds, tile-count}
 use Rattle.eikonal.specs.Refusals.{Plain, board, starts-of, starts-rise, late, on-wall, side-good, any-above, board-refusal, starts-refusal, plain-refusal, march-refusal, round-refusal, run-refusal, order-good}
 use Rattle.eikonal.specs.Ledger.{Call, march, tile-run, one-round, refusal, cells-of, entered, counted, answer, answered, ledger-answer, ledger-after, work-after}
@@ -17,10 +18,11 @@ use Rattle.eikonal.specs.Promise.{board-good}
 use Rattle.eikonal.specs.declared.Reply.{Reply}
 use Rattle.eikonal.proofs.Good.{Good, passed}
 use Rattle.eikonal.proofs.Accepted.{Handed, Lent, March-fits, march-fits, Round-fits, round-fits, Run-fits, run-fits}
-use Rattle.engine.specs.Board.{land}
-use Rattle.engine.specs.Run.{whole}
-use Rattle.engine.specs.Calls.{Fit, Through, shaped}
-use Rattle.engine.specs.declared.Shape.{Shape}
+use Rattle.front.specs.Board.{land}
+use Rattle.front.specs.State.{Begun}
+use Rattle.engine.specs.Calls.{Fit, Seated, Through, shaped, Marches, Runs-through, Goes-round}
+use Rattle.engine.proofs.Theory.Calls.{drop-same}
+use Rattle.front.specs.declared.Shape.{Shape}
 
 -- ---- the ledger's answer to a refused call, and to one that has gone through
 pub keeps-refused : (c : Call) (x : Reply) (k : ℕ) (ts v : List ℕ) → k ≡ refusal c (length ts) → k ≢ 0 → x ≡ answer k 0 → Keeps c x ts ts v v
@@ -52,26 +54,44 @@ starts-good p ha =
     let r8 = passed (late (b .starts)) 7 _ (r7 .1) in
     (not-false _ (r7 .0), r8 .0)
 
-pub fits : (w h tw th : ℕ) (slow cells begins ts v : List ℕ) → Handed (plain w h slow cells begins) → 1 ≤ tw → tw ≤ 256 → 1 ≤ th → th ≤ 256
-    → Lent (plain w h slow cells begins) (length ts) (length v) → Fit (shaped w h tw th) slow cells begins ts v
-unfolding plain board size
-fits w h tw th slow cells begins ts v ha a b c d le =
-    let st = starts-good (plain w h slow cells begins) ha in
-    record {
-      good = ha .sound;
-      size = refl;
-      across-low = a;
-      across-high = b;
-      down-low = c;
-      down-high = d;
-      rises = st .0;
-      early = st .1;
-      paired = ha .paired;
-      many = le .times-fit;
-      room = le .work-fits;
-    }
+-- ---- what code has at hand: s is the shape of an accepted board, v the work list, and v' the same once the starts are placed
+module _ (w h tw th : ℕ) (slow cells begins : List ℕ) (s : Shape) (is : s ≡ shaped w h tw th) (ts v : List ℕ) (ha : Handed (plain w h slow cells begins))
+    (le : Lent (plain w h slow cells begins) (length ts) (length v)) where
+  -- the starts can be placed
+  places : (1 ≤ s .cells) × (s .cells ≤ 65536) × (4 * s .cells ≤ length v) × (length cells ≡ length begins) × (starts-rise (s .cells) 0 (starts-of cells begins) ≡ true) × (late (starts-of cells begins) ≡ false)
+  unfolding plain board size
+  places =
+      let g = ha .sound in
+      let st = starts-good (plain w h slow cells begins) ha in
+      rw is (omega (arith, mul-le-mul (g .wide-low) (g .high-low)), omega (arith, mul-le-mul (g .wide-high) (g .high-high)), le .work-fits, ha .paired, st .0, st .1)
 
--- ---- the calls, from what code has at hand: k is the refusal, s the shape
+  module _ (tw1 : 1 ≤ tw) (tw2 : tw ≤ 256) (th1 : 1 ≤ th) (th2 : th ≤ 256) (v' : List ℕ) (be : Begun (s .cells) (starts-of cells begins) v v') where
+    fits : Fit s slow (starts-of cells begins) ts v'
+    unfolding plain board size
+    fits =
+        rw is (record {
+          good = ha .sound;
+          size = refl;
+          across-low = tw1;
+          across-high = tw2;
+          down-low = th1;
+          down-high = th2;
+          many = le .times-fit;
+          room = omega (arith, le .work-fits, be .long);
+        })
+
+    seats : Seated s slow ts v'
+    seats = record { starts = starts-of cells begins; fit = fits; stands = be .stands }
+
+-- what is kept of the work list is kept from before the starts were placed
+through-from : {n k : ℕ} {xs : List Start} {us : List ℕ} {r : ℕ} {ts v v' w : List ℕ} → Begun n xs v v' → Through n k us r ts v' w → Through n k us r ts v w
+through-from {n = n} {v = v} {v' = v'} be th = record {
+  counts = th .counts;
+  enters = th .enters;
+  wipes = th .wipes ∙ ap (λ (x : List ℕ). replicate (4 * n) 0 ++ x) (drop-same (4 * n) v' v (be .long) (λ j l. be .rest j (omega arith)));
+}
+
+-- ---- the calls: k is the refusal
 module _ (w h : ℕ) (slow cells begins : List ℕ) (s : Shape) (ts v : List ℕ) (k : ℕ) where
   module _ (z : ℕ) (ref : k ≡ march-refusal (plain w h slow cells begins) z (length ts) (length v)) where
     pub march-refused : (x : Reply) → k ≢ 0 → x ≡ answer k 0 → March-says w h slow cells begins z x ts ts v v
@@ -87,21 +107,18 @@ module _ (w h : ℕ) (slow cells begins : List ℕ) (s : Shape) (ts v : List ℕ
       march-sides = (march-fit .given .sound .wide-high, march-fit .given .sound .high-high)
 
       module _ (is : s ≡ shaped w h 256 256) where
-        pub march-asks : Fit s slow cells begins ts v × (s .width ≤ s .across) × (s .height ≤ s .down) × (z ≤ largest)
-        march-asks =
-            rw is (
-              fits w h 256 256 slow cells begins ts v (march-fit .given) (omega arith) (omega arith) (omega arith) (omega arith) (march-fit .lists),
-              march-sides .0,
-              march-sides .1,
-              march-fit .horizon,
-            )
+        pub march-places : (1 ≤ s .cells) × (s .cells ≤ 65536) × (4 * s .cells ≤ length v) × (length cells ≡ length begins) × (starts-rise (s .cells) 0 (starts-of cells begins) ≡ true) × (late (starts-of cells begins) ≡ false)
+        march-places = places w h 256 256 slow cells begins s is ts v (march-fit .given) (march-fit .lists)
 
-        pub march-keeps : (us u : List ℕ) (r : ℕ) → Through (s .cells) (reached z (solved (whole s slow cells begins))) (marched (whole s slow cells begins) z) r us v u
-            → March-says w h slow cells begins z (answer 0 r) ts us v u
-        unfolding March-says refusal cells-of entered counted plain board size
-        march-keeps us u r th =
-            keeps-through (march (plain w h slow cells begins) z (length v)) (answer 0 r) k r ts us v u ref zero refl
-            (rw is at th)
+        module _ (v' : List ℕ) (be : Begun (s .cells) (starts-of cells begins) v v') where
+          pub march-asks : Seated s slow ts v' × (s .width ≤ s .across) × (s .height ≤ s .down) × (z ≤ largest)
+          march-asks = (seats w h 256 256 slow cells begins s is ts v (march-fit .given) (march-fit .lists) (omega arith) (omega arith) (omega arith) (omega arith) v' be, rw is (march-sides .0), rw is (march-sides .1), march-fit .horizon)
+
+          pub march-keeps : (us u : List ℕ) (r : ℕ) → Marches s slow z r ts us v' u → March-says w h slow cells begins z (answer 0 r) ts us v u
+          unfolding March-says refusal cells-of entered counted plain board size
+          march-keeps us u r go =
+              keeps-through (march (plain w h slow cells begins) z (length v)) (answer 0 r) k r ts us v u ref zero refl
+              (rw is at (through-from be (go (starts-of cells begins) (fits w h 256 256 slow cells begins s is ts v (march-fit .given) (march-fit .lists) (omega arith) (omega arith) (omega arith) (omega arith) v' be) (be .stands))))
 
   module _ (tw th S H : ℕ) (xs : List ℕ) (ref : k ≡ run-refusal (plain w h slow cells begins) tw th S H xs (length ts) (length v)) where
     pub run-refused : (x : Reply) → k ≢ 0 → x ≡ answer k 0 → Run-says w h slow cells begins tw th S H xs x ts ts v v
@@ -117,16 +134,18 @@ module _ (w h : ℕ) (slow cells begins : List ℕ) (s : Shape) (ts v : List ℕ
       run-sides = (run-fit .given .sound .wide-high, run-fit .given .sound .high-high)
 
       module _ (is : s ≡ shaped w h tw th) where
-        pub run-asks : Fit s slow cells begins ts v × (1 ≤ S) × (S ≤ largest) × (H ≤ largest)
-        run-asks =
-            let ti = run-fit .tiles in
-            rw is (fits w h tw th slow cells begins ts v (run-fit .given) (ti .across-low) (ti .across-high) (ti .down-low) (ti .down-high) (run-fit .lists), run-fit .stride-low, run-fit .stride-high, run-fit .horizon)
+        pub run-places : (1 ≤ s .cells) × (s .cells ≤ 65536) × (4 * s .cells ≤ length v) × (length cells ≡ length begins) × (starts-rise (s .cells) 0 (starts-of cells begins) ≡ true) × (late (starts-of cells begins) ≡ false)
+        run-places = places w h tw th slow cells begins s is ts v (run-fit .given) (run-fit .lists)
 
-        pub run-keeps : (us u : List ℕ) (r : ℕ) → Through (s .cells) (rounds (whole s slow cells begins) (s .across) (s .down) S H) (marched (whole s slow cells begins) H) r us v u
-            → Run-says w h slow cells begins tw th S H xs (answer 0 r) ts us v u
-        unfolding Run-says refusal cells-of entered counted plain board size
-        run-keeps us u r thr =
-            keeps-through (tile-run (plain w h slow cells begins) tw th S H xs (length v)) (answer 0 r) k r ts us v u ref zero refl (rw is at thr)
+        module _ (v' : List ℕ) (be : Begun (s .cells) (starts-of cells begins) v v') where
+          pub run-asks : Seated s slow ts v' × (1 ≤ S) × (S ≤ largest) × (H ≤ largest)
+          run-asks = (seats w h tw th slow cells begins s is ts v (run-fit .given) (run-fit .lists) (run-fit .tiles .across-low) (run-fit .tiles .across-high) (run-fit .tiles .down-low) (run-fit .tiles .down-high) v' be, run-fit .stride-low, run-fit .stride-high, run-fit .horizon)
+
+          pub run-keeps : (us u : List ℕ) (r : ℕ) → Runs-through s slow S H r ts us v' u → Run-says w h slow cells begins tw th S H xs (answer 0 r) ts us v u
+          unfolding Run-says refusal cells-of entered counted plain board size
+          run-keeps us u r go =
+              keeps-through (tile-run (plain w h slow cells begins) tw th S H xs (length v)) (answer 0 r) k r ts us v u ref zero refl
+              (rw is at (through-from be (go (starts-of cells begins) (fits w h tw th slow cells begins s is ts v (run-fit .given) (run-fit .lists) (run-fit .tiles .across-low) (run-fit .tiles .across-high) (run-fit .tiles .down-low) (run-fit .tiles .down-high) v' be) (be .stands))))
 
   module _ (tw th m : ℕ) (xs : List ℕ) (ref : k ≡ round-refusal (plain w h slow cells begins) tw th m xs (length ts) (length v)) where
     pub round-refused : (x : Reply) → k ≢ 0 → x ≡ answer k 0 → Round-says w h slow cells begins tw th m xs x ts ts v v
@@ -142,15 +161,16 @@ module _ (w h : ℕ) (slow cells begins : List ℕ) (s : Shape) (ts v : List ℕ
       round-sides = (round-fit .given .sound .wide-high, round-fit .given .sound .high-high)
 
       module _ (is : s ≡ shaped w h tw th) where
-        pub round-asks : Fit s slow cells begins ts v × (m ≤ largest) × (order-good (land s []) (s .across) (s .down) xs ≡ true)
-        unfolding order-good tile-count board plain
-        round-asks =
-            let ti = round-fit .tiles in
-            rw is (fits w h tw th slow cells begins ts v (round-fit .given) (ti .across-low) (ti .across-high) (ti .down-low) (ti .down-high) (round-fit .lists), round-fit .bound, ti .ordered)
+        pub round-places : (1 ≤ s .cells) × (s .cells ≤ 65536) × (4 * s .cells ≤ length v) × (length cells ≡ length begins) × (starts-rise (s .cells) 0 (starts-of cells begins) ≡ true) × (late (starts-of cells begins) ≡ false)
+        round-places = places w h tw th slow cells begins s is ts v (round-fit .given) (round-fit .lists)
 
-        pub round-keeps : (us u : List ℕ) (r : ℕ)
-            → Through (s .cells) (altered ts (round (whole s slow cells begins) (s .across) (s .down) m ts)) (round (whole s slow cells begins) (s .across) (s .down) m ts) r us v u
-            → Round-says w h slow cells begins tw th m xs (answer 0 r) ts us v u
-        unfolding Round-says refusal cells-of entered counted plain board size
-        round-keeps us u r thr =
-            keeps-through (one-round (plain w h slow cells begins) tw th m xs (length v)) (answer 0 r) k r ts us v u ref zero refl (rw is at thr)
+        module _ (v' : List ℕ) (be : Begun (s .cells) (starts-of cells begins) v v') where
+          pub round-asks : Seated s slow ts v' × (m ≤ largest) × (order-good (land s []) (s .across) (s .down) xs ≡ true)
+          unfolding order-good tile-count board plain
+          round-asks = (seats w h tw th slow cells begins s is ts v (round-fit .given) (round-fit .lists) (round-fit .tiles .across-low) (round-fit .tiles .across-high) (round-fit .tiles .down-low) (round-fit .tiles .down-high) v' be, round-fit .bound, rw is (round-fit .tiles .ordered))
+
+          pub round-keeps : (us u : List ℕ) (r : ℕ) → Goes-round s slow m r ts us v' u → Round-says w h slow cells begins tw th m xs (answer 0 r) ts us v u
+          unfolding Round-says refusal cells-of entered counted plain board size
+          round-keeps us u r go =
+              keeps-through (one-round (plain w h slow cells begins) tw th m xs (length v)) (answer 0 r) k r ts us v u ref zero refl
+              (rw is at (through-from be (go (starts-of cells begins) (fits w h tw th slow cells begins s is ts v (round-fit .given) (round-fit .lists) (round-fit .tiles .across-low) (round-fit .tiles .across-high) (round-fit .tiles .down-low) (round-fit .tiles .down-high) v' be) (be .stands))))

@@ -10,9 +10,8 @@ use lib.Dec.{ltb, leb, eqb}
 use lib.ListN.{length, getD, drop, replicate, length-drop, length-replicate, getD-replicate}
 use lib.Seq.{ext-getD, getD-drop}
 use borrow.Author.Tests.{lt-ltb, lt-leb, leb-true, eq-eqb}
-use Rattle.eikonal.specs.Board.{Board, never, largest, size, slowness, start-time, arrival, met, time, solved, cut, marched, reached, all-never}
+use Rattle.eikonal.specs.Board.{Board, Start, never, largest, size, slowness, start-time, arrival, met, time, solved, cut, marched, reached, all-never}
 use Rattle.eikonal.specs.Tiles.{tile-of, counts-as, round, altered, after-rounds, rounds, up}
-use Rattle.eikonal.specs.Refusals.{starts-of}
 use Rattle.eikonal.specs.Promise.{Neighbour}
 use Rattle.eikonal.proofs.Good.{Good}
 use Rattle.eikonal.proofs.Clip.{clip, cut-length}
@@ -23,26 +22,26 @@ use Rattle.eikonal.proofs.Solution.{plain, plain-sound, solved-plain}
 use Rattle.eikonal.proofs.Ghosts.{tiled}
 use Rattle.eikonal.proofs.CutRule.{cut-meets, round-by-rule}
 use Rattle.queue.specs.Tree.{keys}
-use Rattle.engine.specs.Front.{ghosted, gives, heard, Tied, Out, Settled, Midway, Upheld, Drift}
-use Rattle.engine.specs.Board.{land, rule-at, tentative, noted, Laid, Ground}
-use Rattle.engine.specs.State.{Held, Ready, Drained, Told, cells-below}
-use Rattle.engine.specs.Rows.{Wrote}
-use Rattle.engine.specs.Lists.{Filled, due, Finished}
-use Rattle.engine.specs.Run.{rule-by, starts, Between, whole, At-round, Ran}
-use Rattle.engine.specs.Calls.{Fit, Begun, Through}
-use Rattle.engine.specs.declared.Shape.{Shape}
+use Rattle.front.specs.Front.{ghosted, gives, heard, Tied, Out, Settled, Midway, Upheld, Drift}
+use Rattle.front.specs.Board.{land, rule-by, rule-at, tentative, noted, Laid, Ground}
+use Rattle.front.specs.State.{Held, Ready, Drained, Told, Standing, cells-below}
+use Rattle.rows.specs.Rows.{Wrote}
+use Rattle.rows.specs.Lists.{Filled, due, Finished}
+use Rattle.engine.specs.Run.{starts, Between, whole, At-round, Ran}
+use Rattle.engine.specs.Calls.{Fit, Through}
+use Rattle.front.specs.declared.Shape.{Shape}
 use Rattle.engine.proofs.Theory.Rounds.{drained-round}
-use Rattle.engine.proofs.Theory.Lists.{filled-front}
+use Rattle.rows.proofs.Theory.Lists.{filled-front}
 use Rattle.engine.proofs.Theory.Running.{size-whole}
-use Rattle.engine.proofs.Theory.Front.{Lawful}
-use Rattle.engine.proofs.Theory.Sight.{gives-late}
-use Rattle.engine.proofs.Theory.Draining.{lawful}
-use Rattle.engine.proofs.Theory.Telling.{told-held, told-long, told-rest, told-upheld, told-midway, told-fresh}
-use Rattle.engine.proofs.Theory.Waking.{none-below}
-use Rattle.engine.proofs.Theory.Beginning.{begun-held, begun-silent, begun-upheld, begun-drift, arrival-quiet}
+use Rattle.front.proofs.Theory.Front.{Lawful}
+use Rattle.front.proofs.Theory.Sight.{gives-late}
+use Rattle.front.proofs.Theory.Draining.{lawful}
+use Rattle.front.proofs.Theory.Telling.{told-held, told-long, told-rest, told-upheld, told-midway, told-fresh}
+use Rattle.front.proofs.Theory.Waking.{none-below}
+use Rattle.front.proofs.Theory.Beginning.{standing-held, standing-silent, standing-upheld, standing-drift, arrival-quiet}
 
 -- ---- the work list is wiped, and kept past its 4 N entries
-drop-same : (k : ℕ) (u v : List ℕ) → length u ≡ length v → ((j : ℕ) → k ≤ j → getD u j 0 ≡ getD v j 0) → drop k u ≡ drop k v
+pub drop-same : (k : ℕ) (u v : List ℕ) → length u ≡ length v → ((j : ℕ) → k ≤ j → getD u j 0 ≡ getD v j 0) → drop k u ≡ drop k v
 drop-same k u v l h =
     ext-getD 0 (drop k u) (drop k v) (simp length-drop (ap (λ (n : ℕ). n - k) l))
     (λ i m. getD-drop k u i 0 ∙ h (k + i) (omega arith) ∙ sym (getD-drop k v i 0))
@@ -52,7 +51,7 @@ pub wiped : (n : ℕ) (v u w : List ℕ) → 4 * n ≤ length v → length u ≡
 wiped n v u w r l h fi = filled-front (omega arith) fi ∙ ap (λ (x : List ℕ). replicate (4 * n) 0 ++ x) (drop-same (4 * n) u v l h)
 
 -- ---- a legal board without its starts, with its seams
-module _ (s : Shape) (slow cells begins times work : List ℕ) (fit : Fit s slow cells begins times work) where
+module _ (s : Shape) (slow : List ℕ) (xs : List Start) (times work : List ℕ) (fit : Fit s slow xs times work) where
   good-land : Good (land s slow)
   unfolding size slowness start-time
   good-land =
@@ -79,85 +78,85 @@ module _ (s : Shape) (slow cells begins times work : List ℕ) (fit : Fit s slow
     lines = lr;
   }
 
-  size-is : s .cells ≡ size (whole s slow cells begins)
-  size-is = size-whole s slow cells begins (fit .size)
+  size-is : s .cells ≡ size (whole s slow xs)
+  size-is = size-whole s slow xs (fit .size)
 
-  pub never-times : (ts : List ℕ) → Filled 0 (s .cells) never times ts → ts ≡ all-never (whole s slow cells begins)
+  pub never-times : (ts : List ℕ) → Filled 0 (s .cells) never times ts → ts ≡ all-never (whole s slow xs)
   unfolding all-never
-  never-times ts fi = ext-getD 0 ts _ (fi .long ∙ fit .many ∙ size-is ∙ sym (length-replicate (size (whole s slow cells begins)) never)) same
+  never-times ts fi = ext-getD 0 ts _ (fi .long ∙ fit .many ∙ size-is ∙ sym (length-replicate (size (whole s slow xs)) never)) same
     where
-      same : (c : ℕ) → c < length ts → getD ts c 0 ≡ getD (replicate (size (whole s slow cells begins)) never) c 0
-      same c l = fi .inside c (omega arith) (omega (arith, fi .long, fit .many)) ∙ sym (getD-replicate (size (whole s slow cells begins)) c never 0 (omega (arith, size-is, fi .long, fit .many)))
+      same : (c : ℕ) → c < length ts → getD ts c 0 ≡ getD (replicate (size (whole s slow xs)) never) c 0
+      same c l = fi .inside c (omega arith) (omega (arith, fi .long, fit .many)) ∙ sym (getD-replicate (size (whole s slow xs)) c never 0 (omega (arith, size-is, fi .long, fit .many)))
 
   -- ---- A TILE RUN begins with all times never
-  module _ (ts v v' : List ℕ) (be : Begun (s .cells) (starts-of cells begins) v v') (all : ts ≡ all-never (whole s slow cells begins)) (S H : ℕ) where
+  module _ (be : Standing (s .cells) xs work) (ts : List ℕ) (all : ts ≡ all-never (whole s slow xs)) (S H : ℕ) where
     never-at : (c : ℕ) → time ts c ≡ never
-    never-at c = ap (λ (x : List ℕ). time x c) all ∙ never-time (whole s slow cells begins) c
+    never-at c = ap (λ (x : List ℕ). time x c) all ∙ never-time (whole s slow xs) c
 
-    ghost-never : (e : ℕ) → counts-as (whole s slow cells begins) ts e ≡ never
+    ghost-never : (e : ℕ) → counts-as (whole s slow xs) ts e ≡ never
     unfolding counts-as
-    ghost-never e = rw (never-at e) (go (eqb (slowness (whole s slow cells begins) e) 0))
+    ghost-never e = rw (never-at e) (go (eqb (slowness (whole s slow xs) e) 0))
       where
         go : (p : Bool) → cond (p || ltb largest never) never never ≡ never
         go true = refl
         go false = refl
 
-    quiet : (c : ℕ) → c < size (whole s slow cells begins) → rule-by (whole s slow cells begins) (s .across) (s .down) ts c (heard (tentative v' (s .cells)) (keys v' (s .cells))) ≡ never
-    quiet c l = rw (arrival-quiet (fit .good) c l (ghosted (whole s slow cells begins) (s .across) (s .down) (λ d e. counts-as (whole s slow cells begins) ts e) (heard (tentative v' (s .cells)) (keys v' (s .cells))) c) seen)
+    quiet : (c : ℕ) → c < size (whole s slow xs) → rule-by (whole s slow xs) (s .across) (s .down) ts c (heard (tentative work (s .cells)) (keys work (s .cells))) ≡ never
+    quiet c l = rw (arrival-quiet (fit .good) c l (ghosted (whole s slow xs) (s .across) (s .down) (λ d e. counts-as (whole s slow xs) ts e) (heard (tentative work (s .cells)) (keys work (s .cells))) c) seen)
       where
         pick : (p : Bool) (e x y : ℕ) → x ≡ never → y ≡ never → cond p x y ≡ never
         pick true e x y a b = a
         pick false e x y a b = b
 
-        seen : (e : ℕ) → e < size (whole s slow cells begins) → Neighbour (whole s slow cells begins) c e
-            → ghosted (whole s slow cells begins) (s .across) (s .down) (λ d a. counts-as (whole s slow cells begins) ts a) (heard (tentative v' (s .cells)) (keys v' (s .cells))) c e ≡ never
-        seen e on n = pick (eqb (tile-of (whole s slow cells begins) (s .across) (s .down) c) (tile-of (whole s slow cells begins) (s .across) (s .down) e)) e _ _ (begun-silent be e (rw size-is on)) (ghost-never e)
+        seen : (e : ℕ) → e < size (whole s slow xs) → Neighbour (whole s slow xs) c e
+            → ghosted (whole s slow xs) (s .across) (s .down) (λ d a. counts-as (whole s slow xs) ts a) (heard (tentative work (s .cells)) (keys work (s .cells))) c e ≡ never
+        seen e on n = pick (eqb (tile-of (whole s slow xs) (s .across) (s .down) c) (tile-of (whole s slow xs) (s .across) (s .down) e)) e _ _ (standing-silent be e (rw size-is on)) (ghost-never e)
 
-    pub run-start : At-round s slow cells begins S H 0 ts v'
+    pub run-start : At-round s slow xs S H 0 ts work
     unfolding after-rounds
     run-start = record {
-      held = begun-held be;
+      held = standing-held be;
       between = record {
         is = all;
-        tied = subst (λ n. Tied n (tentative v' (s .cells)) (keys v' (s .cells))) size-is (begun-held be .tied);
+        tied = subst (λ n. Tied n (tentative work (s .cells)) (keys work (s .cells))) size-is (standing-held be .tied);
         settled = λ c l. rw (quiet c l) (be .placed .small c (rw size-is l));
-        upheld = subst (λ n. Upheld n (rule-by (whole s slow cells begins) (s .across) (s .down) ts) (starts (whole s slow cells begins)) (tentative v' (s .cells))) size-is (begun-upheld be (rule-by (whole s slow cells begins) (s .across) (s .down) ts));
-        drift = λ note. subst (λ n. Drift n (time ts) (tentative v' (s .cells)) (keys v' (s .cells)) 0 0 note) size-is (begun-drift be (time ts) (λ c l. never-at c) note);
+        upheld = subst (λ n. Upheld n (rule-by (whole s slow xs) (s .across) (s .down) ts) (starts (whole s slow xs)) (tentative work (s .cells))) size-is (standing-upheld be (rule-by (whole s slow xs) (s .across) (s .down) ts));
+        drift = λ note. subst (λ n. Drift n (time ts) (tentative work (s .cells)) (keys work (s .cells)) 0 0 note) size-is (standing-drift be (time ts) (λ c l. never-at c) note);
       };
     }
 
     -- and goes through
-    pub run-through : (us v2 v3 : List ℕ) (r : ℕ) → Ran s slow cells begins S H r ts us v' v2 → length v ≡ length work → ((j : ℕ) → 4 * s .cells ≤ j → getD v j 0 ≡ getD work j 0)
-        → Filled 0 (4 * s .cells) 0 v2 v3 → Through (s .cells) (rounds (whole s slow cells begins) (s .across) (s .down) S H) (marched (whole s slow cells begins) H) r us work v3
-    run-through us v2 v3 r ran l h fi = record {
+    pub run-through : (us v2 v3 : List ℕ) (r : ℕ) → Ran s slow xs S H r ts us work v2
+        → Filled 0 (4 * s .cells) 0 v2 v3 → Through (s .cells) (rounds (whole s slow xs) (s .across) (s .down) S H) (marched (whole s slow xs) H) r us work v3
+    run-through us v2 v3 r ran fi = record {
       counts = ran .counted;
       enters = ran .marches;
-      wipes = wiped (s .cells) work v2 v3 (fit .room) (ran .kept ∙ be .long ∙ l) (λ j m. ran .past j m ∙ be .rest j (omega arith) ∙ h j m) fi;
+      wipes = wiped (s .cells) work v2 v3 (fit .room) (ran .kept) (ran .past) fi;
     }
 
   -- ---- WHAT A DRAINED FRONT WRITES, cut at the bound, is the round
   drained-writes : (ts v v1 us : List ℕ) (m h : ℕ) → h ≤ largest → Drained (s .cells) h m (rule-at s slow ts) v v1
-      → Upheld (s .cells) (rule-at s slow ts) (starts (whole s slow cells begins)) (tentative v (s .cells))
-      → length us ≡ s .cells → ((c : ℕ) → c < s .cells → time us c ≡ due h v1 (s .cells) c) → us ≡ round (whole s slow cells begins) (s .across) (s .down) h ts
+      → Upheld (s .cells) (rule-at s slow ts) (starts (whole s slow xs)) (tentative v (s .cells))
+      → length us ≡ s .cells → ((c : ℕ) → c < s .cells → time us c ≡ due h v1 (s .cells) c) → us ≡ round (whole s slow xs) (s .across) (s .down) h ts
   unfolding arrival slowness tile-of counts-as
   drained-writes ts v v1 us m h i dr up l each =
       drained-round (fit .good) (s .across) (s .down) h ts (tentative v1 (s .cells)) (keys v1 (s .cells)) i
       (subst (λ n. Tied n (tentative v1 (s .cells)) (keys v1 (s .cells))) size-is (dr .held .tied))
-      (subst (λ n. Settled n (rule-by (whole s slow cells begins) (s .across) (s .down) ts) (tentative v1 (s .cells)) (keys v1 (s .cells))) size-is (dr .settled))
-      (subst (λ n. Upheld n (rule-by (whole s slow cells begins) (s .across) (s .down) ts) (starts (whole s slow cells begins)) (tentative v1 (s .cells))) size-is (dr .upheld (starts (whole s slow cells begins)) up))
+      (subst (λ n. Settled n (rule-by (whole s slow xs) (s .across) (s .down) ts) (tentative v1 (s .cells)) (keys v1 (s .cells))) size-is (dr .settled))
+      (subst (λ n. Upheld n (rule-by (whole s slow xs) (s .across) (s .down) ts) (starts (whole s slow xs)) (tentative v1 (s .cells))) size-is (dr .upheld (starts (whole s slow xs)) up))
       (λ c k. dr .keys-past c (rw size-is k)) us (l ∙ size-is) (λ c k. each c (rw size-is k))
 
   -- ---- A WHOLE MARCH is a round with one tile
   module _ (wide : s .width ≤ s .across) (high : s .height ≤ s .down) where
-    one-tile : (c : ℕ) → c < size (whole s slow cells begins) → tile-of (whole s slow cells begins) (s .across) (s .down) c ≡ 0
+    one-tile : (c : ℕ) → c < size (whole s slow xs) → tile-of (whole s slow xs) (s .across) (s .down) c ≡ 0
     unfolding tile-of size
     one-tile c l =
         let row : c / s .width / s .down ≡ 0 = div-eq-of-lt (omega (arith, row-low (s .width) (s .height) c (fit .good .wide-low) l)) in
         let col : c % s .width / s .across ≡ 0 = div-eq-of-lt (omega (arith, mod-lt c (fit .good .wide-low))) in
         rw (row, col) (omega arith)
 
-    same-tile : (c e : ℕ) → c < size (whole s slow cells begins) → e < size (whole s slow cells begins)
-        → eqb (tile-of (whole s slow cells begins) (s .across) (s .down) c) (tile-of (whole s slow cells begins) (s .across) (s .down) e) ≡ true
+    same-tile : (c e : ℕ) → c < size (whole s slow xs) → e < size (whole s slow xs)
+        → eqb (tile-of (whole s slow xs) (s .across) (s .down) c) (tile-of (whole s slow xs) (s .across) (s .down) e) ≡ true
     same-tile c e l m = eq-eqb _ _ (one-tile c l ∙ sym (one-tile e m))
 
     reached-cut : (h : ℕ) → h < never → (xs : List ℕ) → reached h (cut h xs) ≡ reached h xs
@@ -169,87 +168,85 @@ module _ (s : Shape) (slow cells begins times work : List ℕ) (fit : Fit s slow
         go true e r = rw (e, r)
         go false e r = rw (lt-leb never h l, r)
 
-    round-is-march : (h : ℕ) → h ≤ largest → (ts : List ℕ) → marched (whole s slow cells begins) h ≡ round (whole s slow cells begins) (s .across) (s .down) h ts
+    round-is-march : (h : ℕ) → h ≤ largest → (ts : List ℕ) → marched (whole s slow xs) h ≡ round (whole s slow xs) (s .across) (s .down) h ts
     unfolding marched
     round-is-march h l ts =
-        round-by-rule (whole s slow cells begins) (fit .good) (s .across) (s .down) h l ts (marched (whole s slow cells begins) h) long meets
+        round-by-rule (whole s slow xs) (fit .good) (s .across) (s .down) h l ts (marched (whole s slow xs) h) long meets
       where
-        long : length (marched (whole s slow cells begins) h) ≡ size (whole s slow cells begins)
-        long = cut-length h (solved (whole s slow cells begins)) ∙ ap length (solved-plain (whole s slow cells begins)) ∙ solved-length (whole s slow cells begins) plain
+        long : length (marched (whole s slow xs) h) ≡ size (whole s slow xs)
+        long = cut-length h (solved (whole s slow xs)) ∙ ap length (solved-plain (whole s slow xs)) ∙ solved-length (whole s slow xs) plain
 
-        fixed : (c : ℕ) → c < size (whole s slow cells begins) → time (marched (whole s slow cells begins) h) c ≡ clip h (met (whole s slow cells begins) c (time (marched (whole s slow cells begins) h)))
-        fixed c m = rw (solved-plain (whole s slow cells begins)) (cut-meets (whole s slow cells begins) plain plain-sound (fit .good) h (omega arith) c ∙ ap (clip h) (rule-on (whole s slow cells begins) plain _ c m))
+        fixed : (c : ℕ) → c < size (whole s slow xs) → time (marched (whole s slow xs) h) c ≡ clip h (met (whole s slow xs) c (time (marched (whole s slow xs) h)))
+        fixed c m = rw (solved-plain (whole s slow xs)) (cut-meets (whole s slow xs) plain plain-sound (fit .good) h (omega arith) c ∙ ap (clip h) (rule-on (whole s slow xs) plain _ c m))
 
-        meets : (c : ℕ) → c < size (whole s slow cells begins)
-            → time (marched (whole s slow cells begins) h) c ≡ clip h (met (whole s slow cells begins) c (tiled (whole s slow cells begins) (s .across) (s .down) ts (time (marched (whole s slow cells begins) h)) c))
+        meets : (c : ℕ) → c < size (whole s slow xs)
+            → time (marched (whole s slow xs) h) c ≡ clip h (met (whole s slow xs) c (tiled (whole s slow xs) (s .across) (s .down) ts (time (marched (whole s slow xs) h)) c))
         meets c m =
             fixed c m
             ∙ ap (clip h)
             (met-capped (fit .good) c _
-            ∙ ap (λ (u : ℕ). min (start-time c (starts-of cells begins)) (min never u))
+            ∙ ap (λ (u : ℕ). min (start-time c xs) (min never u))
             (arrival-same (fit .good) c m _ _ (λ e k n. rw (same-tile c e m k)))
             ∙ sym (met-capped (fit .good) c _))
 
-    module _ (ts v v' : List ℕ) (be : Begun (s .cells) (starts-of cells begins) v v') where
-      quiet-march : (c : ℕ) → c < size (whole s slow cells begins) → rule-by (whole s slow cells begins) (s .across) (s .down) ts c (heard (tentative v' (s .cells)) (keys v' (s .cells))) ≡ never
+    module _ (be : Standing (s .cells) xs work) (ts : List ℕ) where
+      quiet-march : (c : ℕ) → c < size (whole s slow xs) → rule-by (whole s slow xs) (s .across) (s .down) ts c (heard (tentative work (s .cells)) (keys work (s .cells))) ≡ never
       quiet-march c l =
-          rw (arrival-quiet (fit .good) c l (ghosted (whole s slow cells begins) (s .across) (s .down) (λ d e. counts-as (whole s slow cells begins) ts e) (heard (tentative v' (s .cells)) (keys v' (s .cells))) c)
-          (λ e on n. rw (same-tile c e l on) (begun-silent be e (rw size-is on))))
+          rw (arrival-quiet (fit .good) c l (ghosted (whole s slow xs) (s .across) (s .down) (λ d e. counts-as (whole s slow xs) ts e) (heard (tentative work (s .cells)) (keys work (s .cells))) c)
+          (λ e on n. rw (same-tile c e l on) (standing-silent be e (rw size-is on))))
 
-      pub march-ready : Ready (s .cells) (rule-at s slow ts) v'
+      pub march-ready : Ready (s .cells) (rule-at s slow ts) work
       unfolding arrival slowness tile-of counts-as
       march-ready = record {
-        held = begun-held be;
+        held = standing-held be;
         settled = λ c l. rw (quiet-march c (rw (← size-is) l)) (be .placed .small c l);
-        drifting = record { stored = λ c. never; last = 0; drift = begun-drift be (λ c. never) (λ c l. refl) (noted v' (s .cells)) };
+        drifting = record { stored = λ c. never; last = 0; drift = standing-drift be (λ c. never) (λ c l. refl) (noted work (s .cells)) };
       }
 
       -- and goes through
-      pub march-through : (us v1 v2 : List ℕ) (m h r : ℕ) → h ≤ largest → Drained (s .cells) h m (rule-at s slow ts) v' v1 → Finished h (s .cells) v1 us r
-          → length v ≡ length work → ((j : ℕ) → 4 * s .cells ≤ j → getD v j 0 ≡ getD work j 0)
-          → Filled 0 (4 * s .cells) 0 v1 v2 → Through (s .cells) (reached h (solved (whole s slow cells begins))) (marched (whole s slow cells begins) h) r us work v2
+      pub march-through : (us v1 v2 : List ℕ) (m h r : ℕ) → h ≤ largest → Drained (s .cells) h m (rule-at s slow ts) work v1 → Finished h (s .cells) v1 us r
+          → Filled 0 (4 * s .cells) 0 v1 v2 → Through (s .cells) (reached h (solved (whole s slow xs))) (marched (whole s slow xs) h) r us work v2
       unfolding marched
-      march-through us v1 v2 m h r i dr fin l past fi = record {
+      march-through us v1 v2 m h r i dr fin fi = record {
         counts = fin .counted ∙ ap (reached h) is ∙ counted-cut;
         enters = is;
-        wipes = wiped (s .cells) work v1 v2 (fit .room) (dr .long ∙ be .long ∙ l) (λ j k. dr .past j k ∙ be .rest j (omega arith) ∙ past j k) fi;
+        wipes = wiped (s .cells) work v1 v2 (fit .room) (dr .long) (dr .past) fi;
       }
         where
-          counted-cut : reached h (marched (whole s slow cells begins) h) ≡ reached h (solved (whole s slow cells begins))
-          counted-cut = reached-cut h (omega arith) (solved (whole s slow cells begins))
+          counted-cut : reached h (marched (whole s slow xs) h) ≡ reached h (solved (whole s slow xs))
+          counted-cut = reached-cut h (omega arith) (solved (whole s slow xs))
 
-          is : us ≡ marched (whole s slow cells begins) h
-          is = drained-writes ts v' v1 us m h i dr (begun-upheld be (rule-at s slow ts)) (fin .long) (fin .each) ∙ sym (round-is-march h i ts)
+          is : us ≡ marched (whole s slow xs) h
+          is = drained-writes ts work v1 us m h i dr (standing-upheld be (rule-at s slow ts)) (fin .long) (fin .each) ∙ sym (round-is-march h i ts)
 
   -- ---- A SINGLE ROUND: every cell hears the stored times first
-  module _ (ts v v' w : List ℕ) (be : Begun (s .cells) (starts-of cells begins) v v') (cols rows : List ℕ) (gr : Ground s slow ts cols rows)
-      (told : Told (s .cells) (rule-at s slow ts) 0 (cells-below (s .cells)) v' w) where
+  module _ (be : Standing (s .cells) xs work) (ts w cols rows : List ℕ) (gr : Ground s slow ts cols rows)
+      (told : Told (s .cells) (rule-at s slow ts) 0 (cells-below (s .cells)) work w) where
     law : Lawful (s .cells) (rule-at s slow ts)
     law = lawful s slow ts cols rows gr
 
-    late-all : Midway (s .cells) (rule-at s slow ts) 0 (λ d. Out d (cells-below (s .cells)) × Unit {0}) (tentative v' (s .cells)) (keys v' (s .cells))
+    late-all : Midway (s .cells) (rule-at s slow ts) 0 (λ d. Out d (cells-below (s .cells)) × Unit {0}) (tentative work (s .cells)) (keys work (s .cells))
     late-all = record {
-      weak = λ c l. omega (arith, gives-late (gr .good) (s .across) (s .down) (λ d e. counts-as (land s slow) ts e) c (heard (tentative v' (s .cells)) (keys v' (s .cells))));
+      weak = λ c l. omega (arith, gives-late (gr .good) (s .across) (s .down) (λ d e. counts-as (land s slow) ts e) c (heard (tentative work (s .cells)) (keys work (s .cells))));
       settled = λ c l o. absurd (none-below (s .cells) c l (o .0));
     }
 
     pub round-ready : Ready (s .cells) (rule-at s slow ts) w
     round-ready = record {
-      held = told-held (s .cells) (rule-at s slow ts) 0 (begun-held be) told;
-      settled = λ c l. told-midway (s .cells) (rule-at s slow ts) 0 (rule-at s slow ts) law (λ e k f. omega arith) (λ d. Unit {0}) (begun-held be) told late-all .settled c l tt;
-      drifting = record { stored = λ c. never; last = 0; drift = told-fresh (s .cells) (rule-at s slow ts) 0 (λ c. never) (noted w (s .cells)) (begun-held be) told (begun-drift be (λ c. never) (λ c l. refl) (noted w (s .cells))) };
+      held = told-held (s .cells) (rule-at s slow ts) 0 (standing-held be) told;
+      settled = λ c l. told-midway (s .cells) (rule-at s slow ts) 0 (rule-at s slow ts) law (λ e k f. omega arith) (λ d. Unit {0}) (standing-held be) told late-all .settled c l tt;
+      drifting = record { stored = λ c. never; last = 0; drift = told-fresh (s .cells) (rule-at s slow ts) 0 (λ c. never) (noted w (s .cells)) (standing-held be) told (standing-drift be (λ c. never) (λ c l. refl) (noted w (s .cells))) };
     }
 
     pub round-through : (us v1 v2 : List ℕ) (m h r : ℕ) → h ≤ largest → Drained (s .cells) h m (rule-at s slow ts) w v1 → length ts ≡ s .cells → Wrote s h v1 ts us r
-        → length v ≡ length work → ((j : ℕ) → 4 * s .cells ≤ j → getD v j 0 ≡ getD work j 0)
         → Filled 0 (4 * s .cells) 0 v1 v2
-        → Through (s .cells) (altered ts (round (whole s slow cells begins) (s .across) (s .down) h ts)) (round (whole s slow cells begins) (s .across) (s .down) h ts) r us work v2
-    round-through us v1 v2 m h r i dr tl wr l past fi = record {
+        → Through (s .cells) (altered ts (round (whole s slow xs) (s .across) (s .down) h ts)) (round (whole s slow xs) (s .across) (s .down) h ts) r us work v2
+    round-through us v1 v2 m h r i dr tl wr fi = record {
       counts = wr .counted ∙ ap (altered ts) is;
       enters = is;
-      wipes = wiped (s .cells) work v1 v2 (fit .room) (dr .long ∙ told-long (s .cells) _ _ told ∙ be .long ∙ l)
-          (λ j k. dr .past j k ∙ told-rest (s .cells) _ _ told j (omega arith) ∙ be .rest j (omega arith) ∙ past j k) fi;
+      wipes = wiped (s .cells) work v1 v2 (fit .room) (dr .long ∙ told-long (s .cells) _ _ told)
+          (λ j k. dr .past j k ∙ told-rest (s .cells) _ _ told j (omega arith)) fi;
     }
       where
-        is : us ≡ round (whole s slow cells begins) (s .across) (s .down) h ts
-        is = drained-writes ts w v1 us m h i dr (told-upheld (s .cells) (rule-at s slow ts) 0 law (starts (whole s slow cells begins)) told (begun-upheld be (rule-at s slow ts))) (wr .long ∙ tl) (wr .each)
+        is : us ≡ round (whole s slow xs) (s .across) (s .down) h ts
+        is = drained-writes ts w v1 us m h i dr (told-upheld (s .cells) (rule-at s slow ts) 0 law (starts (whole s slow xs)) told (standing-upheld be (rule-at s slow ts))) (wr .long ∙ tl) (wr .each)

@@ -21,10 +21,12 @@ use Rattle.eikonal.proofs.Altered.{altered-none, altered-same}
 use Rattle.eikonal.proofs.Rounds.{round-time, after-length}
 use Rattle.eikonal.proofs.Ghosts.{tiled}
 use Rattle.eikonal.proofs.CutRule.{round-by-rule}
-use Rattle.engine.specs.Front.{ghosted, gives, Tied, Settled, Upheld, total, fallen, Taken, Drift, Written}
-use Rattle.engine.specs.Run.{rule-by, starts, Between}
-use Rattle.engine.proofs.Theory.Front.{ended}
-use Rattle.engine.proofs.Theory.Sight.{gives-lawful}
+use Rattle.front.specs.Front.{ghosted, gives, Tied, Settled, Upheld, total, fallen, Taken, Drift, Written}
+use Rattle.front.specs.Board.{rule-by}
+use Rattle.engine.specs.Run.{starts, Between}
+use Rattle.front.proofs.Theory.Front.{ended}
+use Rattle.front.proofs.Theory.Drift.{unwritten}
+use Rattle.front.proofs.Theory.Sight.{gives-lawful}
 
 pick-own : (p : Bool) (x y z : ℕ) → x ≡ y → cond p x z ≡ cond p y z
 pick-own true x y z e = e
@@ -129,10 +131,6 @@ module _ {n : ℕ} {stored y k now : ℕ → ℕ} {t m : ℕ} {note : ℕ → �
       none : (n' : ℕ) → ((c : ℕ) → c < n' → min 1 (now c - y c) - min 1 (never - k c) ≡ 0) → fallen n' now y k ≡ 0
       none zero h = refl
       none (suc n') h = omega (arith, h n' (omega arith), none n' (λ c l. h c (omega arith)))
-
--- nothing noted, nothing written
-pub unwritten : (n : ℕ) (stored y : ℕ → ℕ) (note : ℕ → ℕ) → Written n stored y stored 0 note
-unwritten n stored y note = record { new = λ i l. absurd (omega arith); old = λ c l o. refl }
 
 module _ {b : Board} (good : Good b) (tw th s h : ℕ) (stride : 1 ≤ s) (horizon : h ≤ largest) where
   abbrev bound-of : ℕ → ℕ

@@ -11,7 +11,7 @@ use lib.Dec.{leb}
 use borrow.Author.Tests.{leb-true, leb-false}
 use lib.ListN.{length, getD}
 use lib.Seq.{ext-getD}
-use Rattle.eikonal.specs.Board.{Board, never, largest, size, slowness, arrival, time, solved, marched}
+use Rattle.eikonal.specs.Board.{Board, Start, never, largest, size, slowness, arrival, time, solved, marched}
 use Rattle.eikonal.specs.Tiles.{tile-of, counts-as, altered, after-rounds, last-round, rounds, up}
 use Rattle.eikonal.proofs.Good.{Good, size-most}
 use Rattle.eikonal.proofs.Levels.{order}
@@ -19,18 +19,18 @@ use Rattle.eikonal.proofs.Passes.{solved-length}
 use Rattle.eikonal.proofs.Solution.{plain, solved-plain}
 use Rattle.eikonal.proofs.Rounds.{after-length, rounds-low, rounds-few, rounds-last, rounds-march, rounds-is}
 use Rattle.queue.specs.Tree.{keys}
-use Rattle.engine.specs.Front.{gives, Settled, Upheld, Drift, Written}
-use Rattle.engine.specs.Seams.{border, near}
-use Rattle.engine.specs.Board.{land, rule-at, tentative, noted, Ground}
-use Rattle.engine.specs.State.{Held, Ready, Drained, Drifted, Announced}
-use Rattle.engine.specs.Run.{rule-by, starts, Between, whole, At-round, One-round, Leapt, Ran}
-use Rattle.engine.specs.declared.Shape.{Shape}
-use Rattle.engine.proofs.Theory.Sight.{gives-lawful}
-use Rattle.engine.proofs.Theory.Drift.{notes-fit}
+use Rattle.front.specs.Front.{gives, Settled, Upheld, Drift, Written}
+use Rattle.front.specs.Seams.{border, near}
+use Rattle.front.specs.Board.{land, rule-by, rule-at, tentative, noted, Ground}
+use Rattle.front.specs.State.{Held, Ready, Drained, Drifted, Announced}
+use Rattle.engine.specs.Run.{starts, Between, whole, At-round, One-round, Leapt, Ran}
+use Rattle.front.specs.declared.Shape.{Shape}
+use Rattle.front.proofs.Theory.Sight.{gives-lawful}
+use Rattle.front.proofs.Theory.Drift.{notes-fit}
 use Rattle.engine.proofs.Theory.Rounds.{written-drift, written-falls, round-written, round-altered, leap, not-yet, not-last, is-last}
-use Rattle.engine.proofs.Theory.Lists.{reached-most}
-use Rattle.engine.proofs.Theory.Commit.{none-new, all-new, upheld-new}
-use Rattle.engine.proofs.Theory.Announcing.{announced-held, announced-long, announced-rest, announced-upheld, announced-fresh, announced-settled}
+use Rattle.rows.proofs.Theory.Lists.{reached-most}
+use Rattle.front.proofs.Theory.Commit.{none-new, all-new, upheld-new}
+use Rattle.front.proofs.Theory.Announcing.{announced-held, announced-long, announced-rest, announced-upheld, announced-fresh, announced-settled}
 
 module _ {b : Board} (good : Good b) (tw th s h : ℕ) (tw1 : 1 ≤ tw) (th1 : 1 ≤ th) (stride : 1 ≤ s) (horizon : h ≤ largest)
     (j : ℕ) (ts us v v1 v2 : List ℕ) (m : ℕ)
@@ -84,25 +84,25 @@ pub drained-to : {n b b' m : ℕ} {L : ℕ → (ℕ → ℕ) → ℕ} {v v' : Li
 drained-to {n} {b} {b'} {m} {L} {v} {v'} q dr = subst (λ u. Drained n u m L v v') q dr
 
 -- ---- the same with a shape, as code has it
-module _ (s : Shape) (slow cells begins : List ℕ) where
-  pub rule-whole : (ts : List ℕ) → rule-at s slow ts ≡ rule-by (whole s slow cells begins) (s .across) (s .down) ts
+module _ (s : Shape) (slow : List ℕ) (xs : List Start) where
+  pub rule-whole : (ts : List ℕ) → rule-at s slow ts ≡ rule-by (whole s slow xs) (s .across) (s .down) ts
   unfolding arrival slowness tile-of counts-as
   rule-whole ts = refl
 
-  pub near-whole : (k c : ℕ) → near (land s slow) (s .across) (s .down) k c ≡ near (whole s slow cells begins) (s .across) (s .down) k c
+  pub near-whole : (k c : ℕ) → near (land s slow) (s .across) (s .down) k c ≡ near (whole s slow xs) (s .across) (s .down) k c
   unfolding near size
   near-whole k c = refl
 
-  pub size-whole : s .cells ≡ s .width * s .height → s .cells ≡ size (whole s slow cells begins)
+  pub size-whole : s .cells ≡ s .width * s .height → s .cells ≡ size (whole s slow xs)
   unfolding size
   size-whole e = e
 
   -- the front between rounds is ready for a drain
-  pub ready : {ts cols rows v : List ℕ} {stride horizon j : ℕ} → Ground s slow ts cols rows → At-round s slow cells begins stride horizon j ts v → Ready (s .cells) (rule-at s slow ts) v
+  pub ready : {ts cols rows v : List ℕ} {stride horizon j : ℕ} → Ground s slow ts cols rows → At-round s slow xs stride horizon j ts v → Ready (s .cells) (rule-at s slow ts) v
   unfolding arrival slowness tile-of counts-as
   ready {ts} {cols} {rows} {v} gr at = record {
     held = at .held;
-    settled = subst (λ n. Settled n (rule-by (whole s slow cells begins) (s .across) (s .down) ts) (tentative v (s .cells)) (keys v (s .cells))) (sym (size-whole (gr .cells))) (at .between .settled);
+    settled = subst (λ n. Settled n (rule-by (whole s slow xs) (s .across) (s .down) ts) (tentative v (s .cells)) (keys v (s .cells))) (sym (size-whole (gr .cells))) (at .between .settled);
     drifting = record {
       stored = time ts;
       last = 0;
@@ -114,9 +114,9 @@ module _ (s : Shape) (slow cells begins : List ℕ) where
   pub ground-kept : {ts us cols rows : List ℕ} → length us ≡ length ts → Ground s slow ts cols rows → Ground s slow us cols rows
   ground-kept q gr = record { good = gr .good; cells = gr .cells; across = gr .across; down = gr .down; many = q ∙ gr .many; columns = gr .columns; lines = gr .lines }
 
-  module _ {ts cols rows v v1 : List ℕ} {S H j m : ℕ} (gr : Ground s slow ts cols rows) (good : Good (whole s slow cells begins)) (stride : 1 ≤ S) (horizon : H ≤ largest)
-      (at : At-round s slow cells begins S H j ts v) (dr : Drained (s .cells) (min (suc j * S) H) m (rule-at s slow ts) v v1) where
-    size-is : s .cells ≡ size (whole s slow cells begins)
+  module _ {ts cols rows v v1 : List ℕ} {S H j m : ℕ} (gr : Ground s slow ts cols rows) (good : Good (whole s slow xs)) (stride : 1 ≤ S) (horizon : H ≤ largest)
+      (at : At-round s slow xs S H j ts v) (dr : Drained (s .cells) (min (suc j * S) H) m (rule-at s slow ts) v v1) where
+    size-is : s .cells ≡ size (whole s slow xs)
     size-is = size-whole (gr .cells)
 
     -- the notes are cells, and fit
@@ -131,31 +131,31 @@ module _ (s : Shape) (slow cells begins : List ℕ) where
 
     module _ (us : List ℕ) {v2 : List ℕ} (long : length us ≡ length ts) (wr : Written (s .cells) (time ts) (tentative v1 (s .cells)) (time us) m (noted v1 (s .cells)))
         (an : Announced (s .cells) (rule-at s slow us) (time us) (noted v1 (s .cells)) (λ c. near (land s slow) (s .across) (s .down) border c) m v1 v2) where
-      between-at : Between (whole s slow cells begins) (s .across) (s .down) S H j ts (tentative v (size (whole s slow cells begins))) (keys v (size (whole s slow cells begins)))
-      between-at = subst (λ n. Between (whole s slow cells begins) (s .across) (s .down) S H j ts (tentative v n) (keys v n)) size-is (at .between)
+      between-at : Between (whole s slow xs) (s .across) (s .down) S H j ts (tentative v (size (whole s slow xs))) (keys v (size (whole s slow xs)))
+      between-at = subst (λ n. Between (whole s slow xs) (s .across) (s .down) S H j ts (tentative v n) (keys v n)) size-is (at .between)
 
-      drained-at : Drained (size (whole s slow cells begins)) (min (suc j * S) H) m (rule-by (whole s slow cells begins) (s .across) (s .down) ts) v v1
+      drained-at : Drained (size (whole s slow xs)) (min (suc j * S) H) m (rule-by (whole s slow xs) (s .across) (s .down) ts) v v1
       unfolding arrival slowness tile-of counts-as
-      drained-at = subst (λ n. Drained n (min (suc j * S) H) m (rule-by (whole s slow cells begins) (s .across) (s .down) ts) v v1) size-is dr
+      drained-at = subst (λ n. Drained n (min (suc j * S) H) m (rule-by (whole s slow xs) (s .across) (s .down) ts) v v1) size-is dr
 
-      long-at : length us ≡ size (whole s slow cells begins)
+      long-at : length us ≡ size (whole s slow xs)
       long-at = long ∙ gr .many ∙ size-is
 
-      written-at : Written (size (whole s slow cells begins)) (time ts) (tentative v1 (size (whole s slow cells begins))) (time us) m (noted v1 (size (whole s slow cells begins)))
+      written-at : Written (size (whole s slow xs)) (time ts) (tentative v1 (size (whole s slow xs))) (time us) m (noted v1 (size (whole s slow xs)))
       written-at = subst (λ n. Written n (time ts) (tentative v1 n) (time us) m (noted v1 n)) size-is wr
 
-      announced-at : Announced (size (whole s slow cells begins)) (rule-by (whole s slow cells begins) (s .across) (s .down) us) (time us) (noted v1 (size (whole s slow cells begins))) (λ c. near (whole s slow cells begins) (s .across) (s .down) border c) m v1 v2
+      announced-at : Announced (size (whole s slow xs)) (rule-by (whole s slow xs) (s .across) (s .down) us) (time us) (noted v1 (size (whole s slow xs))) (λ c. near (whole s slow xs) (s .across) (s .down) border c) m v1 v2
       unfolding arrival slowness tile-of counts-as near size
-      announced-at = subst (λ n. Announced n (rule-by (whole s slow cells begins) (s .across) (s .down) us) (time us) (noted v1 n) (λ c. near (whole s slow cells begins) (s .across) (s .down) border c) m v1 v2) size-is an
+      announced-at = subst (λ n. Announced n (rule-by (whole s slow xs) (s .across) (s .down) us) (time us) (noted v1 n) (λ c. near (whole s slow xs) (s .across) (s .down) border c) m v1 v2) size-is an
 
-      pub one-round : One-round s slow cells begins S H j m ts us v v2
+      pub one-round : One-round s slow xs S H j m ts us v v2
       one-round = record {
         long = long;
         kept = announced-long an ∙ dr .long;
         past = λ i l. announced-rest an i (omega arith) ∙ dr .past i l;
         next = record {
           held = announced-held (dr .held) an;
-          between = subst (λ n. Between (whole s slow cells begins) (s .across) (s .down) S H (suc j) us (tentative v2 n) (keys v2 n)) (sym size-is)
+          between = subst (λ n. Between (whole s slow xs) (s .across) (s .down) S H (suc j) us (tentative v2 n) (keys v2 n)) (sym size-is)
               (round-between good (s .across) (s .down) S H (gr .across) (gr .down) stride horizon j ts us v v1 v2 m between-at drained-at long-at written-at announced-at);
         };
         idle = round-idle good (s .across) (s .down) S H (gr .across) (gr .down) stride horizon j ts us v v1 v2 m between-at drained-at long-at written-at announced-at;
@@ -163,37 +163,37 @@ module _ (s : Shape) (slow cells begins : List ℕ) where
       }
 
 -- ---- A RUN after `done` rounds, of which none was the last
-pub record Mid-run (s : Shape) (slow cells begins : List ℕ) (S H done : ℕ) (ts₀ ts v₀ v : List ℕ) : Type 0 where
+pub record Mid-run (s : Shape) (slow : List ℕ) (xs : List Start) (S H done : ℕ) (ts₀ ts v₀ v : List ℕ) : Type 0 where
   pub long : length ts ≡ length ts₀
   pub kept : length v ≡ length v₀
   pub past : (i : ℕ) → 4 * s .cells ≤ i → getD v i 0 ≡ getD v₀ i 0
-  pub at : At-round s slow cells begins S H done ts v
-  pub more : (k : ℕ) → 1 ≤ k → k ≤ done → last-round (whole s slow cells begins) (s .across) (s .down) S H k ≡ false
+  pub at : At-round s slow xs S H done ts v
+  pub more : (k : ℕ) → 1 ≤ k → k ≤ done → last-round (whole s slow xs) (s .across) (s .down) S H k ≡ false
 
-module _ (s : Shape) (slow cells begins : List ℕ) (good : Good (whole s slow cells begins)) (S H : ℕ) (stride : 1 ≤ S) (stride-high : S ≤ largest) (horizon : H ≤ largest) where
+module _ (s : Shape) (slow : List ℕ) (xs : List Start) (good : Good (whole s slow xs)) (S H : ℕ) (stride : 1 ≤ S) (stride-high : S ≤ largest) (horizon : H ≤ largest) where
   abbrev pub total-rounds : ℕ
-  total-rounds = rounds (whole s slow cells begins) (s .across) (s .down) S H
+  total-rounds = rounds (whole s slow xs) (s .across) (s .down) S H
 
   up-most : up H S ≤ H + S
   unfolding up
   up-most = omega (arith, div-le-self (H + S - 1) S)
 
-  solved-long : length (solved (whole s slow cells begins)) ≡ size (whole s slow cells begins)
-  solved-long = ap length (solved-plain (whole s slow cells begins)) ∙ solved-length (whole s slow cells begins) plain
+  solved-long : length (solved (whole s slow xs)) ≡ size (whole s slow xs)
+  solved-long = ap length (solved-plain (whole s slow xs)) ∙ solved-length (whole s slow xs) plain
 
   -- the rounds are fewer than a thousand million
   pub rounds-short : total-rounds ≤ 1000000000
   rounds-short =
       omega (
         arith,
-        rounds-few (whole s slow cells begins) good (s .across) (s .down) S H stride horizon,
+        rounds-few (whole s slow xs) good (s .across) (s .down) S H stride horizon,
         up-most,
-        reached-most H (solved (whole s slow cells begins)),
+        reached-most H (solved (whole s slow xs)),
         solved-long,
         size-most good,
       )
 
-  module _ {done : ℕ} {ts₀ ts v₀ v : List ℕ} (md : Mid-run s slow cells begins S H done ts₀ ts v₀ v) where
+  module _ {done : ℕ} {ts₀ ts v₀ v : List ℕ} (md : Mid-run s slow xs S H done ts₀ ts v₀ v) where
     -- there is a round more
     pub rounds-left : done < total-rounds
     rounds-left = go (order done total-rounds)
@@ -201,45 +201,45 @@ module _ (s : Shape) (slow cells begins : List ℕ) (good : Good (whole s slow c
         go : (done < total-rounds) ⊎ (total-rounds ≤ done) → done < total-rounds
         go (inl l) = l
         go (inr l) =
-            absurd (true≢false (sym (rounds-last (whole s slow cells begins) good (s .across) (s .down) S H stride horizon)
-            ∙ md .more total-rounds (rounds-low (whole s slow cells begins) good (s .across) (s .down) S H stride horizon) l))
+            absurd (true≢false (sym (rounds-last (whole s slow xs) good (s .across) (s .down) S H stride horizon)
+            ∙ md .more total-rounds (rounds-low (whole s slow xs) good (s .across) (s .down) S H stride horizon) l))
 
-    module _ {m : ℕ} {ts' v' : List ℕ} (one : One-round s slow cells begins S H done m ts ts' v v') where
+    module _ {m : ℕ} {ts' v' : List ℕ} (one : One-round s slow xs S H done m ts ts' v v') where
       -- the last one: at the horizon, and it took no cell
-      pub run-ends : m ≡ 0 → leb H (suc done * S) ≡ true → Ran s slow cells begins S H (suc done) ts₀ ts' v₀ v'
+      pub run-ends : m ≡ 0 → leb H (suc done * S) ≡ true → Ran s slow xs S H (suc done) ts₀ ts' v₀ v'
       run-ends e l =
           let last = is-last good (s .across) (s .down) S H stride horizon done (leb-true H (suc done * S) l) (one .idle e) in
-          let is = rounds-is (whole s slow cells begins) good (s .across) (s .down) S H stride horizon (suc done) (omega arith) last (λ k a b. md .more k a (omega arith)) in
+          let is = rounds-is (whole s slow xs) good (s .across) (s .down) S H stride horizon (suc done) (omega arith) last (λ k a b. md .more k a (omega arith)) in
           record {
             counted = sym is;
-            marches = one .next .between .is ∙ ap (λ (k : ℕ). after-rounds k (whole s slow cells begins) (s .across) (s .down) S H) (sym is) ∙ rounds-march (whole s slow cells begins) good (s .across) (s .down) S H stride horizon;
+            marches = one .next .between .is ∙ ap (λ (k : ℕ). after-rounds k (whole s slow xs) (s .across) (s .down) S H) (sym is) ∙ rounds-march (whole s slow xs) good (s .across) (s .down) S H stride horizon;
             long = one .long ∙ md .long;
             kept = one .kept ∙ md .kept;
             past = λ i k. one .past i k ∙ md .past i k;
           }
 
       -- not the last one, and a leap
-      module _ (size-is : s .cells ≡ size (whole s slow cells begins)) {least r : ℕ} (le : (c : ℕ) → c < s .cells → least ≤ keys v' (s .cells) c) (lp : Leapt least (suc done) S H r)
-          (other : last-round (whole s slow cells begins) (s .across) (s .down) S H (suc done) ≡ false) where
-        leaps : Between (whole s slow cells begins) (s .across) (s .down) S H r ts' (tentative v' (s .cells)) (keys v' (s .cells))
+      module _ (size-is : s .cells ≡ size (whole s slow xs)) {least r : ℕ} (le : (c : ℕ) → c < s .cells → least ≤ keys v' (s .cells) c) (lp : Leapt least (suc done) S H r)
+          (other : last-round (whole s slow xs) (s .across) (s .down) S H (suc done) ≡ false) where
+        leaps : Between (whole s slow xs) (s .across) (s .down) S H r ts' (tentative v' (s .cells)) (keys v' (s .cells))
         leaps = go (order (suc done) r)
           where
-            far : suc done < r → (c : ℕ) → c < size (whole s slow cells begins) → min (r * S) H < keys v' (s .cells) c
+            far : suc done < r → (c : ℕ) → c < size (whole s slow xs) → min (r * S) H < keys v' (s .cells) c
             far h c l = omega (arith, lp .short h, le c (rw size-is l))
 
             add : (r - suc done) + suc done ≡ r
             add = omega (arith, lp .up)
 
-            go : (suc done < r) ⊎ (r ≤ suc done) → Between (whole s slow cells begins) (s .across) (s .down) S H r ts' (tentative v' (s .cells)) (keys v' (s .cells))
+            go : (suc done < r) ⊎ (r ≤ suc done) → Between (whole s slow xs) (s .across) (s .down) S H r ts' (tentative v' (s .cells)) (keys v' (s .cells))
             go (inl h) =
-                subst (λ k. Between (whole s slow cells begins) (s .across) (s .down) S H k ts' (tentative v' (s .cells)) (keys v' (s .cells))) add
+                subst (λ k. Between (whole s slow xs) (s .across) (s .down) S H k ts' (tentative v' (s .cells)) (keys v' (s .cells))) add
                 (leap good (s .across) (s .down) S H stride horizon (r - suc done) (suc done) ts' (tentative v' (s .cells)) (keys v' (s .cells)) (one .next .between)
                 (λ c l. subst (λ k. min (k * S) H < keys v' (s .cells) c) (sym add) (far h c l)))
             go (inr h) =
                 let e : suc done ≡ r = omega (arith, lp .up) in
-                subst (λ k. Between (whole s slow cells begins) (s .across) (s .down) S H k ts' (tentative v' (s .cells)) (keys v' (s .cells))) e (one .next .between)
+                subst (λ k. Between (whole s slow xs) (s .across) (s .down) S H k ts' (tentative v' (s .cells)) (keys v' (s .cells))) e (one .next .between)
 
-        pub run-goes-on : Mid-run s slow cells begins S H r ts₀ ts' v₀ v'
+        pub run-goes-on : Mid-run s slow xs S H r ts₀ ts' v₀ v'
         run-goes-on = record {
           long = one .long ∙ md .long;
           kept = one .kept ∙ md .kept;
@@ -248,19 +248,19 @@ module _ (s : Shape) (slow cells begins : List ℕ) (good : Good (whole s slow c
           more = λ k a b. go k a b (order k (suc done));
         }
           where
-            go : (k : ℕ) → 1 ≤ k → k ≤ r → (k < suc done) ⊎ (suc done ≤ k) → last-round (whole s slow cells begins) (s .across) (s .down) S H k ≡ false
+            go : (k : ℕ) → 1 ≤ k → k ≤ r → (k < suc done) ⊎ (suc done ≤ k) → last-round (whole s slow xs) (s .across) (s .down) S H k ≡ false
             go k a b (inl h) = md .more k a (omega arith)
             go k a b (inr h) = elim (ℕ-discrete k (suc done)) [
-              | yes q ↦ subst (λ u. last-round (whole s slow cells begins) (s .across) (s .down) S H u ≡ false) (sym q) other
+              | yes q ↦ subst (λ u. last-round (whole s slow xs) (s .across) (s .down) S H u ≡ false) (sym q) other
               | no q ↦ not-yet good (s .across) (s .down) S H stride horizon k (omega (arith, lp .short (omega arith), mul-le-mul-right S b))
             ]
 
       -- not the last one: before the horizon, or it took cells
-      pub run-early : leb H (suc done * S) ≡ false → last-round (whole s slow cells begins) (s .across) (s .down) S H (suc done) ≡ false
+      pub run-early : leb H (suc done * S) ≡ false → last-round (whole s slow xs) (s .across) (s .down) S H (suc done) ≡ false
       run-early l = not-yet good (s .across) (s .down) S H stride horizon (suc done) (leb-false H (suc done * S) l)
 
-      pub run-busy : m ≢ 0 → last-round (whole s slow cells begins) (s .across) (s .down) S H (suc done) ≡ false
+      pub run-busy : m ≢ 0 → last-round (whole s slow xs) (s .across) (s .down) S H (suc done) ≡ false
       run-busy q = not-last good (s .across) (s .down) S H stride horizon done (one .busy (omega (arith, q)))
 
-  pub run-begins : {ts v : List ℕ} → At-round s slow cells begins S H 0 ts v → Mid-run s slow cells begins S H 0 ts ts v v
+  pub run-begins : {ts v : List ℕ} → At-round s slow xs S H 0 ts v → Mid-run s slow xs S H 0 ts ts v v
   run-begins at = record { long = refl; kept = refl; past = λ i l. refl; at = at; more = λ k a b. absurd (omega arith) }

@@ -1,4 +1,4 @@
--- `engine::run::run` meets its contract: what holds after some rounds is Mid-run. Assumes nothing.
+-- `engine::run::run` meets its contract: what holds after some rounds is Mid-run, of whatever starts the board began with. Assumes nothing.
 use Prim.Native.Nat.{ℕ, suc, _+_, _*_, _-_, _≤_, _<_}
 use native.Mathlib.Omega.{arith}
 use native.Mathlib.Numerals.{add-one}
@@ -6,89 +6,104 @@ use native.Mathlib.Nat.{mul-le-mul}
 use mathlib.Core.Path.{_≡_, sym, subst, _∙_}
 use mathlib.Core.Logic.{⊎-elim}
 use mathlib.Core.Bool.{true, false}
+use mathlib.Core.List.{List}
 use lib.Dec.{leb}
-use Rattle.eikonal.specs.Tiles.{rounds}
-use Rattle.engine.specs.Run.{whole, Leapt}
-use Rattle.engine.proofs.Theory.Reading.{cells-most}
+use Rattle.eikonal.specs.Board.{Start}
+use Rattle.eikonal.proofs.Good.{Good}
+use Rattle.front.proofs.Theory.Reading.{cells-most}
+use Rattle.engine.specs.Run.{whole, At-round, Leapt}
 use Rattle.engine.proofs.Theory.Running.{ground-kept, size-whole, Mid-run, rounds-short, rounds-left, run-begins, run-ends, run-goes-on, run-early, run-busy}
 use Rattle.engine.proofs.run.run.Statement.{statement}
 use Rattle.engine.proofs.run.run.Tie as tie
 
 abbrev Inv-loop : tie.InvT-loop
-Inv-loop slow cells begins times₀ work₀ cols rows shape stride horizon n done₀ times work done = Mid-run shape slow cells begins stride horizon done times₀ times work₀ work
+Inv-loop slow times₀ work₀ cols rows shape stride horizon n done₀ times work done =
+    (xs : List Start) → Good (whole shape slow xs) → At-round shape slow xs stride horizon 0 times₀ work₀ → Mid-run shape slow xs stride horizon done times₀ times work₀ work
 
+-- no board has more rounds
 abbrev μ-loop : tie.MeasureT-loop
-μ-loop slow cells begins times₀ work₀ cols rows shape stride horizon n done₀ times work done =
-    rounds (whole shape slow cells begins) (shape .across) (shape .down) stride horizon - done
+μ-loop slow times₀ work₀ cols rows shape stride horizon n done₀ times work done = 1000000000 - done
 
 loop-holds : tie.Need-loop-holds Inv-loop μ-loop
-loop-holds c =
-    let p = c .before .before .before .before .before in
+loop-holds c xs good at =
+    let p = c .before .before .before in
     let a = p .args in
-    run-begins (a .shape) (a .slow .now) (a .cells .now) (a .begins .now) (p .pre .1) (a .stride) (a .horizon) (p .pre .3) (p .pre .4) (p .pre .5) (p .pre .2)
+    run-begins (a .shape) (a .slow .now) xs good (a .stride) (a .horizon) (p .pre .2) (p .pre .3) (p .pre .4) at
 
 round-requires : tie.Need-round-requires Inv-loop μ-loop
 round-requires c κs =
-    let p = c .before .before .before .before .before .before .before .before in
+    let p = c .before .before .before .before .before .before in
     let a = p .args in
-    let md = c .before .before .loop .inv in
-    (ground-kept (a .shape) (a .slow .now) (a .cells .now) (a .begins .now) (md .long) (p .pre .0), p .pre .1, md .at, omega (arith, rounds-short (a .shape) (a .slow .now) (a .cells .now) (a .begins .now) (p .pre .1) (a .stride) (a .horizon) (p .pre .3) (p .pre .4) (p .pre .5), rounds-left (a .shape) (a .slow .now) (a .cells .now) (a .begins .now) (p .pre .1) (a .stride) (a .horizon) (p .pre .3) (p .pre .4) (p .pre .5) (c .before .before .loop .inv)), p .pre .3, p .pre .4, p .pre .5)
+    let o = p .pre .1 in
+    let md = c .before .before .loop .inv (o .starts) (o .good) (o .at) in
+    (ground-kept (a .shape) (a .slow .now) (o .starts) (md .long) (p .pre .0), record { starts = o .starts; good = o .good; at = md .at }, omega (arith, rounds-short (a .shape) (a .slow .now) (o .starts) (o .good) (a .stride) (a .horizon) (p .pre .2) (p .pre .3) (p .pre .4), rounds-left (a .shape) (a .slow .now) (o .starts) (o .good) (a .stride) (a .horizon) (p .pre .2) (p .pre .3) (p .pre .4) md), p .pre .2, p .pre .3, p .pre .4)
 
 add-done : tie.Need-add-done Inv-loop μ-loop
 add-done c =
-    let p = c .before .before .before .before .before .before .before .before .before .before .before .before .before in
+    let p = c .before .before .before .before .before .before .before .before .before .before .before in
     let a = p .args in
-    omega (arith, rounds-short (a .shape) (a .slow .now) (a .cells .now) (a .begins .now) (p .pre .1) (a .stride) (a .horizon) (p .pre .3) (p .pre .4) (p .pre .5), rounds-left (a .shape) (a .slow .now) (a .cells .now) (a .begins .now) (p .pre .1) (a .stride) (a .horizon) (p .pre .3) (p .pre .4) (p .pre .5) (c .before .before .before .before .before .before .before .loop .inv))
+    let o = p .pre .1 in
+    omega (arith, rounds-short (a .shape) (a .slow .now) (o .starts) (o .good) (a .stride) (a .horizon) (p .pre .2) (p .pre .3) (p .pre .4), rounds-left (a .shape) (a .slow .now) (o .starts) (o .good) (a .stride) (a .horizon) (p .pre .2) (p .pre .3) (p .pre .4) (c .before .before .before .before .before .before .before .loop .inv (o .starts) (o .good) (o .at)))
 
 at-horizon-requires : tie.Need-at-horizon-requires Inv-loop μ-loop
 at-horizon-requires c κs =
-    let p = c .before .before .before .before .before .before .before .before .before .before .before .before .before .before in
+    let p = c .before .before .before .before .before .before .before .before .before .before .before .before in
     let a = p .args in
-    (omega (arith, rounds-short (a .shape) (a .slow .now) (a .cells .now) (a .begins .now) (p .pre .1) (a .stride) (a .horizon) (p .pre .3) (p .pre .4) (p .pre .5), rounds-left (a .shape) (a .slow .now) (a .cells .now) (a .begins .now) (p .pre .1) (a .stride) (a .horizon) (p .pre .3) (p .pre .4) (p .pre .5) (c .before .before .before .before .before .before .before .before .loop .inv)), p .pre .4)
+    let o = p .pre .1 in
+    (omega (arith, rounds-short (a .shape) (a .slow .now) (o .starts) (o .good) (a .stride) (a .horizon) (p .pre .2) (p .pre .3) (p .pre .4), rounds-left (a .shape) (a .slow .now) (o .starts) (o .good) (a .stride) (a .horizon) (p .pre .2) (p .pre .3) (p .pre .4) (c .before .before .before .before .before .before .before .before .loop .inv (o .starts) (o .good) (o .at))), p .pre .3)
 
 same-length : tie.Need-same-length Inv-loop μ-loop
 same-length c =
-    c .before .before .before .before .before .before .before .round .ensures .long ∙ c .before .before .before .before .before .before .before .before .before .before .loop .inv .long
+    let o = c .before .before .before .before .before .before .before .before .before .before .before .before .before .before .pre .1 in
+    let md = c .before .before .before .before .before .before .before .before .before .before .loop .inv (o .starts) (o .good) (o .at) in
+    c .before .before .before .before .before .before .before .round .ensures (o .starts) (o .good) (md .at) .long ∙ md .long
 
 same-length-2 : tie.Need-same-length-2 Inv-loop μ-loop
 same-length-2 c =
-    c .before .before .before .before .before .before .before .round .ensures .kept ∙ c .before .before .before .before .before .before .before .before .before .before .loop .inv .kept
+    let o = c .before .before .before .before .before .before .before .before .before .before .before .before .before .before .pre .1 in
+    let md = c .before .before .before .before .before .before .before .before .before .before .loop .inv (o .starts) (o .good) (o .at) in
+    c .before .before .before .before .before .before .before .round .ensures (o .starts) (o .good) (md .at) .kept ∙ md .kept
 
 returns : tie.Need-returns Inv-loop μ-loop
-returns c =
-    let p = c .before .before .before .before .before .before .before .before .before .before .before .before .before .before .before .before in
+returns c xs good at =
+    let p = c .before .before .before .before .before .before .before .before .before .before .before .before .before .before in
     let a = p .args in
-    rw (add-one (c .before .before .before .before .before .before .before .before .before .before .loop .done)) (run-ends (a .shape) (a .slow .now) (a .cells .now) (a .begins .now) (p .pre .1) (a .stride) (a .horizon) (p .pre .3) (p .pre .4) (p .pre .5) (c .before .before .before .before .before .before .before .before .before .before .loop .inv) (c .before .before .before .before .before .before .before .round .ensures) (c .before .before .if1 .taken) (subst (λ u. leb (a .horizon) (u * a .stride) ≡ true) (add-one (c .before .before .before .before .before .before .before .before .before .before .loop .done)) (sym (c .before .at-horizon .ensures) ∙ c .if2 .taken)))
+    let md = c .before .before .before .before .before .before .before .before .before .before .loop .inv xs good at in
+    let done = c .before .before .before .before .before .before .before .before .before .before .loop .done in
+    rw (add-one done) (run-ends (a .shape) (a .slow .now) xs good (a .stride) (a .horizon) (p .pre .2) (p .pre .3) (p .pre .4) md (c .before .before .before .before .before .before .before .round .ensures xs good (md .at)) (c .before .before .if1 .taken) (subst (λ u. leb (a .horizon) (u * a .stride) ≡ true) (add-one done) (sym (c .before .at-horizon .ensures) ∙ c .if2 .taken)))
 
 least-key-requires : tie.Need-least-key-requires Inv-loop μ-loop
 least-key-requires c κs =
-    let p = c .before .before .before .before .before .before .before .before .before .before .before .before .before .before .before in
+    let p = c .before .before .before .before .before .before .before .before .before .before .before .before .before in
     let a = p .args in
-    let he = c .before .before .before .before .before .before .round .ensures .next .held in
+    let o = p .pre .1 in
+    let md = c .before .before .before .before .before .before .before .before .before .loop .inv (o .starts) (o .good) (o .at) in
+    let he = c .before .before .before .before .before .before .round .ensures (o .starts) (o .good) (md .at) .next .held in
     (omega (arith, p .pre .0 .cells, mul-le-mul (p .pre .0 .good .wide-low) (p .pre .0 .good .high-low)), cells-most (a .shape) (a .slow .now) (a .times .now) (a .cols .now) (a .rows .now) (p .pre .0), omega (arith, he .room), he .tree)
 
 leap-requires : tie.Need-leap-requires Inv-loop μ-loop
-leap-requires c κs =
-    c .before .before .before .before .before .before .before .before .before .before .before .before .before .before .before .before .pre .3
+leap-requires c κs = c .before .before .before .before .before .before .before .before .before .before .before .before .before .before .pre .2
 
 loop-again : tie.Need-loop-again Inv-loop μ-loop
-loop-again c =
-    let p = c .before .before .before .before .before .before .before .before .before .before .before .before .before .before .before .before .before in
+loop-again c xs good at =
+    let p = c .before .before .before .before .before .before .before .before .before .before .before .before .before .before .before in
     let a = p .args in
-    let md = c .before .before .before .before .before .before .before .before .before .before .before .loop .inv in
-    let one = c .before .before .before .before .before .before .before .before .round .ensures in
-    run-goes-on (a .shape) (a .slow .now) (a .cells .now) (a .begins .now) (p .pre .1) (a .stride) (a .horizon) (p .pre .3) (p .pre .4) (p .pre .5) md one (size-whole (a .shape) (a .slow .now) (a .cells .now) (a .begins .now) (p .pre .0 .cells)) (c .before .least-key .ensures)
-    (subst (λ u. Leapt (c .before .least-key .result) u (a .stride) (a .horizon) (c .leap .result)) (add-one (c .before .before .before .before .before .before .before .before .before .before .before .loop .done)) (c .leap .ensures))
+    let md = c .before .before .before .before .before .before .before .before .before .before .before .loop .inv xs good at in
+    let one = c .before .before .before .before .before .before .before .before .round .ensures xs good (md .at) in
+    let done = c .before .before .before .before .before .before .before .before .before .before .before .loop .done in
+    run-goes-on (a .shape) (a .slow .now) xs good (a .stride) (a .horizon) (p .pre .2) (p .pre .3) (p .pre .4) md one (size-whole (a .shape) (a .slow .now) xs (p .pre .0 .cells)) (c .before .least-key .ensures)
+    (subst (λ u. Leapt (c .before .least-key .result) u (a .stride) (a .horizon) (c .leap .result)) (add-one done) (c .leap .ensures))
     (⊎-elim
-    (λ w. run-early (a .shape) (a .slow .now) (a .cells .now) (a .begins .now) (p .pre .1) (a .stride) (a .horizon) (p .pre .3) (p .pre .4) (p .pre .5) md one (subst (λ u. leb (a .horizon) (u * a .stride) ≡ false) (add-one (c .before .before .before .before .before .before .before .before .before .before .before .loop .done)) (sym (w .1 .ensures) ∙ w .2 .left)))
-    (λ w. run-busy (a .shape) (a .slow .now) (a .cells .now) (a .begins .now) (p .pre .1) (a .stride) (a .horizon) (p .pre .3) (p .pre .4) (p .pre .5) md one (w .left))
+    (λ w. run-early (a .shape) (a .slow .now) xs good (a .stride) (a .horizon) (p .pre .2) (p .pre .3) (p .pre .4) md one (subst (λ u. leb (a .horizon) (u * a .stride) ≡ false) (add-one done) (sym (w .1 .ensures) ∙ w .2 .left)))
+    (λ w. run-busy (a .shape) (a .slow .now) xs good (a .stride) (a .horizon) (p .pre .2) (p .pre .3) (p .pre .4) md one (w .left))
     (c .before .before .before .if1 .came))
 
 loop-less : tie.Need-loop-less Inv-loop μ-loop
 loop-less c =
-    let p = c .before .before .before .before .before .before .before .before .before .before .before .before .before .before .before .before .before in
+    let p = c .before .before .before .before .before .before .before .before .before .before .before .before .before .before .before in
     let a = p .args in
-    omega (arith, rounds-left (a .shape) (a .slow .now) (a .cells .now) (a .begins .now) (p .pre .1) (a .stride) (a .horizon) (p .pre .3) (p .pre .4) (p .pre .5) (c .before .before .before .before .before .before .before .before .before .before .before .loop .inv), rounds-left (a .shape) (a .slow .now) (a .cells .now) (a .begins .now) (p .pre .1) (a .stride) (a .horizon) (p .pre .3) (p .pre .4) (p .pre .5) (loop-again c), c .leap .ensures .up)
+    let o = p .pre .1 in
+    omega (arith, rounds-short (a .shape) (a .slow .now) (o .starts) (o .good) (a .stride) (a .horizon) (p .pre .2) (p .pre .3) (p .pre .4), rounds-left (a .shape) (a .slow .now) (o .starts) (o .good) (a .stride) (a .horizon) (p .pre .2) (p .pre .3) (p .pre .4) (loop-again c (o .starts) (o .good) (o .at)), c .leap .ensures .up)
 
 pub run-spec : {M : Type 1} → statement M
 run-spec =

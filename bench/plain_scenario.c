@@ -1,0 +1,176 @@
+/* Everything is judged first, each number of the table in its turn; then the lists are written. */
+#include "plain_scenario.h"
+#include <stdbool.h>
+
+enum { LONGEST_SIDE = 256, SLOWEST = 4095, LATEST_START = 1000000, HEAD = 16, RUN = 10, START = 8 };
+
+static uint32_t two(const uint8_t *p) { return p[0] | (uint32_t)p[1] << 8; }
+static uint32_t four(const uint8_t *p) { return two(p) | two(p + 2) << 16; }
+
+static void put_two(uint8_t *p, uint32_t x) {
+    p[0] = (uint8_t)x;
+    p[1] = (uint8_t)(x >> 8);
+}
+
+static void put_four(uint8_t *p, uint32_t x) {
+    put_two(p, x);
+    put_two(p + 2, x >> 16);
+}
+
+static bool side_good(uint32_t side) { return side >= 1 && side <= LONGEST_SIDE; }
+
+/* A file of at least HEAD bytes, taken apart. */
+typedef struct {
+    uint32_t width, height, ticks, ground, run_count, start_count, size;
+    const uint8_t *runs, *starts;
+} parts;
+
+static parts parts_of(const uint8_t *file) {
+    parts f = {two(file), two(file + 2), two(file + 4), two(file + 6), four(file + 8), four(file + 12), 0, file + HEAD, NULL};
+    f.size = f.width * f.height;
+    f.starts = f.runs + RUN * (size_t)f.run_count;
+    return f;
+}
+
+static bool any_run_above(const parts *f, uint32_t most) {
+    for (const uint8_t *run = f->runs; run != f->starts; run += RUN)
+        if (two(run + 8) > most) return true;
+    return false;
+}
+
+static bool runs_good(const parts *f) {
+    uint64_t end = 0;
+    uint32_t before = f->ground;
+    for (const uint8_t *run = f->runs; run != f->starts; run += RUN) {
+        const uint64_t offset = four(run), length = four(run + 4);
+        const uint32_t slowness = two(run + 8);
+        if (length == 0 || offset < end || offset + length > f->size || slowness == f->ground) return false;
+        if (offset == end && slowness == before) return false;
+        end = offset + length;
+        before = slowness;
+    }
+    return true;
+}
+
+static bool cells_rise(const parts *f) {
+    uint32_t least = 0;
+    for (uint32_t i = 0; i < f->start_count; i++) {
+        const uint32_t cell = four(f->starts + START * (size_t)i);
+        if (cell < least || cell >= f->size) return false;
+        least = cell + 1;
+    }
+    return true;
+}
+
+static bool any_start_late(const parts *f) {
+    for (uint32_t i = 0; i < f->start_count; i++)
+        if (four(f->starts + START * (size_t)i + 4) > LATEST_START) return true;
+    return false;
+}
+
+/* Runs and starts both rise, so one walk along both finds the slowness under each start. */
+static bool any_start_on_wall(const parts *f) {
+    const uint8_t *run = f->runs;
+    for (uint32_t i = 0; i < f->start_count; i++) {
+        const uint32_t cell = four(f->starts + START * (size_t)i);
+        while (run != f->starts && four(run) + four(run + 4) <= cell) run += RUN;
+        const bool in_run = run != f->starts && four(run) <= cell;
+        if ((in_run ? two(run + 8) : f->ground) == 0) return true;
+    }
+    return false;
+}
+
+static uint32_t file_refusal(const uint8_t *file, size_t file_len) {
+    if (file_len < HEAD) return 1;
+    if (file_len != HEAD + RUN * (uint64_t)four(file + 8) + START * (uint64_t)four(file + 12)) return 1;
+    const parts f = parts_of(file);
+    if (!side_good(f.width) || !side_good(f.height)) return 2;
+    if (f.ticks == 0) return 3;
+    if (f.ground > SLOWEST || any_run_above(&f, SLOWEST)) return 5;
+    if (!runs_good(&f)) return 6;
+    if (!cells_rise(&f)) return 7;
+    if (any_start_late(&f)) return 8;
+    if (any_start_on_wall(&f)) return 9;
+    return 0;
+}
+
+static void read_slow(const parts *f, uint32_t *slow) {
+    uint32_t cell = 0;
+    for (const uint8_t *run = f->runs; run != f->starts; run += RUN) {
+        const uint32_t offset = four(run), end = offset + four(run + 4), slowness = two(run + 8);
+        while (cell < offset) slow[cell++] = f->ground;
+        while (cell < end) slow[cell++] = slowness;
+    }
+    while (cell < f->size) slow[cell++] = f->ground;
+}
+
+murgolab_scenario plain_read_scenario(const uint8_t *file, size_t file_len, uint32_t *slow, size_t slow_len,
+    uint32_t *cells, size_t cells_len, uint32_t *begins, size_t begins_len) {
+    const uint32_t number = file_refusal(file, file_len);
+    if (number) return (murgolab_scenario){number, 0, 0, 0, 0, 0};
+    const parts f = parts_of(file);
+    if (slow_len < f.size || cells_len < f.start_count || begins_len < f.start_count) return (murgolab_scenario){14, 0, 0, 0, 0, 0};
+    read_slow(&f, slow);
+    for (uint32_t i = 0; i < f.start_count; i++) {
+        cells[i] = four(f.starts + START * (size_t)i);
+        begins[i] = four(f.starts + START * (size_t)i + 4);
+    }
+    return (murgolab_scenario){0, f.width, f.height, f.ticks, f.ground, f.start_count};
+}
+
+static bool any_above(const uint32_t *list, size_t length, uint32_t most) {
+    for (size_t i = 0; i < length; i++)
+        if (list[i] > most) return true;
+    return false;
+}
+
+static uint32_t starts_refusal(const uint32_t *slow, size_t size, const uint32_t *cells, const uint32_t *begins, size_t count) {
+    uint64_t least = 0;
+    for (size_t i = 0; i < count; i++) {
+        if (cells[i] < least || cells[i] >= size) return 7;
+        least = (uint64_t)cells[i] + 1;
+    }
+    if (any_above(begins, count, LATEST_START)) return 8;
+    for (size_t i = 0; i < count; i++)
+        if (slow[cells[i]] == 0) return 9;
+    return 0;
+}
+
+murgolab_reply plain_write_scenario(uint32_t width, uint32_t height, uint32_t ticks, uint32_t ground,
+    const uint32_t *slow, size_t slow_len, const uint32_t *cells, size_t cells_len,
+    const uint32_t *begins, size_t begins_len, uint8_t *out, size_t out_len) {
+    if (!side_good(width) || !side_good(height)) return (murgolab_reply){2, 0};
+    if (ticks == 0 || ticks > 65535) return (murgolab_reply){3, 0};
+    const size_t size = width * height;
+    if (slow_len != size || cells_len != begins_len) return (murgolab_reply){4, 0};
+    if (ground > SLOWEST || any_above(slow, size, SLOWEST)) return (murgolab_reply){5, 0};
+    const uint32_t number = starts_refusal(slow, size, cells, begins, cells_len);
+    if (number) return (murgolab_reply){number, 0};
+
+    uint32_t runs = slow[0] != ground;
+    for (size_t i = 1; i < size; i++) runs += slow[i] != slow[i - 1] && slow[i] != ground;
+    const size_t length = HEAD + RUN * (size_t)runs + START * cells_len;
+    if (out_len < length) return (murgolab_reply){14, 0};
+
+    put_two(out, width);
+    put_two(out + 2, height);
+    put_two(out + 4, ticks);
+    put_two(out + 6, ground);
+    put_four(out + 8, runs);
+    put_four(out + 12, (uint32_t)cells_len);
+    out += HEAD;
+    for (uint32_t from = 0, end; from < size; from = end) {
+        const uint32_t slowness = slow[from];
+        for (end = from + 1; end < size && slow[end] == slowness;) end++;
+        if (slowness == ground) continue;
+        put_four(out, from);
+        put_four(out + 4, end - from);
+        put_two(out + 8, slowness);
+        out += RUN;
+    }
+    for (size_t i = 0; i < cells_len; i++, out += START) {
+        put_four(out, cells[i]);
+        put_four(out + 4, begins[i]);
+    }
+    return (murgolab_reply){0, (uint32_t)length};
+}

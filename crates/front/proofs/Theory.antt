@@ -1,0 +1,14 @@
+pub mod Front
+pub mod Drift
+pub mod Sight
+pub mod Commit
+pub mod Seams
+pub mod Reading
+pub mod Telling
+pub mod Relaxing
+pub mod Same
+pub mod Draining
+pub mod Announcing
+pub mod Seeding
+pub mod Beginning
+pub mod Waking

@@ -1,0 +1,60 @@
+-- A board as internal functions are lent it, and what its cells see. Only internal contracts cite these. Assumes nothing: these are definitions.
+use mathlib.Core.Path.{_≡_}
+use mathlib.Core.List.{List, [], _∷_}
+use mathlib.Core.Logic.{_≢_}
+use Prim.Native.Nat.{ℕ, suc, _+_, _*_, _-_, _≤_, _<_}
+use lib.ListN.{length, getD}
+use Rattle.eikonal.specs.Board.{Board}
+use Rattle.eikonal.specs.Tiles.{counts-as}
+use Rattle.eikonal.proofs.Good.{Good}
+use Rattle.front.specs.Front.{gives}
+use Rattle.front.specs.Seams.{seam, edge}
+use Rattle.front.specs.declared.Shape.{Shape}
+
+-- the board without its starts
+abbrev pub land : Shape → (slow : List ℕ) → Board
+land s ss = record { wide = s .width; high = s .height; slow = ss; starts = [] }
+
+-- what the local rule gives a cell of a board that sees stored times as ghosts
+abbrev pub rule-by : Board → (tw th : ℕ) → (stored : List ℕ) → ℕ → (ℕ → ℕ) → ℕ
+rule-by b tw th ts = gives b tw th (λ c e. counts-as b ts e)
+
+abbrev pub rule-at : Shape → (slow stored : List ℕ) → (c : ℕ) → (f : ℕ → ℕ) → ℕ
+rule-at s ss ts = rule-by (land s ss) (s .across) (s .down) ts
+
+-- where the work list keeps the tentative times, and the cells taken in the round
+abbrev pub tentative : (work : List ℕ) → (n c : ℕ) → ℕ
+tentative v n c = getD v (2 * n + c) 0
+
+abbrev pub noted : (work : List ℕ) → (n i : ℕ) → ℕ
+noted v n i = getD v (3 * n + i) 0
+
+-- seams between so many columns or rows, as laid
+abbrev pub Laid : (count side : ℕ) → List ℕ → Type 0
+Laid n s js = (i : ℕ) → i ≤ n → getD js i 0 ≡ seam n s i
+
+-- a legal board, lent with its stored times and its seams
+pub record Ground (s : Shape) (slow stored cols rows : List ℕ) : Type 0 where
+  pub good : Good (land s slow)
+  pub cells : s .cells ≡ s .width * s .height
+  pub across : 1 ≤ s .across
+  pub down : 1 ≤ s .down
+  pub many : length stored ≡ s .cells
+  pub columns : Laid (s .width) (s .across) cols
+  pub lines : Laid (s .height) (s .down) rows
+
+-- the cell at a row and a column
+pub record Site (s : Shape) (c row col : ℕ) : Type 0 where
+  pub cell : c ≡ row * s .width + col
+  pub column : col < s .width
+  pub line : row < s .height
+
+-- a neighbour across a seam that is not the edge is on the board
+pub record Sees (n : ℕ) (slow stored work : List ℕ) (c less more seam : ℕ) : Type 0 where
+  pub slows : n ≤ length slow
+  pub times : n ≤ length stored
+  pub room : 4 * n ≤ length work
+  pub cell : c < n
+  pub far : more ≤ n
+  pub low : seam ≢ edge → less ≤ c + more
+  pub high : seam ≢ edge → c + more - less < n

@@ -1,0 +1,4 @@
+pub mod Front
+pub mod Seams
+pub mod Board
+pub mod State

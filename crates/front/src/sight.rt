@@ -1,0 +1,76 @@
+// What a cell sees of its neighbours, and what the local rule gives it from that.
+ghost use mathlib.Core.Path.{_≡_};
+ghost use Prim.Native.Nat.{_+_, _-_, _*_, _≤_, _<_};
+ghost use lib.ListN.{length};
+ghost use Rattle.eikonal.specs.Tiles.{counts-as};
+ghost use Rattle.front.specs.Seams.{across};
+ghost use Rattle.front.specs.Board.{land, rule-at, tentative, Ground, Site, Sees};
+use super::Shape;
+use super::seams::EDGE;
+use super::seams::INSIDE;
+use eikonal::arrival::LARGEST;
+use eikonal::arrival::NEVER;
+
+// A stored time as a cell of another tile sees it.
+fn ghost_time(slow: &[u32], times: &[u32], shape: Shape, e: usize) -> u32
+    requires { ⌜ (e < length (now slow)) × (e < length (now times)) ⌝ }
+    ensures { λ r. ⌜ r ≡ counts-as (land shape (now (slow .entry))) (now (times .entry)) e ⌝ }
+{
+    let t = times[e];
+    if slow[e] == 0 {
+        return NEVER;
+    }
+    if t > LARGEST {
+        return NEVER;
+    }
+    t
+}
+
+// What the cell c sees of the cell that is `more` on and `less` back, across a seam.
+fn see(
+    slow: &[u32],
+    times: &[u32],
+    work: &[u32],
+    shape: Shape,
+    c: usize,
+    less: usize,
+    more: usize,
+    seam: u8,
+) -> u32
+    requires { ⌜ Sees (shape .cells) (now slow) (now times) (now work) c less more seam ⌝ }
+    ensures { λ r. ⌜ r ≡ across seam (tentative (now (work .entry)) (shape .cells) (c + more - less)) (counts-as (land shape (now (slow .entry))) (now (times .entry)) (c + more - less)) ⌝ }
+{
+    if seam == EDGE {
+        return NEVER;
+    }
+    let n = shape.cells;
+    let e = c + more - less;
+    if seam == INSIDE {
+        let at = 2 * n + e;
+        return work[at];
+    }
+    ghost_time(slow, times, shape, e)
+}
+
+// What the local rule gives the cell c.
+pub fn rule(
+    slow: &[u32],
+    times: &[u32],
+    work: &[u32],
+    cols: &[u8; 257],
+    rows: &[u8; 257],
+    shape: Shape,
+    c: usize,
+    row: usize,
+    col: usize,
+) -> u32
+    requires { ⌜ Ground shape (now slow) (now times) (now cols) (now rows) × Site shape c row col × (4 * shape .cells ≤ length (now work)) ⌝ }
+    ensures { λ r. ⌜ r ≡ rule-at shape (now (slow .entry)) (now (times .entry)) c (tentative (now (work .entry)) (shape .cells)) ⌝ }
+{
+    let w = shape.width;
+    let l = see(slow, times, work, shape, c, 1, 0, cols[col]);
+    let r = see(slow, times, work, shape, c, 0, 1, cols[col + 1]);
+    let u = see(slow, times, work, shape, c, w, 0, rows[row]);
+    let d = see(slow, times, work, shape, c, 0, w, rows[row + 1]);
+    eikonal::arrival::arrival_time(slow[c], l, r, u, d)
+}

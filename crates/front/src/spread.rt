@@ -1,0 +1,222 @@
+// Cells hear of a neighbour's time, and are lowered to what the local rule then gives them.
+ghost use mathlib.Core.Path.{_≡_};
+ghost use mathlib.Core.Logic.{_⊎_, _≢_};
+ghost use Prim.Native.Nat.{ℕ, _+_, _-_, _*_, _/_, _≤_, _<_, min};
+ghost use lib.Dec.{eqb};
+ghost use lib.ListN.{getD};
+ghost use Rattle.front.specs.Seams.{edge, border, inside, seam, beyond, near};
+ghost use Rattle.front.specs.Board.{land, rule-at, tentative, Ground, Site};
+ghost use Rattle.front.specs.State.{Held, Touched, Told};
+use super::Shape;
+use super::seams::BORDER;
+use super::seams::INSIDE;
+
+// Lowers the cell e to what the rule gives it, if that is earlier.
+pub fn relax(
+    slow: &[u32],
+    times: &[u32],
+    work: &mut [u32],
+    cols: &[u8; 257],
+    rows: &[u8; 257],
+    shape: Shape,
+    e: usize,
+    row: usize,
+    col: usize,
+)
+    requires { ⌜ Ground shape (now slow) (now times) (now cols) (now rows) × Site shape e row col × Held (shape .cells) (now work) ⌝ }
+    ensures { λ r. ⌜ ((t : ℕ) → (t ≡ 0) ⊎ (t < tentative (now (work .entry)) (shape .cells) e) → Touched (shape .cells) (rule-at shape (now (slow .entry)) (now (times .entry))) t e (now (work .entry)) (now (work .exit))) ⌝ }
+{
+    let n = shape.cells;
+    let v = super::sight::rule(slow, times, work, cols, rows, shape, e, row, col);
+    let at = 2 * n + e;
+    if v < work[at] {
+        work[at] = v;
+        queue::lower(work, n, e, v);
+    }
+}
+
+// The cell e hears of a cell whose time is t. One that is no later, and a wall, need not be looked at.
+fn touch(
+    slow: &[u32],
+    times: &[u32],
+    work: &mut [u32],
+    cols: &[u8; 257],
+    rows: &[u8; 257],
+    shape: Shape,
+    e: usize,
+    row: usize,
+    col: usize,
+    t: u32,
+)
+    requires { ⌜ Ground shape (now slow) (now times) (now cols) (now rows) × Site shape e row col × Held (shape .cells) (now work) ⌝ }
+    ensures { λ r. ⌜ Touched (shape .cells) (rule-at shape (now (slow .entry)) (now (times .entry))) t e (now (work .entry)) (now (work .exit)) ⌝ }
+{
+    let n = shape.cells;
+    let at = 2 * n + e;
+    if work[at] <= t {
+        return;
+    }
+    if slow[e] == 0 {
+        return;
+    }
+    relax(slow, times, work, cols, rows, shape, e, row, col);
+}
+
+fn tell_left(
+    slow: &[u32],
+    times: &[u32],
+    work: &mut [u32],
+    cols: &[u8; 257],
+    rows: &[u8; 257],
+    shape: Shape,
+    c: usize,
+    row: usize,
+    col: usize,
+    t: u32,
+    kind: u8,
+)
+    requires { ⌜ Ground shape (now slow) (now times) (now cols) (now rows) × Site shape c row col × Held (shape .cells) (now work) × (kind ≢ edge) ⌝ }
+    ensures { λ r. ⌜ Touched (shape .cells) (rule-at shape (now (slow .entry)) (now (times .entry))) t (beyond (shape .cells) kind (seam (shape .width) (shape .across) col) (c - 1)) (now (work .entry)) (now (work .exit)) ⌝ }
+{
+    if cols[col] == kind {
+        touch(slow, times, work, cols, rows, shape, c - 1, row, col - 1, t);
+    }
+}
+
+fn tell_right(
+    slow: &[u32],
+    times: &[u32],
+    work: &mut [u32],
+    cols: &[u8; 257],
+    rows: &[u8; 257],
+    shape: Shape,
+    c: usize,
+    row: usize,
+    col: usize,
+    t: u32,
+    kind: u8,
+)
+    requires { ⌜ Ground shape (now slow) (now times) (now cols) (now rows) × Site shape c row col × Held (shape .cells) (now work) × (kind ≢ edge) ⌝ }
+    ensures { λ r. ⌜ Touched (shape .cells) (rule-at shape (now (slow .entry)) (now (times .entry))) t (beyond (shape .cells) kind (seam (shape .width) (shape .across) (col + 1)) (c + 1)) (now (work .entry)) (now (work .exit)) ⌝ }
+{
+    let next = col + 1;
+    if cols[next] == kind {
+        touch(slow, times, work, cols, rows, shape, c + 1, row, next, t);
+    }
+}
+
+fn tell_above(
+    slow: &[u32],
+    times: &[u32],
+    work: &mut [u32],
+    cols: &[u8; 257],
+    rows: &[u8; 257],
+    shape: Shape,
+    c: usize,
+    row: usize,
+    col: usize,
+    t: u32,
+    kind: u8,
+)
+    requires { ⌜ Ground shape (now slow) (now times) (now cols) (now rows) × Site shape c row col × Held (shape .cells) (now work) × (kind ≢ edge) ⌝ }
+    ensures { λ r. ⌜ Touched (shape .cells) (rule-at shape (now (slow .entry)) (now (times .entry))) t (beyond (shape .cells) kind (seam (shape .height) (shape .down) row) (c - shape .width)) (now (work .entry)) (now (work .exit)) ⌝ }
+{
+    let w = shape.width;
+    if rows[row] == kind {
+        touch(slow, times, work, cols, rows, shape, c - w, row - 1, col, t);
+    }
+}
+
+fn tell_below(
+    slow: &[u32],
+    times: &[u32],
+    work: &mut [u32],
+    cols: &[u8; 257],
+    rows: &[u8; 257],
+    shape: Shape,
+    c: usize,
+    row: usize,
+    col: usize,
+    t: u32,
+    kind: u8,
+)
+    requires { ⌜ Ground shape (now slow) (now times) (now cols) (now rows) × Site shape c row col × Held (shape .cells) (now work) × (kind ≢ edge) ⌝ }
+    ensures { λ r. ⌜ Touched (shape .cells) (rule-at shape (now (slow .entry)) (now (times .entry))) t (beyond (shape .cells) kind (seam (shape .height) (shape .down) (row + 1)) (c + shape .width)) (now (work .entry)) (now (work .exit)) ⌝ }
+{
+    let w = shape.width;
+    let next = row + 1;
+    if rows[next] == kind {
+        touch(slow, times, work, cols, rows, shape, c + w, next, col, t);
+    }
+}
+
+// Division of 32 bits is much quicker than of 64.
+fn row_of(c: usize, w: usize) -> usize
+    requires { ⌜ (c ≤ 65536) × (1 ≤ w) × (w ≤ 256) ⌝ }
+    ensures { λ r. ⌜ r ≡ c / w ⌝ }
+{
+    ((c as u32) / (w as u32)) as usize
+}
+
+// The neighbours of c across seams of the given kind hear of it.
+pub fn tell(
+    slow: &[u32],
+    times: &[u32],
+    work: &mut [u32],
+    cols: &[u8; 257],
+    rows: &[u8; 257],
+    shape: Shape,
+    c: usize,
+    t: u32,
+    kind: u8,
+)
+    requires { ⌜ Ground shape (now slow) (now times) (now cols) (now rows) × Held (shape .cells) (now work) × (c < shape .cells) × (kind ≢ edge) ⌝ }
+    ensures { λ r. ⌜ Told (shape .cells) (rule-at shape (now (slow .entry)) (now (times .entry))) t (near (land shape (now (slow .entry))) (shape .across) (shape .down) kind c) (now (work .entry)) (now (work .exit)) ⌝ }
+{
+    let w = shape.width;
+    let row = row_of(c, w);
+    let col = c - row * w;
+    tell_left(slow, times, work, cols, rows, shape, c, row, col, t, kind);
+    tell_right(slow, times, work, cols, rows, shape, c, row, col, t, kind);
+    tell_above(slow, times, work, cols, rows, shape, c, row, col, t, kind);
+    tell_below(slow, times, work, cols, rows, shape, c, row, col, t, kind);
+}
+
+fn lesser(a: u8, b: u8) -> u8
+    ensures { λ r. ⌜ r ≡ min a b ⌝ }
+{
+    if a < b { a } else { b }
+}
+
+// Whether all four seams around a cell are inside its tile. One branch is compiled: an inside seam is the greatest.
+fn inner(cols: &[u8; 257], rows: &[u8; 257], row: usize, col: usize) -> bool
+    requires { ⌜ (row < 256) × (col < 256) ⌝ }
+    ensures { λ r. ⌜ r ≡ eqb (min (min (getD (now (cols .entry)) col 0) (getD (now (cols .entry)) (col + 1) 0)) (min (getD (now (rows .entry)) row 0) (getD (now (rows .entry)) (row + 1) 0))) inside ⌝ }
+{
+    let beside = lesser(cols[col], cols[col + 1]);
+    let over = lesser(rows[row], rows[row + 1]);
+    lesser(beside, over) == INSIDE
+}
+
+// The neighbours of c in other tiles hear of it. Most cells have none.
+pub fn tell_others(
+    slow: &[u32],
+    times: &[u32],
+    work: &mut [u32],
+    cols: &[u8; 257],
+    rows: &[u8; 257],
+    shape: Shape,
+    c: usize,
+    t: u32,
+)
+    requires { ⌜ Ground shape (now slow) (now times) (now cols) (now rows) × Held (shape .cells) (now work) × (c < shape .cells) ⌝ }
+    ensures { λ r. ⌜ Told (shape .cells) (rule-at shape (now (slow .entry)) (now (times .entry))) t (near (land shape (now (slow .entry))) (shape .across) (shape .down) border c) (now (work .entry)) (now (work .exit)) ⌝ }
+{
+    let w = shape.width;
+    let row = row_of(c, w);
+    let col = c - row * w;
+    if inner(cols, rows, row, col) {
+        return;
+    }
+    tell(slow, times, work, cols, rows, shape, c, t, BORDER);
+}

@@ -1,0 +1,6 @@
+mod Stores
+mod Texts
+pub mod Decimal
+mod Rows
+mod Answers
+mod Example

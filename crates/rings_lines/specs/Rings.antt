@@ -1,0 +1,56 @@
+-- WHAT `rings` PRINTS ("The scenario file" and "Turned down" of document 01), byte for byte. Assumes nothing: these are definitions.
+use mathlib.Core.Path.{_≡_}
+use mathlib.Core.Bool.{cond}
+use mathlib.Core.List.{List, [], _∷_, _++_}
+use Prim.Native.Nat.{ℕ, _+_, _%_, _≤_}
+use lib.Dec.{ltb, eqb}
+use lib.ListN.{length, take, drop}
+use Rattle.eikonal.specs.Board.{never, marched}
+use Rattle.scenario.specs.File.{width-in, height-in, ticks-in, held}
+use Rattle.scenario.specs.Calls.{turn-of}
+use Rattle.tablet.specs.Small.{horizon, small-refusal}
+use Rattle.rings_lines.specs.Text.{decimal}
+
+-- the turn of a time, `-` for never. 32 is a space, 10 a newline, 45 is `-`
+unfoldable pub turn-text : (ticks time : ℕ) → List ℕ
+turn-text k t = cond (eqb (turn-of t k) never) (45 ∷ []) (decimal (turn-of t k))
+
+-- behind the field of cell c: a newline where a row ends, else a space
+unfoldable pub behind : (wide c : ℕ) → ℕ
+behind w c = cond (eqb ((c + 1) % w) 0) 10 32
+
+-- a field for each time, from cell c on
+unfoldable pub rows : (wide ticks c : ℕ) → (times : List ℕ) → List ℕ
+rows w k c [] = []
+rows w k c (t ∷ ts) = (turn-text k t ++ (behind w c ∷ [])) ++ rows w k (c + 1) ts
+
+unfoldable pub head-line : (wide high ticks : ℕ) → List ℕ
+head-line w h k = (decimal w ++ (32 ∷ [])) ++ ((decimal h ++ (32 ∷ [])) ++ (decimal k ++ (10 ∷ [])))
+
+-- `refused`, a space and the number
+unfoldable pub refused-line : (number : ℕ) → List ℕ
+refused-line n = (114 ∷ 101 ∷ 102 ∷ 117 ∷ 115 ∷ 101 ∷ 100 ∷ 32 ∷ []) ++ (decimal n ++ (10 ∷ []))
+
+-- 15 comes first for a file above 18,448 bytes
+unfoldable pub rings-refusal : List ℕ → ℕ
+rings-refusal f = cond (ltb 18448 (length f)) 15 (small-refusal f)
+
+unfoldable pub board-lines : List ℕ → List ℕ
+board-lines f =
+    head-line (width-in f) (height-in f) (ticks-in f) ++ rows (width-in f) (ticks-in f) 0 (marched (held f) horizon)
+
+-- THE LINES of a file
+unfoldable pub lines : List ℕ → List ℕ
+lines f = cond (eqb (rings-refusal f) 0) (board-lines f) (refused-line (rings-refusal f))
+
+-- room for any lines: 33 bytes in front and 11 a cell are enough
+abbrev pub room : ℕ
+room = 11300
+
+-- a list with that much room begins with the lines, and its later bytes stay; a shorter one stays whole, and the answer is 0
+pub record Rings-says (f out out-now : List ℕ) (r : ℕ) : Type 0 where
+  pub answers : r ≡ cond (ltb (length out) room) 0 (length (lines f))
+  pub leaves : out-now ≡ cond (ltb (length out) room) out (lines f ++ drop (length (lines f)) out)
+  -- these two follow from the others: whoever lends the first r bytes on finds them here
+  pub within : r ≤ length out-now
+  pub counts : r ≡ length (take r out-now)

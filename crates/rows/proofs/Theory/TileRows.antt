@@ -1,0 +1,220 @@
+-- Tiles row by row: the rows and columns of a tile, and that an order leaves no cell out. Assumes nothing.
+use mathlib.Core.Path.{_≡_, refl, sym, ap, _∙_}
+use mathlib.Core.Bool.{Bool, true, false, _||_, false≢true}
+use mathlib.Core.Logic.{_⊎_, inl, inr}
+use mathlib.Core.List.{List, [], _∷_}
+use Prim.Native.Nat.{ℕ, zero, suc, _+_, _*_, _-_, _/_, _%_, _≤_, _<_, min}
+use native.Mathlib.Omega.{arith}
+use native.Mathlib.Decide.{ℕ-discrete}
+use native.Mathlib.Nat.{mod-lt, div-add-mod', div-le-self, mul-le-mul, mul-le-mul-right, div-eq-of-lt-le, mul-add-mod-self-right, mod-eq-of-lt}
+use native.Mathlib.Numerals.{add-one}
+use lib.Dec.{eqb}
+use lib.ListN.{length, getD, take, drop}
+use lib.Seq.{take-length, getD-take, getD-drop}
+use borrow.Author.Tests.{eqb-true}
+use borrow.Rule.Slice.PartMut.{midOf, mid-len}
+use Rattle.eikonal.specs.Board.{Board}
+use Rattle.eikonal.specs.Tiles.{up, tile-of, tile-count}
+use Rattle.eikonal.specs.Refusals.{member, all-there, order-good}
+use Rattle.eikonal.proofs.Levels.{order}
+use Rattle.eikonal.proofs.Good.{and-true}
+use Rattle.eikonal.proofs.Grid.{row-low}
+use Rattle.eikonal.proofs.Clip.{clip}
+use Rattle.front.specs.Board.{land}
+use Rattle.rows.specs.Lists.{due}
+use Rattle.rows.specs.Rows.{Entered, Block, tile-in, Room, Wrote}
+use Rattle.front.specs.declared.Shape.{Shape}
+use Rattle.front.proofs.Theory.Reading.{time-at}
+
+-- ---- room for the cells
+module _ {s : Shape} {times work : List ℕ} (r : Room s times work) where
+  pub cells-most : s .cells ≤ 65536
+  cells-most = omega (arith, r .cells, mul-le-mul (r .wide-high) (r .high-high))
+
+  pub room-kept : {now : List ℕ} → length now ≡ length times → Room s now work
+  room-kept e = record {
+    cells = r .cells;
+    wide-low = r .wide-low;
+    wide-high = r .wide-high;
+    high-high = r .high-high;
+    across-low = r .across-low;
+    across-high = r .across-high;
+    down-low = r .down-low;
+    down-high = r .down-high;
+    many = e ∙ r .many;
+    space = r .space;
+  }
+
+  pub row-end : {row right : ℕ} → row < s .height → right ≤ s .width → row * s .width + right ≤ s .cells
+  row-end {row} l h =
+      let i : suc row ≤ s .height = l in
+      omega (arith, r .cells, mul-le-mul-right (s .width) i)
+
+-- ---- blocks of rows and columns
+pub row-cells : {w row left right c : ℕ} → Block w row (row + 1) left right c → (row * w + left ≤ c) × (c < row * w + right)
+row-cells {w} {row} {left} {right} {c} b =
+    let r : c / w ≡ row = omega (arith, b .top-most, b .bottom-most) in
+    let p = ap (λ (u : ℕ). u * w) r in
+    (omega (arith, div-add-mod' c w, b .left-most), omega (arith, div-add-mod' c w, b .right-most))
+
+pub no-rows : {w top left right c : ℕ} → Block w top top left right c → ⊥
+no-rows b = omega (arith, b .top-most, b .bottom-most)
+
+pub one-row-more : {w top row left right c : ℕ} → Block w top (row + 1) left right c → Block w top row left right c ⊎ Block w row (row + 1) left right c
+one-row-more {w} {top} {row} {left} {right} {c} b = go (order (c / w) row)
+  where
+    go : (c / w < row) ⊎ (row ≤ c / w) → Block w top row left right c ⊎ Block w row (row + 1) left right c
+    go (inl l) = inl record { top-most = b .top-most; bottom-most = l; left-most = b .left-most; right-most = b .right-most }
+    go (inr l) = inr record { top-most = l; bottom-most = b .bottom-most; left-most = b .left-most; right-most = b .right-most }
+
+pub fewer-rows : {w top bottom row left right c : ℕ} → bottom ≤ row → Block w top bottom left right c → Block w top row left right c
+fewer-rows l b = record { top-most = b .top-most; bottom-most = omega (arith, b .bottom-most); left-most = b .left-most; right-most = b .right-most }
+
+-- ---- a part of the times and the same part of the tentative times: as long, and what the latter holds
+pub parts-long : (times work : List ℕ) (n a e : ℕ) → e ≤ length times → 2 * n + e ≤ length work → e ≤ 65536
+    → (length (midOf a (e - a) times) ≡ length (midOf (2 * n + a) (2 * n + e - (2 * n + a)) work)) × (length (midOf (2 * n + a) (2 * n + e - (2 * n + a)) work) ≤ 65536)
+parts-long times work n a e h k m =
+    let p = mid-len a e times h in
+    let q = mid-len (2 * n + a) (2 * n + e) work k in
+    (omega arith, omega arith)
+
+pub part-read : (bound n a e : ℕ) (work : List ℕ) (j : ℕ) → j < e - a → clip bound (getD (midOf (2 * n + a) (2 * n + e - (2 * n + a)) work) j 0) ≡ due bound work n (a + j)
+part-read bound n a e work j l =
+    let s : 2 * n + a + j ≡ 2 * n + (a + j) = omega arith in
+    ap (clip bound)
+    (getD-take (2 * n + e - (2 * n + a)) (drop (2 * n + a) work) j 0 (omega arith)
+    ∙ getD-drop (2 * n + a) work j 0
+    ∙ ap (λ (u : ℕ). getD work u 0) s)
+
+-- ---- quotients
+pub quotient-low : (x n s : ℕ) → 1 ≤ s → x < n → x / s < up n s
+unfolding up
+quotient-low x n s l h = go (order (x / s) ((n + s - 1) / s))
+  where
+    go : (x / s < (n + s - 1) / s) ⊎ ((n + s - 1) / s ≤ x / s) → x / s < (n + s - 1) / s
+    go (inl i) = i
+    go (inr i) = absurd (omega (arith, mul-le-mul-right s i, div-add-mod' x s, div-add-mod' (n + s - 1) s, mod-lt (n + s - 1) l))
+
+pub up-some : (n s : ℕ) → 1 ≤ s → 1 ≤ n → 1 ≤ up n s
+up-some n s l h = omega (arith, quotient-low 0 n s l h)
+
+-- so many sides of s, less one, are short of n
+pub side-low : (q n s : ℕ) → 1 ≤ s → q < up n s → q * s < n
+unfolding up
+side-low q n s l h =
+    let i : suc q ≤ (n + s - 1) / s = h in
+    omega (arith, mul-le-mul-right s i, div-add-mod' (n + s - 1) s)
+
+-- a quotient says between which multiples a number lies
+quotient-from : (x s : ℕ) → x / s * s ≤ x
+quotient-from x s = omega (arith, div-add-mod' x s)
+
+quotient-to : (x s : ℕ) → 1 ≤ s → x < x / s * s + s
+quotient-to x s l = omega (arith, div-add-mod' x s, mod-lt x l)
+
+-- where a tile begins: its column is on the board, and its row is no larger than a number of 40 bits
+pub record Corner (s : Shape) (tile : ℕ) : Type 0 where
+  pub some : 1 ≤ up (s .width) (s .across)
+  pub top : tile / up (s .width) (s .across) * s .down ≤ tile * 256
+  pub left : tile % up (s .width) (s .across) * s .across < s .width
+
+pub corner : {s : Shape} {times work : List ℕ} → Room s times work → (tile : ℕ) → Corner s tile
+corner {s} r tile =
+    let some = up-some (s .width) (s .across) (r .across-low) (r .wide-low) in
+    record {
+      some = some;
+      top = mul-le-mul (div-le-self tile (up (s .width) (s .across))) (r .down-high);
+      left = side-low (tile % up (s .width) (s .across)) (s .width) (s .across) (r .across-low) (mod-lt tile some);
+    }
+
+-- ---- tiles of a board
+module _ (b : Board) (tw th : ℕ) (wide : 1 ≤ b .wide) (tw1 : 1 ≤ tw) (th1 : 1 ≤ th) (c : ℕ) where
+  column-low : c % b .wide / tw < up (b .wide) tw
+  column-low = quotient-low (c % b .wide) (b .wide) tw tw1 (mod-lt c wide)
+
+  tile-across : tile-of b tw th c % up (b .wide) tw ≡ c % b .wide / tw
+  unfolding tile-of
+  tile-across = mul-add-mod-self-right (c / b .wide / th) (up (b .wide) tw) (c % b .wide / tw) ∙ mod-eq-of-lt column-low
+
+  tile-down : tile-of b tw th c / up (b .wide) tw ≡ c / b .wide / th
+  unfolding tile-of
+  tile-down = div-eq-of-lt-le (up (b .wide) tw) (omega arith) (omega (arith, column-low))
+
+  -- a cell lies in the rows and columns of its tile, up to the board's edge
+  pub in-tile : c < b .wide * b .high → {tile bottom right : ℕ} → bottom ≡ min (tile / up (b .wide) tw * th + th) (b .high) → right ≡ min (tile % up (b .wide) tw * tw + tw) (b .wide)
+      → tile-of b tw th c ≡ tile → Block (b .wide) (tile / up (b .wide) tw * th) bottom (tile % up (b .wide) tw * tw) right c
+  in-tile on {tile} {bottom} {right} eb er e = record {
+    top-most = omega (arith, top, quotient-from (c / b .wide) th);
+    bottom-most = omega (arith, top, quotient-to (c / b .wide) th th1, row-low (b .wide) (b .high) c wide on);
+    left-most = omega (arith, left, quotient-from (c % b .wide) tw);
+    right-most = omega (arith, left, quotient-to (c % b .wide) tw tw1, mod-lt c wide);
+  }
+    where
+      top : tile / up (b .wide) tw * th ≡ c / b .wide / th * th
+      top = ap (λ (u : ℕ). u * th) (ap (λ (u : ℕ). u / up (b .wide) tw) (sym e) ∙ tile-down)
+
+      left : tile % up (b .wide) tw * tw ≡ c % b .wide / tw * tw
+      left = ap (λ (u : ℕ). u * tw) (ap (λ (u : ℕ). u % up (b .wide) tw) (sym e) ∙ tile-across)
+
+  pub tile-low : c < b .wide * b .high → tile-of b tw th c < tile-count b tw th
+  unfolding tile-of tile-count
+  tile-low on =
+      let row : suc (c / b .wide / th) ≤ up (b .high) th = quotient-low (c / b .wide) (b .high) th th1 (row-low (b .wide) (b .high) c wide on) in
+      omega (arith, column-low, mul-le-mul-right (up (b .wide) tw) row)
+
+-- ---- orders
+or-true : (p q : Bool) → p || q ≡ true → (p ≡ true) ⊎ (q ≡ true)
+or-true true q e = inl refl
+or-true false q e = inr e
+
+-- one entry more
+member-more : (v : ℕ) (xs : List ℕ) (i : ℕ) → i < length xs → member v (take (suc i) xs) ≡ true → (member v (take i xs) ≡ true) ⊎ (v ≡ getD xs i 0)
+unfolding member
+member-more v [] i l e = absurd (omega arith)
+member-more v (x ∷ xs) zero l e = go (or-true (eqb x v) false e)
+  where
+    go : (eqb x v ≡ true) ⊎ (false ≡ true) → (false ≡ true) ⊎ (v ≡ x)
+    go (inl p) = inr (sym (eqb-true x v p))
+    go (inr p) = inl p
+member-more v (x ∷ xs) (suc i) l e = go (eqb x v) e (member-more v xs i (omega arith))
+  where
+    go : (p : Bool) → p || member v (take (suc i) xs) ≡ true → (member v (take (suc i) xs) ≡ true → (member v (take i xs) ≡ true) ⊎ (v ≡ getD xs i 0))
+        → (p || member v (take i xs) ≡ true) ⊎ (v ≡ getD xs i 0)
+    go true e r = inl refl
+    go false e r = r e
+
+pub no-tile : (v : ℕ) → member v [] ≡ true → ⊥
+unfolding member
+no-tile v e = false≢true e
+
+pub one-tile-more : (v : ℕ) (xs : List ℕ) (i : ℕ) → i < length xs → member v (take (i + 1) xs) ≡ true → (member v (take i xs) ≡ true) ⊎ (v ≡ getD xs i 0)
+one-tile-more v xs i l e = member-more v xs i l (ap (λ (u : ℕ). member v (take u xs)) (sym (add-one i)) ∙ e)
+
+all-members : (n : ℕ) (xs : List ℕ) (v : ℕ) → all-there n xs ≡ true → v < n → member v xs ≡ true
+unfolding all-there
+all-members zero xs v e l = absurd (omega arith)
+all-members (suc n) xs v e l = elim (ℕ-discrete v n) [
+  | yes q ↦ ap (λ (u : ℕ). member u xs) q ∙ and-true (member n xs) (all-there n xs) e .0
+  | no q ↦ all-members n xs v (and-true (member n xs) (all-there n xs) e .1) (omega (arith, q))
+]
+
+-- an order is good by the board's sides alone
+pub order-sides : (b d : Board) (tw th : ℕ) (xs : List ℕ) → b .wide ≡ d .wide → b .high ≡ d .high → order-good b tw th xs ≡ order-good d tw th xs
+unfolding order-good tile-count
+order-sides b d tw th xs e f = rw (e, f)
+
+-- THE ROUND: a good order has every cell's tile, so when all are written all is final
+module _ {s : Shape} {old work : List ℕ} (r : Room s old work) (xs : List ℕ) (good : order-good (land s []) (s .across) (s .down) xs ≡ true) where
+  every-tile : (c : ℕ) → c < s .cells → member (tile-in s c) xs ≡ true
+  unfolding order-good
+  every-tile c l =
+      all-members (tile-count (land s []) (s .across) (s .down)) xs (tile-in s c)
+      (and-true (eqb (length xs) (tile-count (land s []) (s .across) (s .down))) (all-there (tile-count (land s []) (s .across) (s .down)) xs) good .1)
+      (tile-low (land s []) (s .across) (s .down) (r .wide-low) (r .across-low) (r .down-low) c (omega (arith, r .cells)))
+
+  pub wrote : {bound : ℕ} {new : List ℕ} {count i : ℕ} → i ≡ length xs → Entered (λ c. member (tile-in s c) (take i xs) ≡ true) (due bound work (s .cells)) old new count → Wrote s bound work old new count
+  wrote {bound} {new} e a = record {
+    long = a .long;
+    each = λ c l. time-at new c (omega (arith, a .long, r .many)) ∙ a .done c (omega (arith, r .many)) (ap (λ (u : ℕ). member (tile-in s c) (take u xs)) e ∙ ap (member (tile-in s c)) (take-length xs) ∙ every-tile c l);
+    counted = a .counted;
+  }

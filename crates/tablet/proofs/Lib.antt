@@ -1,0 +1,6 @@
+pub mod SmallFiles
+pub mod Parts
+mod Orders
+mod Runs
+mod TimesBytes
+mod Answers

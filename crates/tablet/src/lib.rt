@@ -1,0 +1,78 @@
+// The tablet's call: a scenario file with sides to 32 is run tile by tile, and its times are written as bytes.
+pub mod run;
+pub mod small;
+
+ghost use mathlib.Core.Path.{_≡_};
+ghost use Prim.Native.Nat.{_*_};
+ghost use lib.ListN.{length};
+ghost use Rattle.scenario.specs.Bytes.{four-bytes, bytes-of};
+ghost use Rattle.tablet.specs.Tablet.{tiling-refusal, tablet-refusal, Tablet-says};
+use eikonal::refusals::side_good;
+use scenario::bytes::put_four;
+use scenario_read::judge::board_size;
+
+// 10 and 11.
+fn tiling_refusal(stride: u32, across: u32, down: u32) -> u32
+    ensures { λ r. ⌜ r ≡ tiling-refusal stride across down ⌝ }
+{
+    if stride == 0 {
+        return 10;
+    }
+    if stride > 300000000 {
+        return 10;
+    }
+    if !side_good(across) {
+        return 11;
+    }
+    if !side_good(down) {
+        return 11;
+    }
+    0
+}
+
+// All that the tablet is refused by, for an output of so many bytes.
+fn tablet_refusal(file: &[u8], stride: u32, across: u32, down: u32, room: usize) -> u32
+    ensures { λ r. ⌜ r ≡ tablet-refusal (now (file .entry)) stride across down room ⌝ }
+{
+    let number = small::small_refusal(file);
+    if number != 0 {
+        return number;
+    }
+    let tiling = tiling_refusal(stride, across, down);
+    if tiling != 0 {
+        return tiling;
+    }
+    if room < 4 * board_size(file) {
+        return 14;
+    }
+    0
+}
+
+// Each time as 4 bytes, into a list that is just as long.
+fn put_times(out: &mut [u8], times: &[u32])
+    requires { ⌜ length (now out) ≡ 4 * length (now times) ⌝ }
+    ensures { λ r. ⌜ now (out .exit) ≡ bytes-of four-bytes (now (times .entry)) ⌝ }
+{
+    let mut i = 0;
+    while i < times.len() {
+        put_four(out, 4 * i, times[i]);
+        i += 1;
+    }
+}
+
+// Runs the board of a file with the tiles in rising order, up to the horizon 6,000,000. Answers the rounds × 256 and writes N times of
+// 4 bytes; later bytes stay. A refused call answers the bare number and leaves the output as it was.
+pub fn tablet_run(file: &[u8], stride: u32, across: u32, down: u32, out: &mut [u8]) -> u64
+    ensures { λ x. ⌜ Tablet-says (now (file .entry)) stride across down (now (out .entry)) (now (out .exit)) x ⌝ }
+{
+    let number = tablet_refusal(file, stride, across, down, out.len());
+    if number != 0 {
+        return number as u64;
+    }
+    let n = board_size(file);
+    let mut times = run::entries();
+    let rounds = run::run_file(file, stride, across, down, &mut times[..n]);
+    let bytes = 4 * n;
+    put_times(&mut out[..bytes], &times[..n]);
+    (rounds as u64) * 256
+}

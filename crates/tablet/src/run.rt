@@ -1,0 +1,131 @@
+// The run of a small board, tiles in rising order. Every list that it needs is a local one: 32 KiB, beside the caller's times.
+ghost use mathlib.Core.Path.{_≡_};
+ghost use Prim.Native.Nat.{ℕ, _*_, _≤_, _<_};
+ghost use lib.ListN.{length, getD};
+ghost use Rattle.eikonal.specs.Board.{size, marched};
+ghost use Rattle.eikonal.specs.Tiles.{up, rounds};
+ghost use Rattle.eikonal.specs.Refusals.{board, plain-refusal};
+ghost use Rattle.eikonal.specs.Entry.{plain};
+ghost use Rattle.scenario.specs.File.{held};
+ghost use Rattle.tablet.specs.Small.{horizon, small-refusal, Tiled};
+use scenario::bytes::two_at;
+use scenario_read::judge;
+
+const HORIZON: u32 = 6000000;
+
+// Zeros for a list of so many cells. Only the length is told: no entry is read before it is written.
+pub fn entries() -> [u32; 1024]
+    ensures { λ r. ⌜ length r ≡ 1024 ⌝ }
+{
+    [0; 1024]
+}
+
+fn work_entries() -> [u32; 4096]
+    ensures { λ r. ⌜ length r ≡ 4096 ⌝ }
+{
+    [0; 4096]
+}
+
+// How many tiles of a side lie along a side of the board.
+fn tiles_along(side: u32, tile: u32) -> usize
+    requires { ⌜ (side ≤ 32) × (1 ≤ tile) × (tile ≤ 256) ⌝ }
+    ensures is { λ r. ⌜ r ≡ up side tile ⌝ }
+    ensures most { λ r. ⌜ r ≤ 32 ⌝ }
+{
+    ((side + tile - 1) / tile) as usize
+}
+
+// 0, 1, 2, ..
+fn rise(order: &mut [u32])
+    requires { ⌜ length (now order) ≤ 1024 ⌝ }
+    ensures { λ r. ⌜ ((k : ℕ) → k < length (now (order .entry)) → getD (now (order .exit)) k 0 ≡ k) ⌝ }
+{
+    let mut i = 0;
+    while i < order.len() {
+        order[i] = i as u32;
+        i += 1;
+    }
+}
+
+// A board with sides to 32 that no number refuses.
+fn run_board(
+    width: u32,
+    height: u32,
+    slow: &[u32],
+    cells: &[u32],
+    begins: &[u32],
+    stride: u32,
+    across: u32,
+    down: u32,
+    times: &mut [u32],
+) -> u32
+    requires board { ⌜ (plain-refusal (plain width height (now slow) (now cells) (now begins)) ≡ 0) × (width ≤ 32) × (height ≤ 32) × (length (now times) ≡ width * height) ⌝ }
+    requires tiles { ⌜ Tiled stride across down ⌝ }
+    ensures rounds { λ r. ⌜ r ≡ rounds (board (plain width height (now (slow .entry)) (now (cells .entry)) (now (begins .entry)))) across down stride horizon ⌝ }
+    ensures times { λ r. ⌜ now (times .exit) ≡ marched (board (plain width height (now (slow .entry)) (now (cells .entry)) (now (begins .entry)))) horizon ⌝ }
+{
+    let mut order = entries();
+    let tiles = tiles_along(width, across) * tiles_along(height, down);
+    rise(&mut order[..tiles]);
+    let mut work = work_entries();
+    let reply = engine::calls::tile_run(
+        width,
+        height,
+        slow,
+        cells,
+        begins,
+        across,
+        down,
+        stride,
+        HORIZON,
+        &order[..tiles],
+        times,
+        &mut work,
+    );
+    reply.count
+}
+
+// The board of a file that was judged, whose slownesses were read. Times are as many as it has cells.
+fn run_starts(
+    file: &[u8],
+    slow: &[u32],
+    stride: u32,
+    across: u32,
+    down: u32,
+    times: &mut [u32],
+) -> u32
+    requires board { ⌜ (small-refusal (now file) ≡ 0) × (now slow ≡ held (now file) .slow) × (length (now times) ≡ size (held (now file))) ⌝ }
+    requires tiles { ⌜ Tiled stride across down ⌝ }
+    ensures rounds { λ r. ⌜ r ≡ rounds (held (now (file .entry))) across down stride horizon ⌝ }
+    ensures times { λ r. ⌜ now (times .exit) ≡ marched (held (now (file .entry))) horizon ⌝ }
+{
+    let q = judge::start_count(file);
+    let base = judge::starts_base(file);
+    let mut cells = entries();
+    let mut begins = entries();
+    scenario_read::read_starts(file, base, &mut cells[..q], &mut begins[..q]);
+    run_board(
+        two_at(file, 0),
+        two_at(file, 2),
+        slow,
+        &cells[..q],
+        &begins[..q],
+        stride,
+        across,
+        down,
+        times,
+    )
+}
+
+// The board of a file that was judged, with as many times as it has cells. Answers the rounds.
+pub fn run_file(file: &[u8], stride: u32, across: u32, down: u32, times: &mut [u32]) -> u32
+    requires board { ⌜ (small-refusal (now file) ≡ 0) × (length (now times) ≡ size (held (now file))) ⌝ }
+    requires tiles { ⌜ Tiled stride across down ⌝ }
+    ensures rounds { λ r. ⌜ r ≡ rounds (held (now (file .entry))) across down stride horizon ⌝ }
+    ensures times { λ r. ⌜ now (times .exit) ≡ marched (held (now (file .entry))) horizon ⌝ }
+{
+    let n = times.len();
+    let mut slow = entries();
+    scenario_read::fill_slow(file, &mut slow);
+    run_starts(file, &slow[..n], stride, across, down, times)
+}

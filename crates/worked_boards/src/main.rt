@@ -1,0 +1,198 @@
+// Goes through the boards worked by hand in document 01 that are not starred: what each gives, and whether it is what the page says.
+use eikonal::Reply;
+use libc::STDOUT_FILENO;
+
+const NEVER: u32 = 4294967295;
+
+// A number and a space; `-` for never.
+fn print(x: u32) {
+    if x == NEVER {
+        io::write_all(STDOUT_FILENO, b"- ");
+        return;
+    }
+    io::print_decimal(STDOUT_FILENO, x as u64);
+    io::write_all(STDOUT_FILENO, b" ");
+}
+
+fn print_all(list: &[u32]) {
+    let mut i = 0;
+    while i < list.len() {
+        print(list[i]);
+        i += 1;
+    }
+}
+
+fn same(a: &[u32], b: &[u32]) -> bool {
+    if a.len() != b.len() {
+        return false;
+    }
+    let mut i = 0;
+    while i < a.len() {
+        if a[i] != b[i] {
+            return false;
+        }
+        i += 1;
+    }
+    true
+}
+
+fn judge(as_expected: bool) {
+    if as_expected {
+        io::write_all(STDOUT_FILENO, b"as expected\n");
+        return;
+    }
+    io::write_all(STDOUT_FILENO, b"NOT AS EXPECTED\n");
+}
+
+fn tell(name: &[u8], got: &[u32], want: &[u32]) {
+    io::write_all(STDOUT_FILENO, name);
+    print_all(got);
+    judge(same(got, want));
+}
+
+fn tell_reply(name: &[u8], reply: Reply, number: u32, count: u32) {
+    let got = [reply.number, reply.count];
+    let want = [number, count];
+    tell(name, &got, &want);
+}
+
+// A round on the board of 3 by 3, slowness 10, start cell 0 at 0, in tiles of 2 by 2.
+fn round(name: &[u8], bound: u32, times: &mut [u32], want: &[u32]) {
+    let slow = [10u32; 9];
+    let cell = [0u32; 1];
+    let begin = [0u32; 1];
+    let order = [0u32, 1, 2, 3];
+    let mut work = [0u32; 36];
+    engine::calls::one_round(
+        3,
+        3,
+        &slow,
+        &cell,
+        &begin,
+        2,
+        2,
+        bound,
+        &order,
+        times,
+        &mut work,
+    );
+    tell(name, times, want);
+}
+
+// Bounds of stride 20 and horizon 34.
+fn rounds() {
+    let mut times = [NEVER; 9];
+    let first = [0u32, 10, NEVER, 10, 18, NEVER, NEVER, NEVER, NEVER];
+    let second = [0u32, 10, 20, 10, 18, 26, 20, 26, NEVER];
+    let third = [0u32, 10, 20, 10, 18, 26, 20, 26, 34];
+    round(b"round 1: ", 20, &mut times, &first);
+    round(b"round 2: ", 34, &mut times, &second);
+    round(b"round 3: ", 34, &mut times, &third);
+    round(b"round 4: ", 34, &mut times, &third);
+}
+
+fn run(name: &[u8], side: u32, order: &[u32], rounds: u32) {
+    let slow = [10u32; 9];
+    let cell = [0u32; 1];
+    let begin = [0u32; 1];
+    let mut times = [0u32; 9];
+    let mut work = [0u32; 36];
+    let reply = engine::calls::tile_run(
+        3,
+        3,
+        &slow,
+        &cell,
+        &begin,
+        side,
+        side,
+        20,
+        34,
+        order,
+        &mut times,
+        &mut work,
+    );
+    tell_reply(name, reply, 0, rounds);
+    let want = [0u32, 10, 20, 10, 18, 26, 20, 26, 34];
+    tell(b"its times: ", &times, &want);
+}
+
+// A march over 3 by 3 cells of slowness 10 with the given starts.
+fn march(name: &[u8], cells: &[u32], begins: &[u32], number: u32, count: u32, want: &[u32]) {
+    let slow = [10u32; 9];
+    let mut times = [0u32; 9];
+    let mut work = [0u32; 36];
+    let reply = engine::calls::march(3, 3, &slow, cells, begins, 300000000, &mut times, &mut work);
+    tell_reply(name, reply, number, count);
+    tell(b"its times: ", &times, want);
+}
+
+// A board of 256 cells, from cell 0 on.
+fn side(name: &[u8], width: u32, height: u32, number: u32, count: u32) {
+    let slow = [10u32; 256];
+    let cell = [0u32; 1];
+    let begin = [0u32; 1];
+    let mut times = [0u32; 256];
+    let mut work = [0u32; 1024];
+    let reply = engine::calls::march(
+        width,
+        height,
+        &slow,
+        &cell,
+        &begin,
+        300000000,
+        &mut times,
+        &mut work,
+    );
+    tell_reply(name, reply, number, count);
+}
+
+fn starts() {
+    let zero = [0u32; 9];
+    let never = [NEVER; 9];
+    let front = [0u32, 10, 20, 10, 18, 26, 20, 26, 34];
+    let late = [
+        1000000u32,
+        1000010,
+        1000020,
+        1000010,
+        1000018,
+        1000026,
+        1000020,
+        1000026,
+        1000034,
+    ];
+    let cells = [0u32; 0];
+    let begins = [0u32; 0];
+    march(b"no starts: ", &cells, &begins, 0, 0, &never);
+    march(b"cell 1 at 15: ", &[0u32, 1], &[0u32, 15], 0, 9, &front);
+    march(b"start at 1,000,000: ", &[0u32], &[1000000u32], 0, 9, &late);
+    march(b"start at 1,000,001: ", &[0u32], &[1000001u32], 8, 0, &zero);
+}
+
+// 3 by 3, 10 ticks, ground 10, no runs, start cell 0 at 0.
+fn rings() {
+    let file =
+        b"\x03\x00\x03\x00\x0a\x00\x0a\x00\x00\x00\x00\x00\x01\x00\x00\x00\x00\x00\x00\x00\x00\x00\x00\x00";
+    let mut text = [0u8; 11300];
+    let n = rings_lines::rings_lines(file, &mut text);
+    io::write_all(STDOUT_FILENO, b"rings:\n");
+    io::write_all(STDOUT_FILENO, &text[..n]);
+    judge(check::same(&text[..n], b"3 3 10\n0 1 2\n1 1 2\n2 2 3\n"));
+}
+
+fn main() {
+    rounds();
+    run(
+        b"2 by 2 tiles, refusal and rounds: ",
+        2,
+        &[0u32, 1, 2, 3],
+        4,
+    );
+    run(b"one tile, refusal and rounds: ", 3, &[0u32], 3);
+    starts();
+    side(b"256 by 1: ", 256, 1, 0, 256);
+    side(b"1 by 256: ", 1, 256, 0, 256);
+    side(b"257 by 1: ", 257, 1, 2, 0);
+    side(b"0 by 256: ", 0, 256, 2, 0);
+    rings();
+}

@@ -1,0 +1,264 @@
+/* Every call of the header from C: accepted and refused, with empty lists, with marked entries around each list.
+ * `calls MARKS`: so many marked entries on each side. */
+#include "murgolab.h"
+#include "lent.h"
+
+enum kind { MARCH, ROUND, RUN, KINDS };
+
+static const char *const names[KINDS] = {"march", "one_round", "tile_run"};
+
+/* The arguments of a march, a round or a run, and the lengths that are stated for its lists. */
+typedef struct {
+    uint32_t width, height, across, down, stride, bound;
+    size_t slow_len, cells_len, begins_len, order_len, times_len, work_len;
+    uint32_t slow[10], cells[3], begins[3], order[5];
+} game;
+
+/* Three by three, slowness 10, a wall at the end of the first row, one start at the top left; its times by hand. */
+static const game good = {
+    3, 3, 2, 2, 20, 34, 9, 1, 1, 4, 9, 38,
+    {10, 10, 0, 10, 10, 10, 10, 10, 10, 10}, {0, 4, 5}, {0, 1000000, 0}, {3, 1, 0, 2, 3},
+};
+static const uint32_t solved[9] = {0, 10, MURGOLAB_NEVER, 10, 18, 28, 20, 26, 34};
+
+/* Plays the game with times that hold 7 and work that holds 9; it must give this answer and leave these times. */
+static void play(enum kind kind, game g, uint32_t number, uint32_t count, const uint32_t *after)
+{
+    uint32_t times[10], work[40], cleared[40];
+    murgolab_reply r = {99, 99};
+    lent slow, cells, begins, order, lent_times, lent_work;
+    size_t i;
+    for (i = 0; i < 10; i++)
+        times[i] = 7;
+    for (i = 0; i < 40; i++) {
+        work[i] = 9;
+        cleared[i] = i < 4 * g.width * g.height ? 0 : 9;
+    }
+    slow = lend(g.slow, g.slow_len, 4);
+    cells = lend(g.cells, g.cells_len, 4);
+    begins = lend(g.begins, g.begins_len, 4);
+    order = lend(g.order, g.order_len, 4);
+    lent_times = lend(times, g.times_len, 4);
+    lent_work = lend(work, g.work_len, 4);
+    sprintf(now, "%s_plain, wanted number %u", names[kind], (unsigned)number);
+    switch (kind) {
+    case MARCH:
+        r = murgolab_march_plain(g.width, g.height, slow.list, g.slow_len, cells.list, g.cells_len,
+            begins.list, g.begins_len, g.bound, lent_times.list, g.times_len, lent_work.list, g.work_len);
+        break;
+    case ROUND:
+        r = murgolab_one_round_plain(g.width, g.height, slow.list, g.slow_len, cells.list, g.cells_len,
+            begins.list, g.begins_len, g.across, g.down, g.bound, order.list, g.order_len,
+            lent_times.list, g.times_len, lent_work.list, g.work_len);
+        break;
+    default:
+        r = murgolab_tile_run_plain(g.width, g.height, slow.list, g.slow_len, cells.list, g.cells_len,
+            begins.list, g.begins_len, g.across, g.down, g.stride, g.bound, order.list, g.order_len,
+            lent_times.list, g.times_len, lent_work.list, g.work_len);
+    }
+    check(r.number == number, "another number");
+    check(r.count == count, "another count");
+    back(slow, g.slow, "slow is altered");
+    back(cells, g.cells, "cells is altered");
+    back(begins, g.begins, "begins is altered");
+    back(order, g.order, "order is altered");
+    back(lent_times, number == 0 ? after : times, "times");
+    back(lent_work, number == 0 ? cleared : work, "work");
+}
+
+static void refused(enum kind kind, game g, uint32_t number)
+{
+    play(kind, g, number, 0, NULL);
+}
+
+/* One case with a change to the good game. */
+#define REFUSED(number, change) do { game g = good; change; refused(kind, g, number); } while (0)
+
+static void accepted_games(void)
+{
+    /* two tiles, the last row being one; all stored times are 7, and each tile sees those of the other */
+    static const uint32_t rows[9] = {0, 10, MURGOLAB_NEVER, 10, 16, 17, 17, 17, 17};
+    uint32_t never[9];
+    game two_tiles = good, no_starts = good;
+    size_t i;
+    for (i = 0; i < 9; i++)
+        never[i] = MURGOLAB_NEVER;
+    play(MARCH, good, 0, 8, solved);
+    play(RUN, good, 0, 4, solved);
+    two_tiles.across = 3;
+    two_tiles.order_len = 2;
+    two_tiles.order[0] = 1;
+    two_tiles.order[1] = 0;
+    two_tiles.bound = 17;
+    play(ROUND, two_tiles, 0, 9, rows);
+    no_starts.cells_len = no_starts.begins_len = 0;
+    play(MARCH, no_starts, 0, 0, never);
+    play(RUN, no_starts, 0, 2, never);
+}
+
+static void refused_games(enum kind kind)
+{
+    REFUSED(2, g.width = 0);
+    REFUSED(2, g.height = 257);
+    REFUSED(4, g.slow_len = 0);
+    REFUSED(4, g.slow_len = 10);
+    REFUSED(4, g.cells_len = 0);
+    REFUSED(4, g.begins_len = 0);
+    REFUSED(5, g.slow[8] = 4096);
+    REFUSED(7, g.cells[0] = 9);
+    REFUSED(8, g.begins[0] = 1000001);
+    REFUSED(9, g.cells[0] = 2);
+    REFUSED(10, g.bound = 300000001);
+    REFUSED(13, g.times_len = 0);
+    REFUSED(13, g.times_len = 10);
+    REFUSED(14, g.work_len = 0);
+    REFUSED(14, g.work_len = 35);
+    REFUSED(2, memset(&g, 0, sizeof g));
+    if (kind == MARCH)
+        return;
+    REFUSED(11, g.across = 0);
+    REFUSED(11, g.down = 257);
+    REFUSED(12, g.order_len = 0);
+    REFUSED(12, g.order_len = 3);
+    REFUSED(12, g.order_len = 5);
+    if (kind == RUN)
+        REFUSED(10, g.stride = 0);
+}
+
+/* The good game's file with a ground of 10 and 10 ticks, a late start added: one run, two starts. */
+enum { FILE_LENGTH = 16 + 10 + 16 };
+static const uint8_t good_file[FILE_LENGTH + 1] = {
+    3, 0, 3, 0, 10, 0, 10, 0, 1, 0, 0, 0, 2, 0, 0, 0,
+    2, 0, 0, 0, 1, 0, 0, 0, 0, 0,
+    0, 0, 0, 0, 0, 0, 0, 0, 4, 0, 0, 0, 0x40, 0x42, 0x0F, 0,
+    77,
+};
+
+static void read_file(const uint8_t *bytes, size_t length, size_t slow_len, size_t cells_len, size_t begins_len,
+    uint32_t number)
+{
+    static const uint32_t garbage[10] = {5, 5, 5, 5, 5, 5, 5, 5, 5, 5};
+    uint32_t slow[10] = {10, 10, 0, 10, 10, 10, 10, 10, 10, 5}, cells[3] = {0, 4, 5}, begins[3] = {0, 1000000, 5};
+    murgolab_scenario s, want = {0, 3, 3, 10, 10, 2}, none = {0, 0, 0, 0, 0, 0};
+    lent file = lend(bytes, length, 1), lent_slow = lend(garbage, slow_len, 4), lent_cells = lend(garbage, cells_len, 4),
+         lent_begins = lend(garbage, begins_len, 4);
+    sprintf(now, "read_scenario_plain, wanted number %u", (unsigned)number);
+    s = murgolab_read_scenario_plain(file.list, length, lent_slow.list, slow_len, lent_cells.list, cells_len,
+        lent_begins.list, begins_len);
+    none.number = number;
+    check(memcmp(&s, number == 0 ? &want : &none, sizeof s) == 0, "another answer");
+    back(file, bytes, "file is altered");
+    back(lent_slow, number == 0 ? slow : garbage, "slow");
+    back(lent_cells, number == 0 ? cells : garbage, "cells");
+    back(lent_begins, number == 0 ? begins : garbage, "begins");
+}
+
+/* The good file with one byte put in. */
+static void read_with(size_t place, uint8_t byte, uint32_t number)
+{
+    uint8_t file[FILE_LENGTH];
+    memcpy(file, good_file, FILE_LENGTH);
+    file[place] = byte;
+    read_file(file, FILE_LENGTH, 9, 2, 2, number);
+}
+
+static void reading(void)
+{
+    read_file(good_file, FILE_LENGTH, 9, 2, 2, 0);
+    read_file(good_file, FILE_LENGTH, 10, 3, 3, 0);
+    read_file(good_file, 0, 0, 0, 0, 1);
+    read_file(good_file, 0, 9, 2, 2, 1);
+    read_file(good_file, 15, 9, 2, 2, 1);
+    read_file(good_file, FILE_LENGTH - 1, 9, 2, 2, 1);
+    read_file(good_file, FILE_LENGTH + 1, 9, 2, 2, 1);
+    read_with(0, 0, 2);
+    read_with(4, 0, 3);
+    read_with(7, 16, 5);
+    read_with(20, 0, 6);
+    read_with(26, 4, 7);
+    read_with(40, 0x10, 8);
+    read_with(34, 2, 9);
+    read_file(good_file, FILE_LENGTH, 8, 2, 2, 14);
+    read_file(good_file, FILE_LENGTH, 9, 1, 2, 14);
+    read_file(good_file, FILE_LENGTH, 9, 2, 1, 14);
+    read_file(good_file, FILE_LENGTH, 0, 0, 0, 14);
+}
+
+static void write_file(game g, uint32_t ticks, uint32_t ground, size_t out_len, uint32_t number)
+{
+    uint8_t garbage[FILE_LENGTH + 1];
+    murgolab_reply r;
+    lent slow = lend(g.slow, g.slow_len, 4), cells = lend(g.cells, g.cells_len, 4),
+         begins = lend(g.begins, g.begins_len, 4), out;
+    memset(garbage, 77, sizeof garbage);
+    out = lend(garbage, out_len, 1);
+    sprintf(now, "write_scenario_plain, wanted number %u", (unsigned)number);
+    r = murgolab_write_scenario_plain(g.width, g.height, ticks, ground, slow.list, g.slow_len, cells.list, g.cells_len,
+        begins.list, g.begins_len, out.list, out_len);
+    check(r.number == number, "another number");
+    check(r.count == (number == 0 ? FILE_LENGTH : 0), "another count");
+    back(slow, g.slow, "slow is altered");
+    back(cells, g.cells, "cells is altered");
+    back(begins, g.begins, "begins is altered");
+    back(out, number == 0 ? good_file : garbage, "out");
+}
+
+#define UNWRITTEN(number, change) do { game g = two; change; write_file(g, 10, 10, FILE_LENGTH, number); } while (0)
+
+static void writing(void)
+{
+    game two = good;
+    two.cells_len = two.begins_len = 2;
+    write_file(two, 10, 10, FILE_LENGTH, 0);
+    write_file(two, 10, 10, FILE_LENGTH + 1, 0);
+    write_file(two, 10, 10, FILE_LENGTH - 1, 14);
+    write_file(two, 10, 10, 0, 14);
+    write_file(two, 0, 10, FILE_LENGTH, 3);
+    write_file(two, 65536, 10, FILE_LENGTH, 3);
+    write_file(two, 10, 4096, FILE_LENGTH, 5);
+    UNWRITTEN(2, g.width = 257);
+    UNWRITTEN(2, memset(&g, 0, sizeof g));
+    UNWRITTEN(4, g.slow_len = 0);
+    UNWRITTEN(4, g.slow_len = 8);
+    UNWRITTEN(4, g.cells_len = 0);
+    UNWRITTEN(4, g.begins_len = 0);
+    UNWRITTEN(5, g.slow[0] = 4096);
+    UNWRITTEN(7, g.cells[1] = 0);
+    UNWRITTEN(8, g.begins[1] = 1000001);
+    UNWRITTEN(9, g.cells[1] = 2);
+}
+
+static void answers(const char *what, murgolab_reply r, uint32_t number, uint32_t count)
+{
+    sprintf(now, "%s", what);
+    check(r.number == number && r.count == count, "another answer");
+}
+
+static void numbers(void)
+{
+    const uint32_t n = MURGOLAB_NEVER;
+    answers("local rule of 0 and 4", murgolab_local_rule(10, 0, n, n, 4), 0, 9);
+    answers("local rule of never", murgolab_local_rule(10, n, n, 300000001, n), 0, n);
+    answers("local rule of a wall", murgolab_local_rule(0, 0, 0, 0, 0), 0, n);
+    answers("local rule of 4,096", murgolab_local_rule(4096, 0, 0, 0, 0), 5, 0);
+    answers("D of 4,095", murgolab_diagonal(4095), 0, 2896);
+    answers("D of 4,096", murgolab_diagonal(4096), 5, 0);
+    answers("turn of 29", murgolab_turn(29, 10), 0, 2);
+    answers("turn of never", murgolab_turn(n, 65535), 0, n);
+    answers("turn of 0 ticks", murgolab_turn(29, 0), 3, 0);
+    answers("turn of 65,536 ticks", murgolab_turn(29, 65536), 3, 0);
+}
+
+int main(int count, char **arguments)
+{
+    int kind;
+    marks = count > 1 ? strtoul(arguments[1], NULL, 10) : 8;
+    numbers();
+    accepted_games();
+    for (kind = MARCH; kind < KINDS; kind++)
+        refused_games((enum kind)kind);
+    reading();
+    writing();
+    printf("%u checks, %u wrong\n", checks, wrong);
+    return wrong != 0;
+}

@@ -1,0 +1,327 @@
+//! The C interface as texts: what the header declares, what the proved source exports, and what Rust
+//! code declares of it. All three are put into C's words, so that they can be compared.
+
+use std::collections::BTreeMap;
+use std::fs;
+use std::path::{Path, PathBuf};
+
+/// A type and a name, as `const uint32_t *` and `slow`.
+pub type Field = (String, String);
+
+/// A function's answer and its parameters in order.
+#[derive(Clone, Debug, PartialEq, Eq)]
+pub struct Function {
+    pub answer: String,
+    pub parameters: Vec<Field>,
+}
+
+#[derive(Debug, Default, PartialEq, Eq)]
+pub struct Interface {
+    pub functions: BTreeMap<String, Function>,
+    pub structs: BTreeMap<String, Vec<Field>>,
+}
+
+/// The repository's folder.
+pub fn repository() -> PathBuf {
+    Path::new(env!("CARGO_MANIFEST_DIR")).join("..")
+}
+
+pub fn read(path: impl AsRef<Path>) -> String {
+    let path = repository().join(path);
+    fs::read_to_string(&path).unwrap_or_else(|e| panic!("{}: {}", path.display(), e))
+}
+
+/// The files of a folder and of those below it that end with `ending`.
+pub fn files(folder: &Path, ending: &str) -> Vec<PathBuf> {
+    let mut found = Vec::new();
+    for entry in fs::read_dir(folder).unwrap_or_else(|e| panic!("{}: {}", folder.display(), e)) {
+        let path = entry.expect("an entry of a folder").path();
+        if path.is_dir() {
+            found.extend(files(&path, ending));
+        } else if path.to_string_lossy().ends_with(ending) {
+            found.push(path);
+        }
+    }
+    found.sort();
+    found
+}
+
+/// What `include/murgolab.h` declares.
+pub fn header() -> Interface {
+    let mut interface = Interface::default();
+    let text = without_comments(&read("include/murgolab.h"));
+    let mut words = Words::new(&without_directives(&text));
+    while let Some(word) = words.next() {
+        if word == "typedef" {
+            words.expect(&["struct", "{"]);
+            let fields = c_fields(&mut words);
+            let name = words.word();
+            words.expect(&[";"]);
+            assert_eq!(interface.structs.insert(name.clone(), fields), None, "{} is declared twice", name);
+        } else {
+            let name = words.word();
+            let parameters = c_parameters(&mut words);
+            words.expect(&[";"]);
+            add(&mut interface, name, Function { answer: word, parameters });
+        }
+    }
+    interface
+}
+
+/// What the crate murgolab exports, with the structs that its functions name.
+pub fn exported() -> Interface {
+    let mut interface = Interface::default();
+    for file in files(&repository().join("crates/murgolab/src"), ".rt") {
+        let mut words = Words::new(&without_comments(&read(file)));
+        let mut mangled = true;
+        while let Some(word) = words.next() {
+            match word.as_str() {
+                "no_mangle" => mangled = false,
+                "extern" => {
+                    words.expect(&["\"", "C", "\"", "fn"]);
+                    let name = words.word();
+                    assert!(!mangled, "{} has no `#[no_mangle]`", name);
+                    mangled = true;
+                    let function = rust_function(&mut words);
+                    add(&mut interface, name, function);
+                }
+                _ => {}
+            }
+        }
+    }
+    let named = interface.functions.values().flat_map(types).filter_map(struct_in);
+    let structs: BTreeMap<String, Vec<Field>> = named.map(|name| (name.clone(), source_struct(&name))).collect();
+    Interface { structs, ..interface }
+}
+
+/// What the `extern "C"` blocks of the Rust files of a folder declare.
+pub fn declared_in(folder: &str) -> BTreeMap<String, Function> {
+    let mut interface = Interface::default();
+    for file in files(&repository().join(folder), ".rs") {
+        let mut words = Words::new(&without_comments(&read(file)));
+        while let Some(word) = words.next() {
+            if word == "extern" && words.take(&["\"", "C", "\"", "{"]) {
+                while !words.take(&["}"]) {
+                    words.expect(&["fn"]);
+                    let name = words.word();
+                    let function = rust_function(&mut words);
+                    words.expect(&[";"]);
+                    add(&mut interface, name, function);
+                }
+            }
+        }
+    }
+    interface.functions
+}
+
+fn add(interface: &mut Interface, name: String, function: Function) {
+    let before = interface.functions.insert(name.clone(), function);
+    assert_eq!(before, None, "{} is declared twice", name);
+}
+
+fn types(function: &Function) -> Vec<String> {
+    let parameters = function.parameters.iter().map(|(kind, _)| kind.clone());
+    parameters.chain([function.answer.clone()]).collect()
+}
+
+/// The struct's name in a type, without its `const` and `*`.
+fn struct_in(kind: String) -> Option<String> {
+    kind.split(' ').find(|word| word.starts_with("murgolab_")).map(String::from)
+}
+
+/// The fields of the one struct of the crates that has this C name; C's layout is asked for.
+fn source_struct(c_name: &str) -> Vec<Field> {
+    let mut found = Vec::new();
+    for file in files(&repository().join("crates"), ".rt") {
+        let mut words = Words::new(&without_comments(&read(file)));
+        let mut in_c = false;
+        while let Some(word) = words.next() {
+            match word.as_str() {
+                "repr" => in_c = words.take(&["(", "C", ")"]),
+                "struct" => {
+                    let name = words.word();
+                    if c_type(&name) == c_name {
+                        assert!(in_c, "{} has no `#[repr(C)]`", name);
+                        words.expect(&["{"]);
+                        found.push(rust_fields(&mut words));
+                    }
+                    in_c = false;
+                }
+                _ => {}
+            }
+        }
+    }
+    assert_eq!(found.len(), 1, "structs of the crates for {}", c_name);
+    found.remove(0)
+}
+
+/// A number's type, or a struct's, in C's words.
+fn c_type(rust: &str) -> String {
+    match rust {
+        "u8" => "uint8_t".to_string(),
+        "u32" => "uint32_t".to_string(),
+        "i32" => "int32_t".to_string(),
+        "u64" => "uint64_t".to_string(),
+        "f32" => "float".to_string(),
+        "usize" => "size_t".to_string(),
+        name => format!("murgolab_{}", name.to_lowercase()),
+    }
+}
+
+/// `( name : type , .. ) -> type`; a slice is a pointer and a length.
+fn rust_function(words: &mut Words) -> Function {
+    words.expect(&["("]);
+    let mut parameters = Vec::new();
+    while !words.take(&[")"]) {
+        let name = words.word();
+        words.expect(&[":"]);
+        if words.take(&["&"]) {
+            let pointer = if words.take(&["mut"]) { "" } else { "const " };
+            words.expect(&["["]);
+            parameters.push((format!("{}{} *", pointer, rust_type(words)), name.clone()));
+            words.expect(&["]"]);
+            parameters.push(("size_t".to_string(), format!("{}_len", name)));
+        } else if words.take(&["*", "const"]) {
+            parameters.push((format!("const {} *", rust_type(words)), name));
+        } else if words.take(&["*", "mut"]) {
+            parameters.push((format!("{} *", rust_type(words)), name));
+        } else {
+            parameters.push((rust_type(words), name));
+        }
+        words.take(&[","]);
+    }
+    words.expect(&["-", ">"]);
+    Function { answer: rust_type(words), parameters }
+}
+
+/// A type's last name, as `Reply` of `eikonal::Reply`, in C's words.
+fn rust_type(words: &mut Words) -> String {
+    let mut name = words.word();
+    while words.take(&[":", ":"]) {
+        name = words.word();
+    }
+    c_type(&name)
+}
+
+/// `pub name : type , .. }`
+fn rust_fields(words: &mut Words) -> Vec<Field> {
+    let mut fields = Vec::new();
+    while !words.take(&["}"]) {
+        words.expect(&["pub"]);
+        let name = words.word();
+        words.expect(&[":"]);
+        fields.push((rust_type(words), name));
+        words.take(&[","]);
+    }
+    fields
+}
+
+/// `type name , name ; .. }`
+fn c_fields(words: &mut Words) -> Vec<Field> {
+    let mut fields = Vec::new();
+    while !words.take(&["}"]) {
+        let kind = words.word();
+        fields.push((kind.clone(), words.word()));
+        while words.take(&[","]) {
+            fields.push((kind.clone(), words.word()));
+        }
+        words.expect(&[";"]);
+    }
+    fields
+}
+
+/// `( const type * name , .. )`
+fn c_parameters(words: &mut Words) -> Vec<Field> {
+    words.expect(&["("]);
+    let mut parameters = Vec::new();
+    while !words.take(&[")"]) {
+        let lead = if words.take(&["const"]) { "const " } else { "" };
+        let kind = words.word();
+        let star = if words.take(&["*"]) { " *" } else { "" };
+        parameters.push((format!("{}{}{}", lead, kind, star), words.word()));
+        words.take(&[","]);
+    }
+    parameters
+}
+
+fn without_comments(text: &str) -> String {
+    let mut rest = text;
+    let mut kept = String::new();
+    while let Some(at) = rest.find("/*").into_iter().chain(rest.find("//")).min() {
+        kept += &rest[..at];
+        let end = if rest[at..].starts_with("/*") { "*/" } else { "\n" };
+        let behind = rest[at..].find(end).map_or(rest.len(), |long| at + long + end.len());
+        rest = &rest[behind..];
+        kept.push('\n');
+    }
+    kept + rest
+}
+
+/// A header without preprocessor lines and without what stands there for C++ alone.
+fn without_directives(text: &str) -> String {
+    let mut kept = String::new();
+    let mut for_cpp = false;
+    for line in text.lines() {
+        if line.starts_with('#') {
+            for_cpp = line.contains("__cplusplus");
+        } else if !for_cpp {
+            kept += line;
+            kept.push('\n');
+        }
+    }
+    kept
+}
+
+/// Names, numbers and single signs, one after another.
+struct Words {
+    all: Vec<String>,
+    at: usize,
+}
+
+impl Words {
+    fn new(text: &str) -> Words {
+        let mut all: Vec<String> = Vec::new();
+        let mut in_word = false;
+        for sign in text.chars() {
+            let goes_on = sign.is_alphanumeric() || sign == '_';
+            match all.last_mut() {
+                Some(word) if goes_on && in_word => word.push(sign),
+                _ if !sign.is_whitespace() => all.push(sign.to_string()),
+                _ => {}
+            }
+            in_word = goes_on;
+        }
+        Words { all, at: 0 }
+    }
+
+    fn next(&mut self) -> Option<String> {
+        self.at += 1;
+        self.all.get(self.at - 1).cloned()
+    }
+
+    /// The next word, which must be a name.
+    fn word(&mut self) -> String {
+        match self.next() {
+            Some(word) if word.chars().all(|sign| sign.is_alphanumeric() || sign == '_') => word,
+            other => panic!("{:?} where a name is due, behind {:?}", other, self.behind()),
+        }
+    }
+
+    /// Whether these words come next; if so they are passed.
+    fn take(&mut self, words: &[&str]) -> bool {
+        let next = self.all.iter().skip(self.at).take(words.len());
+        let same = next.clone().count() == words.len() && next.zip(words).all(|(a, b)| a == b);
+        self.at += if same { words.len() } else { 0 };
+        same
+    }
+
+    fn expect(&mut self, words: &[&str]) {
+        assert!(self.take(words), "{:?} is due behind {:?}", words, self.behind());
+    }
+
+    /// A few words before the place, for messages.
+    fn behind(&self) -> String {
+        let end = self.at.min(self.all.len());
+        self.all[end.saturating_sub(8)..end].join(" ")
+    }
+}

@@ -1,0 +1,20 @@
+//! A scenario file typed by hand from document 01, and what it holds: neither is made by a program.
+
+use crate::board::Board;
+use crate::scenario::Held;
+
+/// Three by two, 10 ticks, ground 10; walls 1 and 2, cell 3 the slowest; starts 0 at 5 and 5 at 1,000,000.
+#[rustfmt::skip]
+pub const FILE: [u8; 52] = [
+    3, 0, 2, 0, 10, 0, 10, 0, 2, 0, 0, 0, 2, 0, 0, 0,
+    1, 0, 0, 0, 2, 0, 0, 0, 0, 0,
+    3, 0, 0, 0, 1, 0, 0, 0, 0xFF, 0x0F,
+    0, 0, 0, 0, 5, 0, 0, 0,
+    5, 0, 0, 0, 0x40, 0x42, 0x0F, 0,
+];
+
+pub fn held() -> Held {
+    let slow = vec![10, 0, 0, 4_095, 10, 10];
+    let board = Board { width: 3, height: 2, slow, cells: vec![0, 5], begins: vec![5, 1_000_000] };
+    Held { ticks: 10, ground: 10, board }
+}

@@ -1,0 +1,264 @@
+//! The reader of scenario files beside the second solver's: seeded files of every shape, whole and
+//! damaged in every way that the table names, and files typed by hand.
+
+use second_solver::board::Board;
+use second_solver::compare::{read_both, write_both, Lists, Tally};
+use second_solver::drafts::{spoil_byte, Draft, FILE_CAUSES};
+use second_solver::ffi::scenario::{read, write};
+use second_solver::generate::{self, garbage, scenarios_of_extreme_sides};
+use second_solver::random::Random;
+use second_solver::scenario::{Held, Scenario};
+use second_solver::typed::{self, FILE};
+use second_solver::NEVER;
+
+/// What the reader can refuse by.
+const READER_CAUSES: [u32; 9] = [1, 2, 3, 5, 6, 7, 8, 9, 14];
+
+/// Lists that hold anything, long enough for the scenario and some longer.
+fn roomy(r: &mut Random, held: &Held) -> Lists {
+    let mut list = |least: usize| {
+        let longer = r.pick(&[0, 0, 1, 5]);
+        garbage(r, least + longer)
+    };
+    let board = &held.board;
+    Lists { slow: list(board.size()), cells: list(board.cells.len()), begins: list(board.begins.len()) }
+}
+
+/// Lists of which one is an entry too short.
+fn cramped(r: &mut Random, held: &Held) -> Lists {
+    let mut lists = roomy(r, held);
+    match r.below(3) {
+        1 if !held.board.cells.is_empty() => lists.cells.truncate(held.board.cells.len() - 1),
+        2 if !held.board.begins.is_empty() => lists.begins.truncate(held.board.begins.len() - 1),
+        _ => lists.slow.truncate(held.board.size() - 1),
+    }
+    lists
+}
+
+/// What a file holds by a reader's answer and the lists that it left.
+fn held_by(answer: &Scenario, lists: &Lists) -> Held {
+    let (size, starts) = ((answer.width * answer.height) as usize, answer.starts as usize);
+    let board = Board {
+        width: answer.width,
+        height: answer.height,
+        slow: lists.slow[..size].to_vec(),
+        cells: lists.cells[..starts].to_vec(),
+        begins: lists.begins[..starts].to_vec(),
+    };
+    Held { ticks: answer.ticks, ground: answer.ground, board }
+}
+
+/// Reads a file, and answers what it holds. One that is accepted is written again, and must have the
+/// same bytes.
+fn read_and_write_again(file: &[u8], lists: &Lists, tally: &mut Tally, seed: u64) -> Option<Held> {
+    let (answer, after) = read_both(read, file, lists, seed);
+    tally.note(answer.number);
+    if answer.number != 0 {
+        return None;
+    }
+    let held = held_by(&answer, &after);
+    let (_, again) = write_both(write, &held, &vec![0xEE; file.len()], seed);
+    assert!(again == file, "seed {}: the file that is written again is another", seed);
+    Some(held)
+}
+
+/// The scenario's file as it is, and damaged in each way; two damages are those of the seed.
+fn try_whole_and_damaged(r: &mut Random, held: &Held, tally: &mut Tally, seed: u64) {
+    let draft = Draft::of(held);
+    let whole = draft.bytes();
+    let read_back = read_and_write_again(&whole, &roomy(r, held), tally, seed);
+    assert!(read_back.as_ref() == Some(held), "seed {}: a good file is not read as what it holds", seed);
+    read_and_write_again(&whole, &cramped(r, held), tally, seed);
+    let (first, second) = (FILE_CAUSES[seed as usize / 8 % 8], FILE_CAUSES[seed as usize % 8]);
+    for causes in FILE_CAUSES.map(|cause| vec![cause]).into_iter().chain([vec![first, second]]) {
+        let mut damaged = draft.clone();
+        for cause in causes {
+            damaged.spoil(r, cause);
+        }
+        let lists = if r.once_in(4) { cramped(r, held) } else { roomy(r, held) };
+        read_and_write_again(&damaged.bytes(), &lists, tally, seed);
+    }
+    let mut other = whole;
+    spoil_byte(r, &mut other);
+    read_and_write_again(&other, &roomy(r, held), tally, seed);
+}
+
+#[test]
+fn seeded_files_are_read_as_the_second_solver_reads_them() {
+    let mut tally = Tally::default();
+    for seed in 70_000_000..70_030_000 {
+        let mut r = Random::new(seed);
+        let held = generate::small_scenario(&mut r);
+        try_whole_and_damaged(&mut r, &held, &mut tally, seed);
+    }
+    assert!(tally.calls() >= 300_000, "{} files only", tally.calls());
+    tally.assert_each(&READER_CAUSES, 10_000);
+}
+
+#[test]
+fn the_shortest_and_the_longest_sides_are_read_in_every_lay() {
+    let mut tally = Tally::default();
+    scenarios_of_extreme_sides(71_000_000, |r, held, seed| try_whole_and_damaged(r, held, &mut tally, seed));
+    tally.assert_each(&READER_CAUSES, 50);
+}
+
+/// Whole, and wrong in its last entries.
+#[test]
+fn the_longest_file_is_read_to_its_end() {
+    let held = generate::longest_scenario();
+    let file = Draft::of(&held).bytes();
+    let (runs_end, end) = (16 + 10 * 65_536, 16 + 18 * 65_536);
+    assert_eq!(file.len(), end);
+    let lists = marked(65_536, 65_536);
+    assert!(read_and_write_again(&file, &lists, &mut Tally::default(), 0) == Some(held));
+    let changes = [
+        (runs_end - 1, 0x10, 5), // the last run's slowness 4,128
+        (runs_end - 6, 2, 6),    // its length 2
+        (end - 8, 0xFE, 7),      // the last start's cell is that of the start before
+        (end - 4, 0x41, 8),      // its time 1,000,001
+        (runs_end - 2, 0, 9),    // a wall under it
+    ];
+    for (at, byte, number) in changes {
+        let mut damaged = file.clone();
+        damaged[at] = byte;
+        assert_eq!(read_both(read, &damaged, &lists, at as u64).0, Scenario::refused(number), "byte {}", at);
+    }
+}
+
+fn marked(slow: usize, starts: usize) -> Lists {
+    Lists { slow: vec![77; slow], cells: vec![88; starts], begins: vec![99; starts] }
+}
+
+#[test]
+fn a_file_typed_by_hand_is_read() {
+    let (answer, after) = read_both(read, &FILE, &marked(7, 3), 0);
+    assert_eq!(answer, Scenario { number: 0, width: 3, height: 2, ticks: 10, ground: 10, starts: 2 });
+    assert_eq!(held_by(&answer, &after), typed::held());
+    assert_eq!((after.slow[6], after.cells[2], after.begins[2]), (77, 88, 99));
+    let mut late = FILE;
+    late[48] = 0x41;
+    let (answer, after) = read_both(read, &late, &marked(7, 3), 0);
+    assert_eq!((answer, after), (Scenario::refused(8), marked(7, 3)));
+}
+
+/// A byte of the typed file changed, and the number that document 01 has for it.
+#[test]
+fn each_rule_of_the_file_has_its_number() {
+    let changes: [(usize, u8, u32); 24] = [
+        (0, 0, 2),     // no width
+        (3, 2, 2),     // height 514
+        (4, 0, 3),     // no ticks
+        (5, 255, 0),   // many ticks
+        (7, 0x10, 5),  // the ground's slowness 4,106
+        (6, 0, 6),     // the ground's slowness is that of a run
+        (8, 3, 1),     // a run more than there is
+        (12, 1, 1),    // a start less than there is
+        (15, 0x20, 1), // 2^29 starts more
+        (16, 0, 9),    // walls 0 and 1
+        (16, 2, 6),    // the first run runs into the second
+        (20, 0, 6),    // the first run is empty
+        (20, 1, 0),    // cell 2 is ground
+        (20, 3, 6),    // the first run runs into the second
+        (23, 0x80, 6), // the first run ends beyond 32 bits
+        (25, 0x10, 5), // a run's slowness 4,096
+        (26, 0, 6),    // the second run begins before the first
+        (26, 6, 6),    // the second run lies beyond the board
+        (30, 4, 6),    // the second run ends beyond the board
+        (30, 3, 0),    // the second run ends with the board
+        (34, 10, 0),   // slowness 3,850
+        (36, 5, 7),    // the same cell twice
+        (44, 6, 7),    // a start beyond the board
+        (44, 2, 9),    // a start on a wall
+    ];
+    for (at, byte, number) in changes {
+        let mut file = FILE;
+        file[at] = byte;
+        assert_eq!(read_both(read, &file, &marked(6, 2), 0).0.number, number, "byte {} is {}", at, byte);
+    }
+    let mut touching = FILE;
+    touching[34..36].copy_from_slice(&[0, 0]); // two runs that touch, both of walls
+    assert_eq!(read_both(read, &touching, &marked(6, 2), 0).0.number, 6);
+}
+
+/// All causes at once; each is taken away in turn.
+#[test]
+fn of_all_causes_the_lowest_number_is_given() {
+    let wrong = [(0, 0), (4, 0), (7, 0x10), (30, 0), (44, 6), (48, 0x41), (36, 1)];
+    let mut file = FILE.to_vec();
+    for (at, byte) in wrong {
+        file[at] = byte;
+    }
+    let number = |file: &[u8], slow: usize| read_both(read, file, &marked(slow, 2), 0).0.number;
+    assert_eq!(number(&file[..51], 5), 1);
+    for ((at, _), cause) in wrong.into_iter().zip([2, 3, 5, 6, 7, 8, 9]) {
+        assert_eq!(number(&file, 5), cause);
+        file[at] = FILE[at];
+    }
+    assert_eq!([number(&file, 5), number(&file, 6)], [14, 0]);
+}
+
+/// Every truncation; the bytes that are cut off still lie behind the file.
+#[test]
+fn a_file_that_is_cut_short_or_goes_on_is_refused_by_1() {
+    let mut longer = FILE.to_vec();
+    longer.extend_from_slice(&FILE);
+    for length in 0..=longer.len() {
+        let number = if length == FILE.len() { 0 } else { 1 };
+        assert_eq!(read_both(read, &longer[..length], &marked(6, 2), 0).0.number, number, "{} bytes", length);
+    }
+}
+
+#[test]
+fn every_change_of_a_single_byte_is_judged_alike() {
+    let mut tally = Tally::default();
+    for at in 0..FILE.len() {
+        for byte in 0..=255 {
+            let mut file = FILE;
+            file[at] = byte;
+            read_and_write_again(&file, &marked(300, 2), &mut tally, at as u64);
+        }
+    }
+    assert_eq!(tally.calls(), 52 * 256);
+    tally.assert_each(&READER_CAUSES, 1);
+}
+
+/// Counts whose file length wraps at 32 bits to that of the file at hand, and others close to them.
+#[test]
+fn counts_that_wrap_do_not_fit() {
+    let powers = [28, 29, 30, 31].map(|bits| 1u32 << bits);
+    let counts: Vec<u32> =
+        (0..4).chain(powers.iter().flat_map(|p| [p - 1, *p, p + 1])).chain(NEVER - 2..=NEVER).collect();
+    let mut wrapped = 0;
+    let mut tally = Tally::default();
+    for &runs in &counts {
+        for &starts in &counts {
+            let low = (16 + 10 * u64::from(runs) + 8 * u64::from(starts)) as u32 as usize;
+            let fits_wrapped = (16..2_000).contains(&low) && runs.max(starts) > 3;
+            wrapped += u32::from(fits_wrapped);
+            for length in (16..=72).chain(Some(low).filter(|_| fits_wrapped)) {
+                let mut file = FILE.to_vec();
+                file.resize(length, 0);
+                file[8..12].copy_from_slice(&runs.to_le_bytes());
+                file[12..16].copy_from_slice(&starts.to_le_bytes());
+                let number = read_both(read, &file, &marked(6, 4), 0).0.number;
+                assert!(number == 1 || runs.max(starts) <= 3, "{} runs, {} starts: {}", runs, starts, number);
+                tally.note(number);
+            }
+        }
+    }
+    assert!(wrapped >= 20 && tally.calls() > 10_000, "{} that wrap, {} in all", wrapped, tally.calls());
+}
+
+/// Lists of every length around what the file needs.
+#[test]
+fn lists_that_are_too_short_are_refused_by_14() {
+    for slow in 0..=8 {
+        for cells in 0..=4 {
+            for begins in 0..=4 {
+                let lists = Lists { slow: vec![7; slow], cells: vec![8; cells], begins: vec![9; begins] };
+                let number = if slow >= 6 && cells >= 2 && begins >= 2 { 0 } else { 14 };
+                assert_eq!(read_both(read, &FILE, &lists, 0).0.number, number, "{} {} {}", slow, cells, begins);
+            }
+        }
+    }
+}

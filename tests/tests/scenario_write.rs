@@ -1,0 +1,157 @@
+//! The writer of scenario files beside the second solver's: seeded boards of every shape, whole and
+//! damaged in every way that the table names, and a file typed by hand.
+
+use second_solver::board::Board;
+use second_solver::compare::{read_both, write_both, Lists, Tally};
+use second_solver::damage::{spoil_writing, WRITER_CAUSES};
+use second_solver::ffi::scenario::{read, write};
+use second_solver::generate::{self, scenarios_of_extreme_sides};
+use second_solver::random::Random;
+use second_solver::scenario::{file_of, Held, Scenario};
+use second_solver::typed::{self, FILE};
+use second_solver::{Reply, NEVER};
+
+fn bytes(r: &mut Random, length: usize) -> Vec<u8> {
+    (0..length).map(|_| r.any() as u8).collect()
+}
+
+/// Writes the scenario and reads its file: the same board.
+fn write_and_read(r: &mut Random, held: &Held, out: usize, seed: u64) -> Reply {
+    let (reply, file) = write_both(write, held, &bytes(r, out), seed);
+    if reply.number == 0 {
+        let board = &held.board;
+        let starts = board.cells.len();
+        let lists = Lists { slow: vec![1; board.size()], cells: vec![2; starts], begins: vec![3; starts] };
+        let (answer, after) = read_both(read, &file[..reply.count as usize], &lists, seed);
+        let (width, height, starts) = (board.width, board.height, starts as u32);
+        let want = Scenario { number: 0, width, height, ticks: held.ticks, ground: held.ground, starts };
+        assert_eq!(answer, want, "seed {}", seed);
+        let same = after.slow == board.slow && after.cells == board.cells && after.begins == board.begins;
+        assert!(same, "seed {}: the board that is read is another", seed);
+    }
+    reply
+}
+
+/// The scenario as it is, into lists that are too short, just long enough and longer, and with each
+/// cause and each pair of the seed's cause with another.
+fn try_whole_and_damaged(r: &mut Random, held: &Held, tally: &mut Tally, seed: u64) {
+    let length = file_of(&held.board, held.ticks, held.ground).len();
+    let longer = length + r.within(1, 20) as usize;
+    for (out, want) in [(length - 1, 14), (length, 0), (longer, 0)] {
+        let reply = write_and_read(r, held, out, seed);
+        assert_eq!(reply.number, want, "seed {}: {} bytes lent for {}", seed, out, length);
+        tally.note(reply.number);
+    }
+    let of_seed = WRITER_CAUSES[seed as usize % WRITER_CAUSES.len()];
+    let alone = WRITER_CAUSES.map(|cause| vec![cause]);
+    let pairs = WRITER_CAUSES.map(|cause| vec![of_seed, cause]);
+    for causes in alone.into_iter().chain(pairs) {
+        let (mut damaged, mut out) = (held.clone(), r.pick(&[length, longer]));
+        for cause in causes {
+            spoil_writing(r, &mut damaged, &mut out, cause);
+        }
+        tally.note(write_and_read(r, &damaged, out, seed).number);
+    }
+}
+
+#[test]
+fn seeded_boards_are_written_as_the_second_solver_writes_them() {
+    let mut tally = Tally::default();
+    for seed in 80_000_000..80_008_000 {
+        let mut r = Random::new(seed);
+        let held = generate::small_scenario(&mut r);
+        try_whole_and_damaged(&mut r, &held, &mut tally, seed);
+    }
+    assert!(tally.calls() >= 150_000, "{} calls only", tally.calls());
+    tally.assert_each(&WRITER_CAUSES, 5_000);
+}
+
+#[test]
+fn the_shortest_and_the_longest_sides_are_written_in_every_lay() {
+    let mut tally = Tally::default();
+    scenarios_of_extreme_sides(81_000_000, |r, held, seed| try_whole_and_damaged(r, held, &mut tally, seed));
+    tally.assert_each(&WRITER_CAUSES, 100);
+}
+
+/// Whole, and wrong in its last entries.
+#[test]
+fn the_longest_file_is_written_to_its_end() {
+    let number = |change: &dyn Fn(&mut Board), out: usize| {
+        let mut held = generate::longest_scenario();
+        change(&mut held.board);
+        write_and_read(&mut Random::new(82_000_000), &held, out, 0).number
+    };
+    let length = 16 + 18 * 65_536;
+    assert_eq!(number(&|b| b.slow[65_535] = 4_096, length), 5);
+    assert_eq!(number(&|b| b.cells[65_535] = 65_534, length), 7);
+    assert_eq!(number(&|b| b.begins[65_535] = 1_000_001, length), 8);
+    assert_eq!(number(&|b| b.slow[65_535] = 0, length), 9);
+    assert_eq!([number(&|_| (), length - 1), number(&|_| (), length)], [14, 0]);
+}
+
+#[test]
+fn a_file_typed_by_hand_is_written() {
+    let (reply, out) = write_both(write, &typed::held(), &[0xEE; 60], 0);
+    assert_eq!((reply, &out[..52], &out[52..]), (Reply::accepted(52), &FILE[..], &[0xEE; 8][..]));
+    let mut late = typed::held();
+    late.board.begins[1] = 1_000_001;
+    assert_eq!(write_both(write, &late, &[0xEE; 60], 0), (Reply::refused(8), vec![0xEE; 60]));
+}
+
+#[test]
+fn a_list_of_every_length_is_written_or_refused_by_14() {
+    for length in 0..=60 {
+        let want = if length < 52 { Reply::refused(14) } else { Reply::accepted(52) };
+        assert_eq!(write_both(write, &typed::held(), &vec![0xEE; length], 0).0, want, "{} bytes", length);
+    }
+}
+
+/// All causes at once; each is taken away in turn.
+#[test]
+fn of_all_causes_the_lowest_number_is_given() {
+    let good = typed::held();
+    let mut held = Held { ticks: 65_536, ground: 4_096, board: Board { width: 257, ..good.board.clone() } };
+    held.board.slow.pop();
+    held.board.cells = vec![1, 6];
+    held.board.begins[1] = 1_000_001;
+    let repairs: [(u32, fn(&mut Held, &Held)); 7] = [
+        (2, |held, good| held.board.width = good.board.width),
+        (3, |held, good| held.ticks = good.ticks),
+        (4, |held, good| held.board.slow = good.board.slow.clone()),
+        (5, |held, good| held.ground = good.ground),
+        (7, |held, good| held.board.cells[1] = good.board.cells[1]),
+        (8, |held, good| held.board.begins[1] = good.board.begins[1]),
+        (9, |held, good| held.board.cells[0] = good.board.cells[0]),
+    ];
+    for (cause, repair) in repairs {
+        assert_eq!(write_both(write, &held, &[0; 51], 0).0, Reply::refused(cause));
+        repair(&mut held, &good);
+    }
+    assert_eq!(write_both(write, &held, &[0; 51], 0).0, Reply::refused(14));
+    assert_eq!(write_both(write, &held, &[0; 52], 0).0, Reply::accepted(52));
+}
+
+#[test]
+fn each_limit_passes_and_one_beyond_it_does_not() {
+    let number = |change: &dyn Fn(&mut Held)| {
+        let mut held = typed::held();
+        change(&mut held);
+        write_both(write, &held, &[0; 80], 0).0.number
+    };
+    for (ticks, want) in [(0, 3), (1, 0), (65_535, 0), (65_536, 3), (65_546, 3), (NEVER, 3)] {
+        assert_eq!(number(&|held| held.ticks = ticks), want, "{} ticks", ticks);
+    }
+    for (slowness, want) in [(0, 0), (4_095, 0), (4_096, 5), (65_546, 5), (NEVER, 5)] {
+        assert_eq!(number(&|held| held.ground = slowness), want, "ground {}", slowness);
+        assert_eq!(number(&|held| held.board.slow[4] = slowness), want, "slowness {}", slowness);
+    }
+    for (cell, want) in [(0, 7), (2, 9), (3, 0), (5, 0), (6, 7), (65_541, 7), (NEVER, 7)] {
+        assert_eq!(number(&|held| held.board.cells[1] = cell), want, "start cell {}", cell);
+    }
+    for (side, want) in [(3, 0), (0, 2), (257, 2), (65_539, 2), (NEVER, 2)] {
+        assert_eq!(number(&|held| held.board.width = side), want, "width {}", side);
+    }
+    assert_eq!(number(&|held| held.board.cells.truncate(1)), 4);
+    assert_eq!(number(&|held| held.board.begins.push(0)), 4);
+    assert_eq!(number(&|held| held.board.slow.push(10)), 4);
+}
