@@ -22,9 +22,9 @@ fn joined(count: usize, cells: [u32; 256], begins: [u32; 256]) -> Part
     ensures { λ r. ⌜ (r .count ≡ count) × (r .cells ≡ cells) × (r .begins ≡ begins) ⌝ }
 {
     Part {
-        count,
-        cells,
-        begins,
+        count: count,
+        cells: cells,
+        begins: begins,
     }
 }
 

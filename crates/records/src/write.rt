@@ -53,10 +53,7 @@ fn place_of(reply: Reply, starts: usize) -> usize
 fn count_of(reply: Reply, starts: usize) -> usize
     ensures { λ r. ⌜ r ≡ cond (eqb («reply» .number) 0) starts 0 ⌝ }
 {
-    if reply.number != 0 {
-        return 0;
-    }
-    starts
+    if reply.number == 0 { starts } else { 0 }
 }
 
 // Writes the one file that fits a board, its ticks per turn, ground and starts, and answers its length; later bytes stay.

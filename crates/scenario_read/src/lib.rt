@@ -60,12 +60,12 @@ fn fill_starts(file: &[u8], cells: &mut [u32], begins: &mut [u32])
 pub fn read_ground(file: &[u8], slow: &mut [u32], starts: usize) -> Scenario
     ensures { λ x. ⌜ (x ≡ reader-answer (reader-refusal (now (file .entry)) (length (now (slow .entry))) starts) (now (file .entry))) × (now (slow .exit) ≡ filled (x .number) (held (now (file .entry)) .slow) (now (slow .entry))) ⌝ }
 {
-    let answer = judge::judge_scenario(file, slow.len(), starts);
-    if answer.number != 0 {
-        return answer;
+    let judged = judge::judge_scenario(file, slow.len(), starts);
+    if judged.number != 0 {
+        return judged;
     }
     fill_slow(file, slow);
-    answer
+    judged
 }
 
 // Fills the slownesses and the starts that a file holds; later entries stay. The whole file is judged first: a refused

@@ -154,76 +154,39 @@ module _ {M : Type 1} (𝓤 : URA M) (H : Heap 𝓤) (A : Atoms 𝓤) (W : Given
       unfolding afterTurn
       more i ju l =
           qed W (Tested (i, ju)) ∵ exec ! C Λ En (after 3 mir.turn-1) (anyQ (Turned (i, ju))) $
-          move ! (3 ∷ []) $
-          use1 W (‵ OwnS ⊛ ‵ OwnS) (shr-slice-copy 𝓤 H A W (named 1) κ′ R .twice s (sv ∷ [])) $
-          split ! $
+          move ! (3 ∷ []) $ use1 W (‵ OwnS ⊛ ‵ OwnS) (shr-slice-copy 𝓤 H A W (named 1) κ′ R .twice s (sv ∷ [])) $ split ! $
           owned ! usize (Is usize) (uint-makes 𝓤 H A W w64) i (vint w64 i ∷ []) (refl, lt-of-le-of-lt (omega (arith, l)) (gs .0)) $
-          nothing ! $
-          move ! (1 ∷ 0 ∷ []) $
-          fjoin ! $
-          move ! (2 ∷ 0 ∷ []) $
-          fjoin ! $
-          nothing ! $
-          move ! (4 ∷ 0 ∷ []) $
-          join ! $
+          nothing ! $ move ! (1 ∷ 0 ∷ []) $ fjoin ! $ move ! (2 ∷ 0 ∷ []) $ fjoin ! $ nothing ! $ move ! (4 ∷ 0 ∷ []) $ join ! $
           use2 W (raw (Unpacks 𝓤 H A mem run .pre (((κ′, tt), (r, tt), tt, (s, (i, tt)), (sv ∷ [], (vint w64 i ∷ [], tt))), tt))) (passes-un s i sv (vint w64 i) (omega (arith, l))) $
           calls-at ! fm (Unpacks 𝓤 H A mem run) known-un (((κ′, tt), (r, tt), tt, (s, (i, tt)), (sv ∷ [], (vint w64 i ∷ [], tt))), tt) (and-then ! (load ! (from ! (stop !)) (look ! 15 refl)) (and-then ! (load ! (from ! (stop !)) (look ! 11 refl)) (no-more !))) (λ pu.
           use1 W (later (some (λ (p : Part). ((‵ (flft κ′ r) ⊛ ‵ ftrue) ⊛ ‵ (P.the-row .own p (pu ∷ []))) ⊛ raw (ensured 𝓤 H A un.ended (un.clauses 𝓤 H A mem run) (κ′, tt) (s, (i, tt)) tt p)))) (id⊢ 𝓤 _) $ await ! tt $ pick ! (λ p.
-          split ! $
-          move ! (1 ∷ []) $
+          split ! $ move ! (1 ∷ []) $
           use1 W (raw (fact 𝓤 (p ≡ part-of (part-at ys i)))) (exE 𝓤 _ (λ ws. snd∗ 𝓤 (sem 𝓤 H A (lasts un.ended (κ′, tt) (s, (i, tt)) ws)) (fact 𝓤 (p ≡ part-of (part-at ys i))))) $ heard ! (p ≡ part-of (part-at ys i)) (λ is-part.
-          split ! $
-          split ! $
-          move ! (1 ∷ []) $
-          toss ! $
-          move ! (1 ∷ []) $
-          peeks ! P.the-row (Is P.the-row) (shows 𝓤 H A P.the-row) p (pu ∷ []) (λ is.
-          land ! (from ! (stop !)) (init ! 6 refl (LL.lawful P.the-type P′.the-laws 𝓤 H A W .typed p _ is .0)) $
-          move ! (4 ∷ []) $
-          use1 W (‵ OwnW ⊛ ‵ OwnW) (shr-slice-copy 𝓤 H A W (named 0) κ u32 .twice w (wv ∷ [])) $
-          split ! $
-          nothing ! $
-          move ! (7 ∷ 0 ∷ []) $
-          fjoin ! $
-          move ! (3 ∷ 0 ∷ []) $
-          fjoin ! $
-          move ! (2 ∷ 0 ∷ []) $
-          fjoin ! $
-          nothing ! $
-          move ! (5 ∷ 0 ∷ []) $
-          join ! $
+          split ! $ split ! $ move ! (1 ∷ []) $ toss ! $ move ! (1 ∷ []) $ peeks ! P.the-row (Is P.the-row) (shows 𝓤 H A P.the-row) p (pu ∷ []) (λ is.
+          land ! (from ! (stop !)) (init ! 6 refl (LL.lawful P.the-type P′.the-laws 𝓤 H A W .typed p _ is .0)) $ move ! (4 ∷ []) $
+          use1 W (‵ OwnW ⊛ ‵ OwnW) (shr-slice-copy 𝓤 H A W (named 0) κ u32 .twice w (wv ∷ [])) $ split ! $ nothing ! $ move ! (7 ∷ 0 ∷ []) $
+          fjoin ! $ move ! (3 ∷ 0 ∷ []) $ fjoin ! $ move ! (2 ∷ 0 ∷ []) $ fjoin ! $ nothing ! $ move ! (5 ∷ 0 ∷ []) $ join ! $
           use2 W (raw (Judges 𝓤 H A mem run .pre (((κ, tt), (q, tt), tt, (w, (p, (S i, tt))), (wv ∷ [], (pu ∷ [], (ju ∷ [], tt)))), tt))) (passes-jp w p (S i) wv pu ju (part-room p ys i is-part)) $
           calls-at ! fm (Judges 𝓤 H A mem run) known-jp (((κ, tt), (q, tt), tt, (w, (p, (S i, tt))), (wv ∷ [], (pu ∷ [], (ju ∷ [], tt)))), tt) (and-then ! (load ! (from ! (stop !)) (look ! 16 refl)) (and-then ! (load ! (from ! (stop !)) (look ! 4 refl)) (and-then ! (load ! (from ! (stop !)) (look ! 12 refl)) (no-more !)))) (λ ju′.
           use1 W (later (some (λ (j : Judged). ((‵ (flft κ q) ⊛ ‵ ftrue) ⊛ ‵ (J.the-row .own j (ju′ ∷ []))) ⊛ raw (ensured 𝓤 H A jp.ended (jp.clauses 𝓤 H A mem run) (κ, tt) (w, (p, (S i, tt))) tt j)))) (id⊢ 𝓤 _) $ await ! tt $ pick ! (λ j.
-          split ! $
-          move ! (1 ∷ []) $
+          split ! $ move ! (1 ∷ []) $
           use1 W (raw (fact 𝓤 (j ≡ judge ss (starts-of (take (p .count) (p .cells)) (take (p .count) (p .begins))) (S i)))) (exE 𝓤 _ (λ ws. snd∗ 𝓤 (sem 𝓤 H A (lasts jp.ended (κ, tt) (w, (p, (S i, tt))) ws)) (fact 𝓤 (j ≡ judge ss (starts-of (take (p .count) (p .cells)) (take (p .count) (p .begins))) (S i))))) $ heard ! (j ≡ judge ss (starts-of (take (p .count) (p .cells)) (take (p .count) (p .begins))) (S i)) (λ is-judged.
-          split ! $
-          split ! $
-          move ! (1 ∷ []) $
-          toss ! $
-          move ! (1 ∷ []) $
-          peeks ! J.the-row (Is J.the-row) (shows 𝓤 H A J.the-row) j (ju′ ∷ []) (λ is′.
+          split ! $ split ! $ move ! (1 ∷ []) $ toss ! $ move ! (1 ∷ []) $ peeks ! J.the-row (Is J.the-row) (shows 𝓤 H A J.the-row) j (ju′ ∷ []) (λ is′.
           land ! (from ! (stop !)) (store ! 13 refl (LL.lawful J.the-type J′.the-laws 𝓤 H A W .typed j _ is′ .0)) $
           rewrite ! 0 (λ (k : Judged). ‵ (J.the-row .own k (ju′ ∷ []))) (is-judged ∙ judged-more ss ys i p is-part) refl $
           assigns-last ! (bin ! (load ! (from ! (stop !)) (look ! 11 refl)) (lit ! tt) (next-fits i l)) (from ! (stop !)) (store ! 11 refl (tt, next-fits i l)) $
-          forget ! 9 refl $ forget ! 7 refl $ forget ! 5 refl $
-          move ! (1 ∷ 3 ∷ 2 ∷ 4 ∷ []) $
-          again ! Fewer I (i, ju) (i + 256, ju′) (omega (arith, l))))))))))
+          forget ! 9 refl $ forget ! 7 refl $ forget ! 5 refl $ move ! (1 ∷ 3 ∷ 2 ∷ 4 ∷ []) $ again ! Fewer I (i, ju) (i + 256, ju′) (omega (arith, l))))))))))
 
       ends : (i : ℕ) (ju : Val) → n ≤ i → ent 𝓤 (⋆ 𝓤 H A (Tested (i, ju))) (Wp 𝓤 H C Λ En mir.t-4 (atReturn 𝓤 H En Post))
       ends i ju h =
           qed W (Tested (i, ju)) ∵ exec ! C Λ En mir.t-4 (atRet En Post) $
-          move ! (4 ∷ []) $
-          peeks ! J.the-row (Is J.the-row) (shows 𝓤 H A J.the-row) (S i) (ju ∷ []) (λ is.
+          move ! (4 ∷ []) $ peeks ! J.the-row (Is J.the-row) (shows 𝓤 H A J.the-row) (S i) (ju ∷ []) (λ is.
           assigns ! (of-opd ! (load ! (from ! (stop !)) (look ! 13 refl))) (from ! (stop !)) (init ! 19 refl (LL.lawful J.the-type J′.the-laws 𝓤 H A W .typed (S i) _ is .0)) $
           returns ! (look ! 19 refl) $
           forget ! 19 refl $ forget ! 17 refl $ forget ! 15 refl $ forget ! 13 refl $ forget ! 11 refl $ forget ! 9 refl $ forget ! 7 refl $
           move ! (19 ∷ 20 ∷ []) $ free1 ! $ move ! (17 ∷ 18 ∷ []) $ free1 ! $ move ! (15 ∷ 16 ∷ []) $ free1 ! $ move ! (13 ∷ 14 ∷ []) $ free1 ! $
           move ! (11 ∷ 12 ∷ []) $ free1 ! $ move ! (9 ∷ 10 ∷ []) $ free1 ! $ move ! (7 ∷ 8 ∷ []) $ free1 ! $ move ! (5 ∷ 6 ∷ []) $ free1 ! $
-          free0 ! $
-          keep ! (1 ∷ 2 ∷ 3 ∷ 4 ∷ 0 ∷ []) $
-          by ! (exits (S i) ju (judged-all ss ys i h)))
+          free0 ! $ keep ! (1 ∷ 2 ∷ 3 ∷ 4 ∷ 0 ∷ []) $ by ! (exits (S i) ju (judged-all ss ys i h)))
 
       turns : (t : At) → ent 𝓤 (⋆ 𝓤 H A (I t)) (Wp 𝓤 H C Λ En mir.turn-1 (Turned t))
       unfolding afterTurn
@@ -240,33 +203,17 @@ module _ {M : Type 1} (𝓤 : URA M) (H : Heap 𝓤) (A : Atoms 𝓤) (W : Given
     body : (l0 l1 l2 l3 l4 l5 l6 l7 : ℕ) → ent 𝓤 (⋆ 𝓤 H A (‵ (froom P′.mir l7 0) ∷ ‵ (fdies P′.mir l7) ∷ ‵ (froom tyBool l6 0) ∷ ‵ (fdies tyBool l6) ∷ ‵ (froom (tyInt w64) l5 0) ∷ ‵ (fdies (tyInt w64) l5) ∷ ‵ (froom (tyInt w64) l4 0) ∷ ‵ (fdies (tyInt w64) l4) ∷ ‵ (froom J′.mir l3 0) ∷ ‵ (fdies J′.mir l3) ∷ ‵ (fat fullShare s-ty l2 0 (sv)) ∷ ‵ (fdies s-ty l2) ∷ ‵ (fat fullShare w-ty l1 0 (wv)) ∷ ‵ (fdies w-ty l1) ∷ ‵ (froom J′.mir l0 0) ∷ ‵ (fdies J′.mir l0) ∷ (‵ (flft κ q) ⊛ ‵ (flft κ′ r) ⊛ ‵ ftrue) ∷ ‵ (owns (ShrSlice (named 0) κ u32 ∷ ShrSlice (named 1) κ′ R ∷ []) x at) ∷ [])) (Wp 𝓤 H (𝓣 .C) (𝓣 .Λ) (env-of (code.function .locals) (l0 ∷ l1 ∷ l2 ∷ l3 ∷ l4 ∷ l5 ∷ l6 ∷ l7 ∷ [])) mir.t-1 (atReturn 𝓤 H (env-of (code.function .locals) (l0 ∷ l1 ∷ l2 ∷ l3 ∷ l4 ∷ l5 ∷ l6 ∷ l7 ∷ [])) Post))
     body l0 l1 l2 l3 l4 l5 l6 l7 =
         qed W (‵ (froom P′.mir l7 0) ∷ ‵ (fdies P′.mir l7) ∷ ‵ (froom tyBool l6 0) ∷ ‵ (fdies tyBool l6) ∷ ‵ (froom (tyInt w64) l5 0) ∷ ‵ (fdies (tyInt w64) l5) ∷ ‵ (froom (tyInt w64) l4 0) ∷ ‵ (fdies (tyInt w64) l4) ∷ ‵ (froom J′.mir l3 0) ∷ ‵ (fdies J′.mir l3) ∷ ‵ (fat fullShare s-ty l2 0 (sv)) ∷ ‵ (fdies s-ty l2) ∷ ‵ (fat fullShare w-ty l1 0 (wv)) ∷ ‵ (fdies w-ty l1) ∷ ‵ (froom J′.mir l0 0) ∷ ‵ (fdies J′.mir l0) ∷ (‵ (flft κ q) ⊛ ‵ (flft κ′ r) ⊛ ‵ ftrue) ∷ ‵ (owns (ShrSlice (named 0) κ u32 ∷ ShrSlice (named 1) κ′ R ∷ []) x at) ∷ []) ∵ exec ! (𝓣 .C) (𝓣 .Λ) (env-of (code.function .locals) (l0 ∷ l1 ∷ l2 ∷ l3 ∷ l4 ∷ l5 ∷ l6 ∷ l7 ∷ [])) mir.t-1 (atRet (env-of (code.function .locals) (l0 ∷ l1 ∷ l2 ∷ l3 ∷ l4 ∷ l5 ∷ l6 ∷ l7 ∷ [])) Post) $
-        nothing ! $
-        nothing ! $
-        use2 W (raw (Begins 𝓤 H A mem run .pre ((tt, tt, tt, tt, tt), tt))) (passes-nj) $
+        nothing ! $ nothing ! $ use2 W (raw (Begins 𝓤 H A mem run .pre ((tt, tt, tt, tt, tt), tt))) (passes-nj) $
         calls-at ! fm (Begins 𝓤 H A mem run) known-nj ((tt, tt, tt, tt, tt), tt) (no-more !) (λ u.
         use1 W (later (some (λ (v : Judged). ((‵ ftrue) ⊛ ‵ (J.the-row .own v (u ∷ []))) ⊛ raw (ensured 𝓤 H A nj.ended (nj.clauses 𝓤 H A mem run) tt tt tt v)))) (id⊢ 𝓤 _) $ await ! tt $ pick ! (λ v.
-        split ! $
-        move ! (1 ∷ []) $
+        split ! $ move ! (1 ∷ []) $
         use1 W (raw (fact 𝓤 (v ≡ nothing-judged))) (exE 𝓤 _ (λ ws. snd∗ 𝓤 (sem 𝓤 H A (lasts nj.ended tt tt ws)) (fact 𝓤 (v ≡ nothing-judged)))) $ heard ! (v ≡ nothing-judged) (λ e.
-        split ! $
-        toss ! $
-        peeks ! J.the-row (Is J.the-row) (shows 𝓤 H A J.the-row) v (u ∷ []) (λ is.
+        split ! $ toss ! $ peeks ! J.the-row (Is J.the-row) (shows 𝓤 H A J.the-row) v (u ∷ []) (λ is.
         land ! (from ! (stop !)) (init ! 9 refl (LL.lawful J.the-type J′.the-laws 𝓤 H A W .typed v _ is .0)) $
         rewrite ! 0 (λ (j : Judged). ‵ (J.the-row .own j (u ∷ []))) (e ∙ judged-none ss ys) refl $
-        assigns ! (of-opd ! (lit ! tt)) (from ! (stop !)) (init ! 7 refl (tt, record { fits = lit< tt })) $
-        move ! (17 ∷ []) $
-        split ! $
-        move ! (1 ∷ []) $
-        split ! $
-        move ! (1 ∷ []) $
-        toss ! $
-        move ! (19 ∷ []) $
-        fsplit ! $
-        move ! (1 ∷ []) $
-        fsplit ! $
-        move ! (1 ∷ []) $
-        toss ! $
-        move ! (3 ∷ 2 ∷ 1 ∷ []) $
+        assigns ! (of-opd ! (lit ! tt)) (from ! (stop !)) (init ! 7 refl (tt, record { fits = lit< tt })) $ move ! (17 ∷ []) $
+        split ! $ move ! (1 ∷ []) $ split ! $ move ! (1 ∷ []) $ toss ! $ move ! (19 ∷ []) $ fsplit ! $ move ! (1 ∷ []) $
+        fsplit ! $ move ! (1 ∷ []) $ toss ! $ move ! (3 ∷ 2 ∷ 1 ∷ []) $
         first ! $ blocks ! $ by ! (around l0 l1 l2 l3 l4 l5 l6 l7 𝓣 fm known-un known-jp gs gw u)))))
 
     walk : ent 𝓤 (onEntry 𝓤 H A f.signature (κ, (κ′, tt)) (q, (r, tt)) x at) (WpFn 𝓤 H (𝓣 .C) (𝓣 .Λ) code.function (wv ∷ sv ∷ []) Post)

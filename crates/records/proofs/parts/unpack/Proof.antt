@@ -174,96 +174,66 @@ module _ {M : Type 1} (𝓤 : URA M) (H : Heap 𝓤) (A : Atoms 𝓤) (W : Given
           assigns ! (bin ! (load ! (from ! (stop !)) (look ! 38 refl)) (lit ! tt) (scaled-fits i 256 4 (under i l) (lit< tt))) (from ! (stop !)) (init ! 22 refl (tt, scaled-fits i 256 4 (under i l) (lit< tt))) $
           assigns ! (addr ! (from ! (stop !))) (from ! (stop !)) (init ! 20 refl (tt, tt)) $
           assigns ! (bin ! (load ! (from ! (stop !)) (look ! 20 refl)) (load ! (from ! (stop !)) (look ! 22 refl)) tt) (from ! (stop !)) (init ! 18 refl (tt, tt)) $
-          rewrite ! 18 (λ (m : ℕ). ‵ (fat fullShare tyPtr l16 0 (vptr l4 m))) (sym (place-is 4 0 i)) refl $
-          move ! (6 ∷ []) $
+          rewrite ! 18 (λ (m : ℕ). ‵ (fat fullShare tyPtr l16 0 (vptr l4 m))) (sym (place-is 4 0 i)) refl $ move ! (6 ∷ []) $
           elem-out ! u32 (Is u32) (shows 𝓤 H A u32) (uint-vals w32) (uint-tells w32) fullShare (cs i) i 0 l4 0 (held cell-of i l) (λ _.
           assigns ! (of-opd ! (load ! (from ! (stop !)) (look ! 26 refl))) (from ! (hop ! (look ! 20 refl) (stop !))) (store ! 0 refl (tt, record { fits = g0 .1 .1 .0 .1 })) $
-          move ! (1 ∷ []) $
-          toss ! $
+          move ! (1 ∷ []) $ toss ! $
           owned ! u32 (Is u32) (uint-makes 𝓤 H A W w32) ((cell-of) (getD ys (start + i) none)) _ (refl, g0 .1 .1 .0 .1) $
           move ! (1 ∷ 0 ∷ 2 ∷ []) $
           elem-put ! u32 fullShare (cs i) i ((cell-of) (getD ys (start + i) none)) (vint w32 ((cell-of) (getD ys (start + i) none)) ∷ []) l4 0 (held cell-of i l) $
           rewrite ! 0 (λ (t : List ℕ). ‵ (row u32 fullShare t l4 0)) (copied-next cell-of ys start i l) refl $
           assigns ! (bin ! (load ! (from ! (stop !)) (look ! 36 refl)) (lit ! tt) (scaled-fits (start + i) n 8 (inside i l) (gs .1))) (from ! (stop !)) (store ! 28 refl (tt, scaled-fits (start + i) n 8 (inside i l) (gs .1))) $
           assigns ! (bin ! (load ! (from ! (fld ! refl (stop !))) (look-in ! 46 (sub ! 0 refl (whole !)))) (load ! (from ! (stop !)) (look ! 28 refl)) tt) (from ! (stop !)) (init ! 16 refl (tt, tt)) $
-          rewrite ! 16 (λ (m : ℕ). ‵ (fat fullShare tyPtr l17 0 (vptr b m))) (sym (place-is 8 o (start + i))) refl $
-          move ! (1 ∷ []) $
+          rewrite ! 16 (λ (m : ℕ). ‵ (fat fullShare tyPtr l17 0 (vptr b m))) (sym (place-is 8 o (start + i))) refl $ move ! (1 ∷ []) $
           elem-out ! R (Is R) (shows 𝓤 H A R) (LL.vals T.the-type T′.the-laws) (LL.tells T.the-type T′.the-laws) s ys (start + i) none b o (inside i l) (λ g1.
           assigns ! (of-opd ! (load ! (from ! (hop ! (look ! 18 refl) (fld ! refl (stop !)))) (look-in ! 0 (sub ! 1 refl (whole !))))) (from ! (stop !)) (store ! 26 refl (tt, record { fits = g1 .1 .1 .1 .0 .1 })) $
           elem-back ! R s ys (start + i) none (LL.vals T.the-type T′.the-laws (getD ys (start + i) none)) b o (inside i l) $
           assigns ! (bin ! (load ! (from ! (stop !)) (look ! 38 refl)) (lit ! tt) (scaled-fits i 256 4 (under i l) (lit< tt))) (from ! (stop !)) (store ! 22 refl (tt, scaled-fits i 256 4 (under i l) (lit< tt))) $
           assigns ! (addr ! (from ! (stop !))) (from ! (stop !)) (init ! 14 refl (tt, tt)) $
           assigns ! (bin ! (load ! (from ! (stop !)) (look ! 14 refl)) (load ! (from ! (stop !)) (look ! 22 refl)) tt) (from ! (stop !)) (init ! 12 refl (tt, tt)) $
-          rewrite ! 12 (λ (m : ℕ). ‵ (fat fullShare tyPtr l19 0 (vptr l5 m))) (sym (place-is 4 0 i)) refl $
-          move ! (7 ∷ []) $
+          rewrite ! 12 (λ (m : ℕ). ‵ (fat fullShare tyPtr l19 0 (vptr l5 m))) (sym (place-is 4 0 i)) refl $ move ! (7 ∷ []) $
           elem-out ! u32 (Is u32) (shows 𝓤 H A u32) (uint-vals w32) (uint-tells w32) fullShare (ts i) i 0 l5 0 (held time-of i l) (λ _.
           assigns ! (of-opd ! (load ! (from ! (stop !)) (look ! 26 refl))) (from ! (hop ! (look ! 14 refl) (stop !))) (store ! 0 refl (tt, record { fits = g1 .1 .1 .1 .0 .1 })) $
-          move ! (1 ∷ []) $
-          toss ! $
+          move ! (1 ∷ []) $ toss ! $
           owned ! u32 (Is u32) (uint-makes 𝓤 H A W w32) ((time-of) (getD ys (start + i) none)) _ (refl, g1 .1 .1 .1 .0 .1) $
           move ! (1 ∷ 0 ∷ 2 ∷ []) $
           elem-put ! u32 fullShare (ts i) i ((time-of) (getD ys (start + i) none)) (vint w32 ((time-of) (getD ys (start + i) none)) ∷ []) l5 0 (held time-of i l) $
           rewrite ! 0 (λ (t : List ℕ). ‵ (row u32 fullShare t l5 0)) (copied-next time-of ys start i l) refl $
           assigns-last ! (bin ! (load ! (from ! (stop !)) (look ! 38 refl)) (lit ! tt) (next-fits i l)) (from ! (stop !)) (store ! 38 refl (tt, next-fits i l)) $
           forget ! 30 refl $ forget ! 36 refl $ forget ! 28 refl $ forget ! 26 refl $ forget ! 24 refl $ forget ! 22 refl $ forget ! 20 refl $ forget ! 18 refl $ forget ! 16 refl $ forget ! 14 refl $ forget ! 12 refl $
-          move ! (1 ∷ 3 ∷ 4 ∷ 5 ∷ 6 ∷ 7 ∷ 2 ∷ []) $
-          again ! Fewer I i (i + 1) (omega (arith, l))))))
+          move ! (1 ∷ 3 ∷ 4 ∷ 5 ∷ 6 ∷ 7 ∷ 2 ∷ []) $ again ! Fewer I i (i + 1) (omega (arith, l))))))
 
       -- the loop is left: the arrays are read whole, and the part is made
       ends : (i : ℕ) → k ≤ i → ent 𝓤 (⋆ 𝓤 H A (Tested i)) (Wp 𝓤 H C Λ En mir.t-8 (atReturn 𝓤 H En Post))
       ends i h =
           qed W (Tested i) ∵ exec ! C Λ En mir.t-8 (atRet En Post) $
           rewrite ! 6 (λ (t : List ℕ). ‵ (row u32 fullShare t l4 0)) (copied-all cell-of ys start i h) refl $
-          rewrite ! 7 (λ (t : List ℕ). ‵ (row u32 fullShare t l5 0)) (copied-all time-of ys start i h) refl $
-          move ! (6 ∷ []) $
+          rewrite ! 7 (λ (t : List ℕ). ‵ (row u32 fullShare t l5 0)) (copied-all time-of ys start i h) refl $ move ! (6 ∷ []) $
           use1 W (‵ (fat fullShare array-ty l4 0 (array-val cells)) ⊛ ‵ (A256 .own cells (array-val cells ∷ []))) (array-out 𝓤 H A W cells l4 (padded-long cell-of)) $
-          split ! $
-          move ! (1 ∷ []) $
-          peeks ! A256 (Is A256) (shows 𝓤 H A A256) cells (array-val cells ∷ []) (λ is4.
+          split ! $ move ! (1 ∷ []) $ peeks ! A256 (Is A256) (shows 𝓤 H A A256) cells (array-val cells ∷ []) (λ is4.
           assigns ! (of-opd ! (load ! (from ! (stop !)) (look ! 1 refl))) (from ! (stop !)) (init ! 11 refl (array-fits 𝓤 H A W cells (array-val cells) is4)) $
           move ! (8 ∷ []) $
           use1 W (‵ (fat fullShare array-ty l5 0 (array-val begins)) ⊛ ‵ (A256 .own begins (array-val begins ∷ []))) (array-out 𝓤 H A W begins l5 (padded-long time-of)) $
-          split ! $
-          move ! (1 ∷ []) $
-          peeks ! A256 (Is A256) (shows 𝓤 H A A256) begins (array-val begins ∷ []) (λ is5.
+          split ! $ move ! (1 ∷ []) $ peeks ! A256 (Is A256) (shows 𝓤 H A A256) begins (array-val begins ∷ []) (λ is5.
           assigns ! (of-opd ! (load ! (from ! (stop !)) (look ! 1 refl))) (from ! (stop !)) (init ! 10 refl (array-fits 𝓤 H A W begins (array-val begins) is5)) $
-          move ! (4 ∷ 5 ∷ []) $
-          shuts-slice ! tt R s ys b o $
+          move ! (4 ∷ 5 ∷ []) $ shuts-slice ! tt R s ys b o $
           -- the part is made
-          nothing ! $
-          move ! (2 ∷ 0 ∷ []) $
-          fjoin ! $
-          move ! (3 ∷ 0 ∷ []) $
-          fjoin ! $
-          owned ! usize (Is usize) (uint-makes 𝓤 H A W w64) k _ (refl, k-fits) $
-          fjoin ! $
-          nothing ! $
-          use2 W (raw (Joins 𝓤 H A mem run .pre to-join)) (goes-join) $
+          nothing ! $ move ! (2 ∷ 0 ∷ []) $ fjoin ! $ move ! (3 ∷ 0 ∷ []) $ fjoin ! $ owned ! usize (Is usize) (uint-makes 𝓤 H A W w64) k _ (refl, k-fits) $
+          fjoin ! $ nothing ! $ use2 W (raw (Joins 𝓤 H A mem run .pre to-join)) (goes-join) $
           calls-at ! fm (Joins 𝓤 H A mem run) known to-join (and-then ! (load ! (from ! (stop !)) (look ! 42 refl)) (and-then ! (load ! (from ! (stop !)) (look ! 10 refl)) (and-then ! (load ! (from ! (stop !)) (look ! 8 refl)) (no-more !)))) (λ u.
           use1 W (later (some (λ (p : Part). (‵ ftrue ⊛ ‵ (P.the-row .own p (u ∷ []))) ⊛ raw (ensured 𝓤 H A jn.ended (jn.clauses 𝓤 H A mem run) tt (k, (cells, (begins, tt))) tt p)))) (id⊢ 𝓤 _) $ await ! tt $ pick ! (λ p.
-          split ! $
-          move ! (1 ∷ []) $
+          split ! $ move ! (1 ∷ []) $
           use1 W (raw (fact 𝓤 (Joined p))) (exE 𝓤 _ (λ ws. snd∗ 𝓤 (sem 𝓤 H A (lasts jn.ended tt (k, (cells, (begins, tt))) ws)) (fact 𝓤 (Joined p)))) $ heard ! (Joined p) (λ is-part.
-          split ! $
-          toss ! $
-          peeks ! P.the-row (Is P.the-row) (shows 𝓤 H A P.the-row) p (u ∷ []) (λ is.
-          land ! (from ! (stop !)) (init ! 48 refl (LL.lawful P.the-type P′.the-laws 𝓤 H A W .typed p _ is .0)) $
-          returns ! (look ! 48 refl) $
+          split ! $ toss ! $ peeks ! P.the-row (Is P.the-row) (shows 𝓤 H A P.the-row) p (u ∷ []) (λ is.
+          land ! (from ! (stop !)) (init ! 48 refl (LL.lawful P.the-type P′.the-laws 𝓤 H A W .typed p _ is .0)) $ returns ! (look ! 48 refl) $
           forget ! 48 refl $ forget ! 46 refl $ forget ! 44 refl $ forget ! 42 refl $ forget ! 3 refl $ forget ! 2 refl $ forget ! 38 refl $ forget ! 30 refl $ forget ! 10 refl $ forget ! 8 refl $
           move ! (48 ∷ 49 ∷ []) $ free1 ! $ move ! (46 ∷ 47 ∷ []) $ free1 ! $ move ! (44 ∷ 45 ∷ []) $ free1 ! $ move ! (42 ∷ 43 ∷ []) $ free1 ! $
           move ! (3 ∷ 41 ∷ []) $ free1 ! $ move ! (2 ∷ 39 ∷ []) $ free1 ! $ move ! (36 ∷ 37 ∷ []) $ free1 ! $ move ! (34 ∷ 35 ∷ []) $ free1 ! $
           move ! (32 ∷ 33 ∷ []) $ free1 ! $ move ! (30 ∷ 31 ∷ []) $ free1 ! $ move ! (28 ∷ 29 ∷ []) $ free1 ! $ move ! (26 ∷ 27 ∷ []) $ free1 ! $
           move ! (24 ∷ 25 ∷ []) $ free1 ! $ move ! (22 ∷ 23 ∷ []) $ free1 ! $ move ! (20 ∷ 21 ∷ []) $ free1 ! $ move ! (18 ∷ 19 ∷ []) $ free1 ! $
           move ! (16 ∷ 17 ∷ []) $ free1 ! $ move ! (14 ∷ 15 ∷ []) $ free1 ! $ move ! (12 ∷ 13 ∷ []) $ free1 ! $ move ! (10 ∷ 11 ∷ []) $ free1 ! $
-          move ! (8 ∷ 9 ∷ []) $ free1 ! $ move ! (6 ∷ 7 ∷ []) $ free1 ! $ free0 ! $
-          move ! (3 ∷ 2 ∷ []) $
-          fjoin ! $
-          move ! (3 ∷ 0 ∷ []) $
-          fjoin ! $
-          move ! (3 ∷ []) $
-          fsplit ! $
-          keep ! (4 ∷ 2 ∷ 0 ∷ 3 ∷ []) $
-          by ! (exits p u (is-part-of p is-part))))))))
+          move ! (8 ∷ 9 ∷ []) $ free1 ! $ move ! (6 ∷ 7 ∷ []) $ free1 ! $ free0 ! $ move ! (3 ∷ 2 ∷ []) $ fjoin ! $ move ! (3 ∷ 0 ∷ []) $
+          fjoin ! $ move ! (3 ∷ []) $ fsplit ! $ keep ! (4 ∷ 2 ∷ 0 ∷ 3 ∷ []) $ by ! (exits p u (is-part-of p is-part))))))))
 
       turns : (i : ℕ) → ent 𝓤 (⋆ 𝓤 H A (I i)) (Wp 𝓤 H C Λ En mir.turn-1 (Turned i))
       unfolding afterTurn
@@ -284,42 +254,24 @@ module _ {M : Type 1} (𝓤 : URA M) (H : Heap 𝓤) (A : Atoms 𝓤) (W : Given
       assigns ! (of-opd ! (load ! (from ! (fld ! refl (stop !))) (look-in ! 40 (sub ! 1 refl (whole !))))) (from ! (stop !)) (init ! 26 refl (tt, record { fits = gs .0 })) $
       assigns ! (bin ! (load ! (from ! (stop !)) (look ! 26 refl)) (load ! (from ! (stop !)) (look ! 38 refl)) le) (from ! (stop !)) (init ! 24 refl (tt, record { fits = left })) $
       -- how many
-      nothing ! $
-      owned ! usize (Is usize) (uint-makes 𝓤 H A W w64) (n - start) _ (refl, left) $
-      fjoin ! $
-      nothing ! $
+      nothing ! $ owned ! usize (Is usize) (uint-makes 𝓤 H A W w64) (n - start) _ (refl, left) $ fjoin ! $ nothing ! $
       use2 W (raw (Limits 𝓤 H A mem run .pre to-limit)) (goes-limit) $
       calls-at ! fm (Limits 𝓤 H A mem run) known to-limit (and-then ! (load ! (from ! (stop !)) (look ! 25 refl)) (no-more !)) (λ u.
       use1 W (later (some (λ (v : ℕ). (‵ ftrue ⊛ ‵ (usize .own v (u ∷ []))) ⊛ raw (ensured 𝓤 H A lim.ended (lim.clauses 𝓤 H A mem run) tt (n - start, tt) tt v)))) (id⊢ 𝓤 _) $ await ! tt $ pick ! (λ v.
-      split ! $
-      move ! (1 ∷ []) $
+      split ! $ move ! (1 ∷ []) $
       use1 W (raw (fact 𝓤 (v ≡ k))) (exE 𝓤 _ (λ ws. snd∗ 𝓤 (sem 𝓤 H A (lasts lim.ended tt (n - start, tt) ws)) (fact 𝓤 (v ≡ k)))) $ heard ! (v ≡ k) (λ is-k.
-      split ! $
-      toss ! $
-      peeks ! usize (Is usize) (shows 𝓤 H A usize) v (u ∷ []) (λ is.
-      land ! (from ! (stop !)) (init ! 37 refl (uint-lawful 𝓤 H A W w64 .typed v _ is .0)) $
-      toss ! $
-      rewrite ! 36 (λ (m : Val). ‵ (fat fullShare (tyInt w64) l3 0 m)) (ap only (is .0) ∙ ap (vint w64) is-k) refl $
-      forget ! 26 refl $ forget ! 24 refl $
+      split ! $ toss ! $ peeks ! usize (Is usize) (shows 𝓤 H A usize) v (u ∷ []) (λ is.
+      land ! (from ! (stop !)) (init ! 37 refl (uint-lawful 𝓤 H A W w64 .typed v _ is .0)) $ toss ! $
+      rewrite ! 36 (λ (m : Val). ‵ (fat fullShare (tyInt w64) l3 0 m)) (ap only (is .0) ∙ ap (vint w64) is-k) refl $ forget ! 26 refl $ forget ! 24 refl $
       -- two arrays of zeros
-      assigns ! (rep ! 256 (lit ! tt)) (from ! (stop !)) (init ! 34 refl (zeros-typed 𝓤 H A W)) $
-      move ! (34 ∷ []) $
+      assigns ! (rep ! 256 (lit ! tt)) (from ! (stop !)) (init ! 34 refl (zeros-typed 𝓤 H A W)) $ move ! (34 ∷ []) $
       use1 W (‵ (row u32 fullShare zeros l4 0)) (zeros-in 𝓤 H A W l4) $
-      assigns ! (rep ! 256 (lit ! tt)) (from ! (stop !)) (init ! 33 refl (zeros-typed 𝓤 H A W)) $
-      move ! (33 ∷ []) $
+      assigns ! (rep ! 256 (lit ! tt)) (from ! (stop !)) (init ! 33 refl (zeros-typed 𝓤 H A W)) $ move ! (33 ∷ []) $
       use1 W (‵ (row u32 fullShare zeros l5 0)) (zeros-in 𝓤 H A W l5) $
       assigns ! (of-opd ! (lit ! tt)) (from ! (stop !)) (init ! 32 refl (tt, record { fits = lit< tt })) $
       -- the records are looked into
-      move ! (45 ∷ []) $
-      fsplit ! $
-      fsplit ! $
-      move ! (1 ∷ []) $
-      fsplit ! $
-      move ! (48 ∷ []) $
-      split ! $
-      move ! (1 ∷ []) $
-      toss ! $
-      move ! (2 ∷ 0 ∷ []) $
+      move ! (45 ∷ []) $ fsplit ! $ fsplit ! $ move ! (1 ∷ []) $ fsplit ! $ move ! (48 ∷ []) $ split ! $ move ! (1 ∷ []) $
+      toss ! $ move ! (2 ∷ 0 ∷ []) $
       looks-slice ! tt R (Is R) (shows 𝓤 H A R) (LL.vals T.the-type T′.the-laws) (LL.tells T.the-type T′.the-laws) ((LL.copy T.the-type T′.the-copy) 𝓤 H A W) ys b o (λ s.
       move ! (0 ∷ 1 ∷ 2 ∷ 3 ∷ 4 ∷ 5 ∷ 7 ∷ []) $
       first ! $ blocks ! $ by ! (around s l0 l1 l2 l3 l4 l5 l6 l7 l8 l9 l10 l11 l12 l13 l14 l15 l16 l17 l18 l19 l20 l21 𝓣 fm known′ gs gf le))))))
