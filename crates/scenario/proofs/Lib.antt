@@ -9,6 +9,7 @@ pub mod Reading
 pub mod Accepted
 pub mod Written
 pub mod Writing
+pub mod Beginning
 pub mod Composed
 pub mod Promises
 mod Example

@@ -42,14 +42,15 @@ room f n q x e z =
     let s = and-true (leb (size (held f)) n) (leb (start-count f) q) (met (room-good f n q) 13 0 (r .1) .0) in
     record { accepted = r .0; slows = leb-true (size (held f)) n (s .0); starts = leb-true (start-count f) q (s .1) }
 
-module _ (f slow cells begins : List ℕ) (x : Scenario) (q : ℕ) (shorter : q ≡ min (length cells) (length begins)) (e : x ≡ reader-answer (reader-refusal f (length slow) q) f) where
+module _ (f slow slow-now cells begins : List ℕ) (x : Scenario) (q : ℕ) (shorter : q ≡ min (length cells) (length begins)) (e : x ≡ reader-answer (reader-refusal f (length slow) q) f)
+    (holds : slow-now ≡ filled (x .number) (held f .slow) slow) where
   answer : x ≡ reader-answer (reader-refusal f (length slow) (min (length cells) (length begins))) f
   answer = e ∙ ap (λ u. reader-answer (reader-refusal f (length slow) u) f) shorter
 
-  pub reads-refused : (x .number ≡ 0 → ⊥) → Reads f slow slow cells cells begins begins x
-  reads-refused h = record { answers = answer; slow-holds = kept (x .number) _ slow h; cells-hold = kept (x .number) _ cells h; begins-hold = kept (x .number) _ begins h }
+  pub reads-refused : (x .number ≡ 0 → ⊥) → Reads f slow slow-now cells cells begins begins x
+  reads-refused h = record { answers = answer; slow-holds = holds; cells-hold = kept (x .number) _ cells h; begins-hold = kept (x .number) _ begins h }
 
-  pub reads-done : (slow-now cells-now begins-now : List ℕ) → x .number ≡ 0 → slow-now ≡ filled 0 (held f .slow) slow
+  pub reads-done : (cells-now begins-now : List ℕ) → x .number ≡ 0
       → cells-now ≡ filled 0 (map (λ s. s .cell) (starts-in f)) cells → begins-now ≡ filled 0 (map (λ s. s .time) (starts-in f)) begins
       → Reads f slow slow-now cells cells-now begins begins-now x
-  reads-done slow-now cells-now begins-now z s c b = record { answers = answer; slow-holds = rw z s; cells-hold = rw z c; begins-hold = rw z b }
+  reads-done cells-now begins-now z c b = record { answers = answer; slow-holds = holds; cells-hold = rw z c; begins-hold = rw z b }

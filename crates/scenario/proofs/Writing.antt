@@ -1,22 +1,20 @@
 -- The writer's call: what it has when a board is not refused, and what its answer and bytes come to. Assumes nothing.
 use mathlib.Core.Path.{_≡_, refl, sym, ap, _∙_}
 use mathlib.Core.Bool.{true, false, _&&_, cond}
-use mathlib.Core.List.{List, [], _∷_, _++_}
+use mathlib.Core.List.{List, [], _∷_}
 use Prim.Native.Nat.{ℕ, suc, _+_, _*_, _≤_, _<_}
 use native.Mathlib.Omega.{arith}
 use native.Mathlib.Decide.{ℕ-discrete}
 use lib.Dec.{ltb, eqb}
-use lib.ListN.{length, take}
-use lib.Seq.{take-all}
+use lib.ListN.{length}
 use borrow.Author.Tests.{eq-eqb, eqb-true, lt-ltb, le-ltb, ltb-false}
 use Rattle.eikonal.specs.Board.{size}
 use Rattle.eikonal.specs.Refusals.{or-else, side-good, any-above, starts-refusal, board-refusal, Plain, board, starts-of}
 use Rattle.eikonal.specs.Ledger.{answer}
 use Rattle.eikonal.specs.declared.Reply.{Reply}
 use Rattle.eikonal.proofs.Good.{and-true, or-false}
-use Rattle.scenario.specs.Bytes.{bytes-of}
 use Rattle.scenario.specs.Runs.{runs-of}
-use Rattle.scenario.specs.File.{run-bytes, start-bytes, head-bytes, file-of, sides-good, ticks-good}
+use Rattle.scenario.specs.File.{sides-good, ticks-good}
 use Rattle.scenario.specs.Calls.{filled, given-refusal, written, writer-refusal, Writes}
 use Rattle.scenario.proofs.GoodRuns.{runs-of-count}
 use Rattle.scenario.proofs.Causes.{met, passed, or-else-first, or-else-next, or-else-zero, size-most, sound, rise-count}
@@ -137,14 +135,3 @@ module _ (p : Plain) (t g : ℕ) (out : List ℕ) (n : ℕ) (e : n ≡ or-else (
     answers = q ∙ sym (answered-zero _ _ (refusal ∙ or-else-next n _ z ∙ rw (le-ltb (length out) (length (written p t g)) l) refl));
     leaves = h ∙ ap (λ u. filled u (written p t g) out) (sym (ap (λ u. u .number) q));
   }
-
--- ---- head, runs and starts, put one behind the other, are the file
-pub whole-file : (w h t g r : ℕ) (ss cs ts o1 o2 o3 : List ℕ) → r ≡ length (runs-of g ss) → length cs ≡ length ts → length o3 ≡ 16 + 10 * r + 8 * length cs
-    → take 16 o1 ≡ head-bytes w h t g r (length cs) → take (16 + 10 * length (runs-of g ss)) o2 ≡ take 16 o1 ++ bytes-of run-bytes (runs-of g ss)
-    → take (16 + 10 * r + 8 * length cs) o3 ≡ take (16 + 10 * r) o2 ++ bytes-of start-bytes (starts-of cs ts) → o3 ≡ file-of w h t g ss (starts-of cs ts)
-unfolding file-of
-whole-file w h t g r ss cs ts o1 o2 o3 e q l first second third =
-    sym (take-all (16 + 10 * r + 8 * length cs) o3 (omega arith)) ∙ third
-    ∙ ap (λ u. take (16 + 10 * u) o2 ++ bytes-of start-bytes (starts-of cs ts)) e
-    ∙ ap (λ u. u ++ bytes-of start-bytes (starts-of cs ts)) (second ∙ ap (λ u. u ++ bytes-of run-bytes (runs-of g ss)) first)
-    ∙ (λ i. head-bytes w h t g (e i) (sym (length-starts cs ts q) i) ++ bytes-of run-bytes (runs-of g ss) ++ bytes-of start-bytes (starts-of cs ts))

@@ -10,7 +10,7 @@ ghost use lib.ListN.{length, drop};
 ghost use Rattle.eikonal.specs.Board.{size};
 ghost use Rattle.scenario.specs.Bytes.{records};
 ghost use Rattle.scenario.specs.File.{held, start-in, start-count, starts-in, file-refusal};
-ghost use Rattle.scenario.specs.Calls.{filled, Reads};
+ghost use Rattle.scenario.specs.Calls.{filled, reader-refusal, reader-answer, Reads};
 use scenario::Scenario;
 use scenario::bytes::four_at;
 
@@ -55,6 +55,19 @@ fn fill_starts(file: &[u8], cells: &mut [u32], begins: &mut [u32])
     read_starts(file, base, &mut cells[..q], &mut begins[..q]);
 }
 
+// What the reader answers, where there is room for so many starts; the slownesses of an accepted file are filled in. A refused
+// one leaves the list as it was.
+pub fn read_ground(file: &[u8], slow: &mut [u32], starts: usize) -> Scenario
+    ensures { λ x. ⌜ (x ≡ reader-answer (reader-refusal (now (file .entry)) (length (now (slow .entry))) starts) (now (file .entry))) × (now (slow .exit) ≡ filled (x .number) (held (now (file .entry)) .slow) (now (slow .entry))) ⌝ }
+{
+    let judged = judge::judge_scenario(file, slow.len(), starts);
+    if judged.number != 0 {
+        return judged;
+    }
+    fill_slow(file, slow);
+    judged
+}
+
 // Fills the slownesses and the starts that a file holds; later entries stay. The whole file is judged first: a refused
 // one leaves the lists as they were.
 pub fn read_scenario(
@@ -65,11 +78,10 @@ pub fn read_scenario(
 ) -> Scenario
     ensures { λ x. ⌜ Reads (now (file .entry)) (now (slow .entry)) (now (slow .exit)) (now (cells .entry)) (now (cells .exit)) (now (begins .entry)) (now (begins .exit)) x ⌝ }
 {
-    let answer = judge::judge_scenario(file, slow.len(), shorter(cells.len(), begins.len()));
+    let answer = read_ground(file, slow, shorter(cells.len(), begins.len()));
     if answer.number != 0 {
         return answer;
     }
-    fill_slow(file, slow);
     fill_starts(file, cells, begins);
     answer
 }

@@ -1,11 +1,11 @@
 -- Starts written one behind the other from two lists. Assumes nothing.
-use mathlib.Core.Path.{_≡_, sym, ap, _∙_}
+use mathlib.Core.Path.{_≡_, sym, ap, ap₂, _∙_}
 use mathlib.Core.List.{List, [], _++_, append-assoc, append-nil}
 use Prim.Native.Nat.{ℕ, _+_, _*_, _≤_, _<_}
 use native.Mathlib.Omega.{arith}
 use native.Mathlib.Numerals.{add-one}
 use lib.ListN.{length, getD, take, drop, drop-of-length-le}
-use lib.Seq.{drop-cons}
+use lib.Seq.{drop-cons, take-all, drop-drop}
 use Rattle.eikonal.specs.Refusals.{starts-of}
 use Rattle.scenario.specs.Bytes.{four-bytes, bytes-of}
 use Rattle.scenario.specs.File.{start-bytes}
@@ -36,3 +36,8 @@ module _ (cs ts : List ℕ) (i : ℕ) where
 
 pub written-none : (cs ts out : List ℕ) (at : ℕ) → take (at + 8 * 0) out ++ bytes-after cs ts 0 ≡ take at out ++ bytes-of start-bytes (starts-of cs ts)
 written-none cs ts out at = ap (λ u. take u out ++ bytes-after cs ts 0) (let r : at + 8 * 0 ≡ at = omega arith in r)
+
+-- what is left of a part that was lent
+pub part-entered : (at k k′ m : ℕ) (out ys bs : List ℕ) → k′ ≡ k → m ≡ k → length ys ≡ k → take m ys ≡ bs → take at out ++ (ys ++ drop k′ (drop at out)) ≡ take at out ++ (bs ++ drop (at + k) out)
+part-entered at k k′ m out ys bs e f g h =
+    ap₂ (λ u v. take at out ++ (u ++ v)) (sym (take-all m ys (omega arith)) ∙ h) (ap (λ u. drop u (drop at out)) e ∙ drop-drop k at out)

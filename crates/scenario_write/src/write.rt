@@ -8,7 +8,8 @@ ghost use lib.ListN.{length, take, drop, getD};
 ghost use Rattle.eikonal.specs.Refusals.{starts-of};
 ghost use Rattle.scenario.specs.Bytes.{bytes-of};
 ghost use Rattle.scenario.specs.Runs.{closed, runs-on, runs-of};
-ghost use Rattle.scenario.specs.File.{run-bytes, start-bytes, head-bytes, file-of};
+ghost use Rattle.scenario.specs.File.{run-bytes, start-bytes, head-bytes};
+ghost use Rattle.scenario.specs.Inner.Begin.{front};
 use scenario::Run;
 use scenario::bytes::put_pair;
 use scenario::bytes::put_two;
@@ -107,7 +108,7 @@ pub fn write_head(
 }
 
 // The starts of a part of the lists, from a place on.
-pub fn write_starts(out: &mut [u8], at: usize, cells: &[u32], begins: &[u32])
+fn write_starts(out: &mut [u8], at: usize, cells: &[u32], begins: &[u32])
     requires { ⌜ (at + 8 * length (now cells) ≤ length (now out)) × (length (now cells) ≡ length (now begins)) ⌝ }
     ensures { λ r. ⌜ take (at + 8 * length (now (cells .entry))) (now (out .exit)) ≡ take at (now (out .entry)) ++ bytes-of start-bytes (starts-of (now (cells .entry)) (now (begins .entry))) ⌝ }
 {
@@ -118,8 +119,8 @@ pub fn write_starts(out: &mut [u8], at: usize, cells: &[u32], begins: &[u32])
     }
 }
 
-// A list as long as the file: the numbers in front, the runs, the starts.
-pub fn write_file(
+// A list that ends where the starts begin: the numbers in front, the runs.
+pub fn write_front(
     out: &mut [u8],
     width: u32,
     height: u32,
@@ -127,11 +128,10 @@ pub fn write_file(
     ground: u32,
     runs: usize,
     slow: &[u32],
-    cells: &[u32],
-    begins: &[u32],
+    starts: usize,
 )
-    requires { ⌜ (length (now out) ≡ 16 + 10 * runs + 8 * length (now cells)) × (runs ≡ length (runs-of ground (now slow))) × (length (now slow) ≤ 65536) × (length (now cells) ≤ 65536) × (length (now cells) ≡ length (now begins)) ⌝ }
-    ensures { λ r. ⌜ now (out .exit) ≡ file-of width height ticks ground (now (slow .entry)) (starts-of (now (cells .entry)) (now (begins .entry))) ⌝ }
+    requires { ⌜ (length (now out) ≡ 16 + 10 * runs) × (runs ≡ length (runs-of ground (now slow))) × (length (now slow) ≤ 65536) × (starts ≤ 65536) ⌝ }
+    ensures { λ r. ⌜ now (out .exit) ≡ front width height ticks ground (now (slow .entry)) starts ⌝ }
 {
     write_head(
         out,
@@ -140,8 +140,16 @@ pub fn write_file(
         ticks,
         ground,
         runs as u32,
-        cells.len() as u32,
+        starts as u32,
     );
     write_runs(out, slow, ground);
-    write_starts(out, 16 + 10 * runs, cells, begins);
+}
+
+// The starts of a part of the lists, from a place on; all other bytes stay.
+pub fn put_starts(out: &mut [u8], at: usize, cells: &[u32], begins: &[u32])
+    requires { ⌜ (at + 8 * length (now cells) ≤ length (now out)) × (length (now cells) ≡ length (now begins)) ⌝ }
+    ensures { λ r. ⌜ now (out .exit) ≡ take at (now (out .entry)) ++ (bytes-of start-bytes (starts-of (now (cells .entry)) (now (begins .entry))) ++ drop (at + 8 * length (now (cells .entry))) (now (out .entry))) ⌝ }
+{
+    let end = at + 8 * cells.len();
+    write_starts(&mut out[at..end], 0, cells, begins);
 }

@@ -9,33 +9,26 @@ use Rattle.scenario_read.proofs.read_scenario.Tie as tie
 shorter-requires : tie.Need-shorter-requires
 shorter-requires c κs = search needs
 
-judge-scenario-requires : tie.Need-judge-scenario-requires
-judge-scenario-requires c κs = search needs
-
-returns : tie.Need-returns
-returns c =
-    let j = c .before .before in
-    let a = j .before .before .before .before .before .before .args in
-    reads-refused (a .file .now) (a .slow .now) (a .cells .now) (a .begins .now) (j .judge-scenario .result) (j .before .shorter .result)
-    (j .before .shorter .ensures) (j .judge-scenario .ensures) (c .if1 .taken)
-
-fill-slow-requires : tie.Need-fill-slow-requires
-fill-slow-requires c κs =
-    let j = c .before .before .before in
-    let a = j .before .before .before .before .before .before .args in
-    let r = room (a .file .now) (length (a .slow .now)) (j .before .shorter .result) (j .judge-scenario .result) (j .judge-scenario .ensures) (c .before .if1 .left) in
-    (r .accepted, r .slows)
-
-fill-starts-requires : tie.Need-fill-starts-requires
-fill-starts-requires c κs =
-    let i = c .before .before .before .before .before .before in
-    let j = i .before .before in
-    let a = j .before .before .before .before .before .before .args in
-    let r = room (a .file .now) (length (a .slow .now)) (j .before .shorter .result) (j .judge-scenario .result) (j .judge-scenario .ensures) (i .if1 .left) in
-    (r .accepted, omega (arith, r .starts, j .before .shorter .ensures), omega (arith, r .starts, j .before .shorter .ensures))
+read-ground-requires : tie.Need-read-ground-requires
+read-ground-requires c κs = search needs
 
 same-length : tie.Need-same-length
 same-length c = search needs
+
+returns : tie.Need-returns
+returns c =
+    let g = c .before .before .before .before in
+    let a = g .before .before .before .before .before .before .before .args in
+    reads-refused (a .file .now) (a .slow .now) (g .read-ground .last .1 .0) (a .cells .now) (a .begins .now) (g .read-ground .result) (g .before .shorter .result)
+    (g .before .shorter .ensures) (g .read-ground .ensures .0) (g .read-ground .ensures .1) (c .if1 .taken)
+
+fill-starts-requires : tie.Need-fill-starts-requires
+fill-starts-requires c κs =
+    let i = c .before .before in
+    let g = i .before .before .before .before in
+    let a = g .before .before .before .before .before .before .before .args in
+    let r = room (a .file .now) (length (a .slow .now)) (g .before .shorter .result) (g .read-ground .result) (g .read-ground .ensures .0) (i .if1 .left) in
+    (r .accepted, omega (arith, r .starts, g .before .shorter .ensures), omega (arith, r .starts, g .before .shorter .ensures))
 
 same-length-2 : tie.Need-same-length-2
 same-length-2 c = search needs
@@ -43,27 +36,28 @@ same-length-2 c = search needs
 same-length-3 : tie.Need-same-length-3
 same-length-3 c = search needs
 
+same-length-4 : tie.Need-same-length-4
+same-length-4 c = search needs
+
 returns-2 : tie.Need-returns-2
 returns-2 c =
     let s = c .before .before .before .before in
-    let l = s .before .before .before .before .before in
-    let i = l .before .before in
-    let j = i .before .before in
-    let a = j .before .before .before .before .before .before .args in
-    reads-done (a .file .now) (a .slow .now) (a .cells .now) (a .begins .now) (j .judge-scenario .result) (j .before .shorter .result)
-    (j .before .shorter .ensures) (j .judge-scenario .ensures) (l .fill-slow .last .1 .0) (s .fill-starts .last .1 .0) (s .fill-starts .last .1 .1 .0)
-    (i .if1 .left) (l .fill-slow .ensures) (s .fill-starts .ensures .0) (s .fill-starts .ensures .1)
+    let i = s .before .before .before in
+    let g = i .before .before .before .before in
+    let a = g .before .before .before .before .before .before .before .args in
+    reads-done (a .file .now) (a .slow .now) (g .read-ground .last .1 .0) (a .cells .now) (a .begins .now) (g .read-ground .result) (g .before .shorter .result)
+    (g .before .shorter .ensures) (g .read-ground .ensures .0) (g .read-ground .ensures .1) (s .fill-starts .last .1 .0) (s .fill-starts .last .1 .1 .0) (i .if1 .left) (s .fill-starts .ensures .0) (s .fill-starts .ensures .1)
 
 pub read-scenario-spec : {M : Type 1} → statement M
 read-scenario-spec =
     tie.close
     (tie.spec
     shorter-requires
-    judge-scenario-requires
-    returns
-    fill-slow-requires
-    fill-starts-requires
+    read-ground-requires
     same-length
+    returns
+    fill-starts-requires
     same-length-2
     same-length-3
+    same-length-4
     returns-2)

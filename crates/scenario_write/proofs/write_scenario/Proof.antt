@@ -1,130 +1,94 @@
 -- `scenario_write::write_scenario` meets its contract. Assumes nothing.
-use mathlib.Core.Path.{_≡_, sym}
-use Prim.Native.Nat.{_+_, _*_, _<_}
+use mathlib.Core.Path.{_≡_, sym, ap, _∙_}
+use Prim.Native.Nat.{_-_, _*_}
 use native.Mathlib.Omega.{arith}
-use lib.ListN.{length, take}
-use lib.Seq.{length-take-le}
+use lib.ListN.{length}
 use borrow.Author.Needs.{needs}
-use Rattle.eikonal.specs.Entry.{plain}
-use Rattle.eikonal.specs.Ledger.{answer}
-use Rattle.scenario.specs.Calls.{written}
-use Rattle.scenario.proofs.Answers.{part-entered}
-use Rattle.scenario.proofs.Writing.{Taken, taken, slow-most, cells-most, written-length, written-most, writes-refused, writes-short, writes-done}
+use Rattle.eikonal.specs.Refusals.{starts-of}
+use Rattle.eikonal.specs.Inner.Judge.{judge, nothing-judged}
+use Rattle.scenario.proofs.Beginning.{judged-most, writes-none, Awaits, awaits, writes-all}
 use Rattle.scenario_write.proofs.write_scenario.Statement.{statement}
 use Rattle.scenario_write.proofs.write_scenario.Tie as tie
 
-board-refusal-requires : tie.Need-board-refusal-requires
-board-refusal-requires c κs = search needs
+nothing-judged-requires : tie.Need-nothing-judged-requires
+nothing-judged-requires c κs = search needs
 
-refused-requires : tie.Need-refused-requires
-refused-requires c κs = search needs
+judge-starts-requires : tie.Need-judge-starts-requires
+judge-starts-requires c κs = search needs
 
-returns : tie.Need-returns
-returns c =
-    let b = c .before .before in
-    let a = b .before .before .before .before .before .args in
-    writes-refused (plain (a .width) (a .height) (a .slow .now) (a .cells .now) (a .begins .now)) (a .ticks) (a .ground) (a .out .now)
-    (b .board-refusal .result) (b .board-refusal .ensures) (c .refused .result) (c .before .if1 .taken) (c .refused .ensures)
+-- what the starts were judged to
+judged : (c : tie.After-judge-starts) → let a = c .before .before .before .before .before .before .args in
+    c .judge-starts .result ≡ judge (a .slow .now) (starts-of (a .cells .now) (a .begins .now)) nothing-judged
+judged c =
+    let a = c .before .before .before .before .before .before .args in
+    c .judge-starts .ensures ∙ ap (judge (a .slow .now) (starts-of (a .cells .now) (a .begins .now))) (c .before .nothing-judged .ensures)
 
-count-runs-requires : tie.Need-count-runs-requires
-count-runs-requires c κs = search needs
-
--- the board is not refused
-good : (c : tie.Else1) → let a = c .before .before .before .before .before .before .args in
-    Taken (plain (a .width) (a .height) (a .slow .now) (a .cells .now) (a .begins .now)) (a .ticks) (a .ground)
-good c =
-    let b = c .before in
-    let a = b .before .before .before .before .before .args in
-    taken (plain (a .width) (a .height) (a .slow .now) (a .cells .now) (a .begins .now)) (a .ticks) (a .ground) (b .board-refusal .result) (b .board-refusal .ensures) (c .if1 .left)
-
--- the length of its file
-need : (c : tie.After-count-runs) → let a = c .before .before .before .before .before .before .before .args in
-    16 + 10 * c .count-runs .result + 8 * length (a .cells .now) ≡ length (written (plain (a .width) (a .height) (a .slow .now) (a .cells .now) (a .begins .now)) (a .ticks) (a .ground))
-unfolding plain
-need c = omega (arith, written-length (good (c .before)), c .count-runs .ensures)
-
-fits : (c : tie.After-count-runs) → 16 + 10 * c .count-runs .result + 8 * length (c .before .before .before .before .before .before .before .args .cells .now) < 4294967296
-fits c = omega (arith, need c, written-most (good (c .before)))
-
-mul-need : tie.Need-mul-need
-mul-need c = omega (arith, fits c)
-
-add-need : tie.Need-add-need
-add-need c = omega (arith, fits c)
-
-mul-need-2 : tie.Need-mul-need-2
-mul-need-2 c = omega (arith, fits c)
-
-add-need-2 : tie.Need-add-need-2
-add-need-2 c = omega (arith, fits c)
-
-refused-requires-2 : tie.Need-refused-requires-2
-refused-requires-2 c κs = search needs
-
-returns-2 : tie.Need-returns-2
-returns-2 c =
-    let r = c .before .before in
-    let i = r .before in
-    let b = i .before in
-    let a = b .before .before .before .before .before .args in
-    writes-short (plain (a .width) (a .height) (a .slow .now) (a .cells .now) (a .begins .now)) (a .ticks) (a .ground) (a .out .now)
-    (b .board-refusal .result) (b .board-refusal .ensures) (c .refused2 .result) (i .if1 .left) (omega (arith, need r, c .before .if2 .taken)) (c .refused2 .ensures)
-
-slice-relend-prefix-write-file : tie.Need-slice-relend-prefix-write-file
-slice-relend-prefix-write-file c = search needs
-
--- the part that is lent on
-part : (c : tie.Else2) → let n = 16 + 10 * c .before .count-runs .result + 8 * length (c .before .before .before .before .before .before .before .before .args .cells .now) in
-    length (take n (c .before .before .before .before .before .before .before .before .args .out .now)) ≡ n
-part c = length-take-le _ (c .before .before .before .before .before .before .before .before .args .out .now) (c .if2 .left)
-
-slice-aggregate-write-file : tie.Need-slice-aggregate-write-file
-slice-aggregate-write-file c = sym (part (c .before))
-
-write-file-requires : tie.Need-write-file-requires
-unfolding plain
-write-file-requires c κs =
-    let r = c .before .before in
-    let g = good (r .before) in
-    (part (c .before), r .count-runs .ensures, slow-most g, cells-most g, g .pairs)
-
-cast-t20 : tie.Need-cast-t20
-cast-t20 c = omega (arith, fits (c .before .before .before .before .before))
+begin-file-requires : tie.Need-begin-file-requires
+begin-file-requires c κs z e =
+    let j = c .before in
+    let a = j .before .before .before .before .before .before .args in
+    judged-most (a .slow .now) (a .cells .now) (a .begins .now) (ap (λ u. u .number) (sym (judged j)) ∙ z) e
 
 same-length : tie.Need-same-length
 same-length c = search needs
 
-returns-3 : tie.Need-returns-3
-unfolding written plain answer
-returns-3 c =
-    let f = c .before .before in
-    let s = f .before .before in
-    let r = s .before in
-    let i = r .before in
-    let b = i .before in
-    let a = b .before .before .before .before .before .args in
-    let p = plain (a .width) (a .height) (a .slow .now) (a .cells .now) (a .begins .now) in
-    writes-done p (a .ticks) (a .ground) (a .out .now) (b .board-refusal .result) (b .board-refusal .ensures) _ (i .if1 .left) (omega (arith, need r, s .if2 .left))
-    (λ k. record { number = 0; count = need r k }) _
-    (part-entered _ (f .write-file .last .0) (written p (a .ticks) (a .ground)) (a .out .now) (f .write-file .ensures) (sym (need r)))
+returns : tie.Need-returns
+returns c =
+    let b = c .before .before .before .before in
+    let j = b .before .before in
+    let a = j .before .before .before .before .before .before .args in
+    writes-none (a .width) (a .height) (a .ticks) (a .ground) (a .slow .now) (a .cells .now) (a .begins .now) (j .judge-starts .result) (judged j)
+    (a .out .now) (b .begin-file .last .1 .1 .1 .1 .1 .1 .1 .1 .0) (b .begin-file .result) (b .begin-file .ensures) (c .if1 .taken)
+
+-- the call is accepted, and the starts are still to be written
+waits : (c : tie.Else1) → let b = c .before .before .before .before in
+    let a = b .before .before .before .before .before .before .before .before .args in
+    Awaits (a .ground) (a .slow .now) (a .cells .now) (a .begins .now) (a .out .now) (b .begin-file .last .1 .1 .1 .1 .1 .1 .1 .1 .0) (b .begin-file .result)
+waits c =
+    let b = c .before .before .before .before in
+    let j = b .before .before in
+    let a = j .before .before .before .before .before .before .args in
+    awaits (a .width) (a .height) (a .ticks) (a .ground) (a .slow .now) (a .cells .now) (a .begins .now) (j .judge-starts .result) (judged j)
+    (a .out .now) (b .begin-file .last .1 .1 .1 .1 .1 .1 .1 .1 .0) (b .begin-file .result) (b .begin-file .ensures) (c .if1 .left)
+
+cast-at : tie.Need-cast-at
+cast-at c = search needs
+
+mul-at : tie.Need-mul-at
+mul-at c = search needs
+
+sub-at : tie.Need-sub-at
+sub-at c = omega (arith, waits (c .before) .count)
+
+put-starts-requires : tie.Need-put-starts-requires
+put-starts-requires c κs = let w = waits (c .before .before) in (omega (arith, w .count, w .fits, w .long), w .pairs)
+
+same-length-2 : tie.Need-same-length-2
+same-length-2 c = search needs
+
+returns-2 : tie.Need-returns-2
+returns-2 c =
+    let w = c .before .before in
+    let i = w .before .before .before in
+    let b = i .before .before .before .before in
+    let j = b .before .before in
+    let a = j .before .before .before .before .before .before .args in
+    writes-all (a .width) (a .height) (a .ticks) (a .ground) (a .slow .now) (a .cells .now) (a .begins .now) (j .judge-starts .result) (judged j)
+    (a .out .now) (b .begin-file .last .1 .1 .1 .1 .1 .1 .1 .1 .0) (b .begin-file .result) (b .begin-file .ensures) (i .if1 .left)
+    (b .begin-file .result .count - 8 * length (a .cells .now)) (w .put-starts .last .0) (omega (arith, waits i .count)) (w .put-starts .ensures)
 
 pub write-scenario-spec : {M : Type 1} → statement M
 write-scenario-spec =
     tie.close
     (tie.spec
-    board-refusal-requires
-    refused-requires
-    returns
-    count-runs-requires
-    mul-need
-    add-need
-    mul-need-2
-    add-need-2
-    refused-requires-2
-    returns-2
-    slice-relend-prefix-write-file
-    slice-aggregate-write-file
-    write-file-requires
-    cast-t20
+    nothing-judged-requires
+    judge-starts-requires
+    begin-file-requires
     same-length
-    returns-3)
+    returns
+    cast-at
+    mul-at
+    sub-at
+    put-starts-requires
+    same-length-2
+    returns-2)

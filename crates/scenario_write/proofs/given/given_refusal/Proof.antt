@@ -23,14 +23,14 @@ sides-good-requires c κs = search needs
 -- each way out has passed the tests in front of its own
 returns : tie.Need-returns
 unfolding given-refusal plain
-returns c = rw (fails (c .before .sides-good .ensures) (c .if1 .taken))
+returns c cs ts p q = rw (fails (c .before .sides-good .ensures) (c .if1 .taken))
 
 ticks-good-requires : tie.Need-ticks-good-requires
 ticks-good-requires c κs = search needs
 
 returns-2 : tie.Need-returns-2
 unfolding given-refusal plain
-returns-2 c =
+returns-2 c cs ts p q =
     let s = c .before .before in
     rw (holds (s .before .sides-good .ensures) (s .if1 .left), fails (c .before .ticks-good .ensures) (c .if2 .taken))
 
@@ -45,14 +45,14 @@ mul-if3 : tie.Need-mul-if3
 unfolding sides-good
 mul-if3 c =
     let s = c .before .before .before .before in
-    let a = s .before .before .before .before .before .args in
+    let a = s .before .before .before .args in
     let sides = and-true (side-good (a .width)) (side-good (a .height)) (holds (s .before .sides-good .ensures) (s .if1 .left)) in
     let w : c .before .wide .result ≤ 256 = omega (arith, c .before .wide .ensures, side-most (a .width) (sides .0)) in
     let h : c .wide2 .result ≤ 256 = omega (arith, c .wide2 .ensures, side-most (a .height) (sides .1)) in
     record { fits = omega (arith, mul-le-mul w h) }
 
 -- sides and ticks are good, and the product is the number of cells
-front : (c : tie.After-wide2) → let a = c .before .before .before .before .before .before .before .before .before .args in
+front : (c : tie.After-wide2) → let a = c .before .before .before .before .before .before .before .args in
     (sides-good (a .width) (a .height) ≡ true) × (ticks-good (a .ticks) ≡ true) × (c .before .wide .result * c .wide2 .result ≡ a .width * a .height)
 front c =
     let t = c .before .before in
@@ -61,58 +61,51 @@ front c =
 
 returns-3 : tie.Need-returns-3
 unfolding given-refusal plain
-returns-3 c =
+returns-3 c cs ts p q =
     let f = front (c .before) in
-    let a = c .before .before .before .before .before .before .before .before .before .before .args in
-    rw (f .0, f .1, ne-eqb (length (a .slow .now)) (a .width * a .height) (λ q. c .if3 .taken (q ∙ sym (f .2))))
+    let a = c .before .before .before .before .before .before .before .before .args in
+    rw (f .0, f .1, ne-eqb (length (a .slow .now)) (a .width * a .height) (λ e. c .if3 .taken (e ∙ sym (f .2))))
+
+-- the slownesses are as many as cells
+cells-good : (c : tie.Else3) → let a = c .before .before .before .before .before .before .before .before .args in eqb (length (a .slow .now)) (a .width * a .height) ≡ true
+cells-good c =
+    let a = c .before .before .before .before .before .before .before .before .args in
+    eq-eqb (length (a .slow .now)) (a .width * a .height) (c .if3 .left ∙ front (c .before) .2)
 
 returns-4 : tie.Need-returns-4
 unfolding given-refusal plain
-returns-4 c =
-    let s = c .before in
-    let f = front (s .before) in
-    let a = s .before .before .before .before .before .before .before .before .before .before .args in
-    rw (f .0, f .1, eq-eqb (length (a .slow .now)) (a .width * a .height) (s .if3 .left ∙ f .2), ne-eqb (length (a .cells .now)) (length (a .begins .now)) (c .if4 .taken))
-
--- all lengths are right
-lengths : (c : tie.Else4) → let a = c .before .before .before .before .before .before .before .before .before .before .before .args in
-    (eqb (length (a .slow .now)) (a .width * a .height) ≡ true) × (eqb (length (a .cells .now)) (length (a .begins .now)) ≡ true)
-lengths c =
-    let s = c .before in
-    let a = s .before .before .before .before .before .before .before .before .before .before .args in
-    (eq-eqb (length (a .slow .now)) (a .width * a .height) (s .if3 .left ∙ front (s .before) .2), eq-eqb (length (a .cells .now)) (length (a .begins .now)) (c .if4 .left))
+returns-4 c cs ts p q =
+    let f = front (c .before .before) in
+    rw (f .0, f .1, cells-good (c .before), ne-eqb (length cs) (length ts) (λ e. c .if4 .taken (sym p ∙ e ∙ q)))
 
 returns-5 : tie.Need-returns-5
 unfolding given-refusal plain any-above
-returns-5 c =
-    let p = c .before in
-    let f = front (p .before .before) in
-    let l = lengths p in
-    let a = p .before .before .before .before .before .before .before .before .before .before .before .args in
-    rw (f .0, f .1, l .0, l .1, lt-ltb 4095 (a .ground) (c .if5 .taken))
+returns-5 c cs ts p q =
+    let l = c .before in
+    let f = front (l .before .before) in
+    let a = l .before .before .before .before .before .before .before .before .before .args in
+    rw (f .0, f .1, cells-good (l .before), eq-eqb (length cs) (length ts) (p ∙ l .if4 .left ∙ sym q), lt-ltb 4095 (a .ground) (c .if5 .taken))
 
 any-above-requires : tie.Need-any-above-requires
 any-above-requires c κs = search needs
 
 returns-6 : tie.Need-returns-6
 unfolding given-refusal plain any-above
-returns-6 c =
+returns-6 c cs ts p q =
     let g = c .before .before in
-    let p = g .before in
-    let f = front (p .before .before) in
-    let l = lengths p in
-    let a = p .before .before .before .before .before .before .before .before .before .before .before .args in
-    rw (f .0, f .1, l .0, l .1, le-ltb 4095 (a .ground) (g .if5 .left), sym (c .before .any-above .ensures) ∙ c .if6 .taken)
+    let l = g .before in
+    let f = front (l .before .before) in
+    let a = l .before .before .before .before .before .before .before .before .before .args in
+    rw (f .0, f .1, cells-good (l .before), eq-eqb (length cs) (length ts) (p ∙ l .if4 .left ∙ sym q), le-ltb 4095 (a .ground) (g .if5 .left), sym (c .before .any-above .ensures) ∙ c .if6 .taken)
 
 returns-7 : tie.Need-returns-7
 unfolding given-refusal plain any-above
-returns-7 c =
+returns-7 c cs ts p q =
     let g = c .before .before in
-    let p = g .before in
-    let f = front (p .before .before) in
-    let l = lengths p in
-    let a = p .before .before .before .before .before .before .before .before .before .before .before .args in
-    rw (f .0, f .1, l .0, l .1, le-ltb 4095 (a .ground) (g .if5 .left), sym (c .before .any-above .ensures) ∙ c .if6 .left)
+    let l = g .before in
+    let f = front (l .before .before) in
+    let a = l .before .before .before .before .before .before .before .before .before .args in
+    rw (f .0, f .1, cells-good (l .before), eq-eqb (length cs) (length ts) (p ∙ l .if4 .left ∙ sym q), le-ltb 4095 (a .ground) (g .if5 .left), sym (c .before .any-above .ensures) ∙ c .if6 .left)
 
 pub given-refusal-spec : {M : Type 1} → statement M
 given-refusal-spec =

@@ -1,0 +1,34 @@
+-- `scenario_read::read_ground` meets its contract. Assumes nothing.
+use lib.ListN.{length}
+use borrow.Author.Needs.{needs}
+use Rattle.scenario.proofs.Answers.{kept}
+use Rattle.scenario.proofs.Reading.{room}
+use Rattle.scenario_read.proofs.read_ground.Statement.{statement}
+use Rattle.scenario_read.proofs.read_ground.Tie as tie
+
+judge-scenario-requires : tie.Need-judge-scenario-requires
+judge-scenario-requires c κs = search needs
+
+returns : tie.Need-returns
+returns c =
+    let j = c .before .before in
+    (j .judge-scenario .ensures, kept (j .judge-scenario .result .number) _ (j .before .before .before .args .slow .now) (c .if1 .taken))
+
+fill-slow-requires : tie.Need-fill-slow-requires
+fill-slow-requires c κs =
+    let j = c .before .before .before in
+    let a = j .before .before .before .args in
+    let r = room (a .file .now) (length (a .slow .now)) (a .starts) (j .judge-scenario .result) (j .judge-scenario .ensures) (c .before .if1 .left) in
+    (r .accepted, r .slows)
+
+same-length : tie.Need-same-length
+same-length c = search needs
+
+returns-2 : tie.Need-returns-2
+returns-2 c =
+    let l = c .before .before in
+    let i = l .before .before in
+    (i .before .before .judge-scenario .ensures, rw (i .if1 .left) (l .fill-slow .ensures))
+
+pub read-ground-spec : {M : Type 1} → statement M
+read-ground-spec = tie.close (tie.spec judge-scenario-requires returns fill-slow-requires same-length returns-2)
