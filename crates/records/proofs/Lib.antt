@@ -1,0 +1,6 @@
+pub mod Walk
+pub mod Filled
+pub mod Split
+pub mod Judging
+pub mod Again
+pub mod Writing

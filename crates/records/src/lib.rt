@@ -1,0 +1,11 @@
+// Start records: the calls whose starts are a lent slice of structs.
+pub mod judge;
+pub mod write;
+pub mod parts;
+
+// A start: a cell and a time.
+#[repr(C)]
+pub struct Start {
+    pub cell: u32,
+    pub time: u32,
+}
