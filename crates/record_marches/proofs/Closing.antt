@@ -30,11 +30,11 @@ records-number w h slow ys j k e q = rw (starts-last w h slow (cells-of ys) (beg
 closed : (k : ℕ) (Goes : ℕ → Type 0) (Says : Reply → (times' work work' : List ℕ) → Type 0) (x : Reply) (ts us v v' u : List ℕ) → (k ≢ 0 → v' ≡ v) → Ends k Goes x ts us v' u
     → ((y : Reply) → k ≢ 0 → y ≡ answer k 0 → Says y ts v v) → (k ≡ 0 → (r : ℕ) → Goes r → Says (answer 0 r) us v u) → Says x us v u
 closed k Goes Says x ts us v v' u kept ends refused through = elim (ℕ-discrete k 0) [
-    | yes e ↦ subst (λ (y : Reply). Says y us v u) (sym (ends .gone-through e .0)) (through e (x .count) (ends .gone-through e .1))
-    | no d ↦
+  | yes e ↦ subst (λ (y : Reply). Says y us v u) (sym (ends .gone-through e .0)) (through e (x .count) (ends .gone-through e .1))
+  | no d ↦
       let q = ends .turned-down d in
       rw (q .1, q .2, kept d) (refused x d (q .0))
-  ]
+]
 
 -- what the code of a record call has at hand: the board's number and the call's, the work list v with its starts placed in v'
 module _ (w h : ℕ) (slow cells begins ts v : List ℕ) (board : ℕ) (number : board ≡ plain-refusal (plain w h slow cells begins)) (k : ℕ) where

@@ -20,5 +20,10 @@ fn board_number(width: u32, height: u32, slow: &[u32], judged: Judged) -> u32
 pub fn board_refusal(width: u32, height: u32, slow: &[u32], starts: &[Start]) -> u32
     ensures { λ r. ⌜ r ≡ plain-refusal (plain width height (now (slow .entry)) (cells-of (now (starts .entry))) (begins-of (now (starts .entry)))) ⌝ }
 {
-    board_number(width, height, slow, records::judge::judge_records(slow, starts))
+    board_number(
+        width,
+        height,
+        slow,
+        records::judge::judge_records(slow, starts),
+    )
 }

@@ -107,7 +107,18 @@ pub fn one_round(
         work.len(),
     );
     begin(refusal, work, width, height, starts);
-    round_begun(refusal, width, height, slow, across, down, bound, order, times, work)
+    round_begun(
+        refusal,
+        width,
+        height,
+        slow,
+        across,
+        down,
+        bound,
+        order,
+        times,
+        work,
+    )
 }
 
 fn run_begun(
@@ -166,5 +177,16 @@ pub fn tile_run(
         work.len(),
     );
     begin(refusal, work, width, height, starts);
-    run_begun(refusal, width, height, slow, across, down, stride, horizon, times, work)
+    run_begun(
+        refusal,
+        width,
+        height,
+        slow,
+        across,
+        down,
+        stride,
+        horizon,
+        times,
+        work,
+    )
 }

@@ -1,7 +1,7 @@
 // Start records: the calls whose starts are a lent slice of structs.
 pub mod judge;
-pub mod write;
 pub mod parts;
+pub mod write;
 
 // A start: a cell and a time.
 #[repr(C)]

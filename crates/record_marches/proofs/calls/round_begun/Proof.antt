@@ -43,9 +43,9 @@ returns-2 c =
     let a = c .before .before .before .before .before .before .before .before .before .before .before .before .before .args in
     let m = c .before .before .before .before .one-round in
     record {
-  turned-down = λ d. absurd (d (c .before .before .before .before .before .before .before .before .if1 .left));
-  gone-through = λ e. (refl, subst (λ (s : Shape). Goes-round s (a .slow .now) (a .bound) (m .result) (a .times .now) (m .last .1 .1 .1 .1 .0) (a .work .now) (m .last .1 .1 .1 .1 .1 .0)) (c .before .before .before .before .before .before .before .shape-of .ensures) (m .ensures));
-}
+      turned-down = λ d. absurd (d (c .before .before .before .before .before .before .before .before .if1 .left));
+      gone-through = λ e. (refl, subst (λ (s : Shape). Goes-round s (a .slow .now) (a .bound) (m .result) (a .times .now) (m .last .1 .1 .1 .1 .0) (a .work .now) (m .last .1 .1 .1 .1 .1 .0)) (c .before .before .before .before .before .before .before .shape-of .ensures) (m .ensures));
+    }
 
 pub round-begun-spec : {M : Type 1} → statement M
 round-begun-spec = tie.close (tie.spec refused-requires returns shape-of-requires one-round-requires same-length same-length-2 returns-2)

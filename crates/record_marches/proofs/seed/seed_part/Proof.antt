@@ -24,9 +24,12 @@ seed-requires : tie.Need-seed-requires
 seed-requires c κs =
     let p = c .before .before .before .before .before .before in
     let k = p .args .part .count in
-    let long = length-take-le k (p .args .part .cells) (p .pre .1) in
-    (p .pre .0, long ∙ sym (length-take-le k (p .args .part .begins) (p .pre .2)), p .pre .3,
-     λ i l. let l′ : i < k = omega (arith, l, long) in rw (getD-take k (p .args .part .cells) i 0 l′) (p .pre .4 i l′))
+    let long = length-take-le k (p .args .part .cells) (p .pre .1) in (
+      p .pre .0,
+      long ∙ sym (length-take-le k (p .args .part .begins) (p .pre .2)),
+      p .pre .3,
+      λ i l. let l′ : i < k = omega (arith, l, long) in rw (getD-take k (p .args .part .cells) i 0 l′) (p .pre .4 i l′),
+    )
 
 same-length : tie.Need-same-length
 same-length c = search needs

@@ -8,7 +8,6 @@ use Rattle.records.specs.declared.parts.Part.{Part}
 use Rattle.records.specs.Records.{cells-of, begins-of, part-of}
 use Rattle.records.proofs.parts.Part as P
 use Rattle.records.proofs.parts.Part.Laws as P′
-
 use Rattle.eikonal.specs.Refusals.{starts-of}
 use Rattle.scenario.specs.Bytes.{bytes-of}
 use Rattle.scenario.specs.File.{start-bytes}
