@@ -12,9 +12,9 @@ use Rattle.eikonal.proofs.refusals.Judged.Laws as J′
 use Rattle.records.specs.declared.Start.{Start}
 use Rattle.records.specs.Records.{cells-of, begins-of}
 use Rattle.records.proofs.Start as T
-use Rattle.record_marches.proofs.Calling.{contract-of, given, entry, number, passes, calls-to}
+use Rattle.record_marches.proofs.Calling.{contract-of, given, entry, number, passes, calls-to, frees-full}
 use Rattle.record_marches.proofs.Closing.{records-number}
-use Rattle.records.proofs.Walk.{_≡_, refl, [], _∷_, List, ℕ, _<_, _^_, length, URA, named, w32, Val, vint, SProp, ent, id⊢, Fml, Lft, Share, flft, Memory, Routine, Heap, WpFn, Tables, Atoms, Fun, givenOf, tables, tablesOf, Given, ‵, _⊛_, ⋆, _$_, _∵_, !, qed, by, move, keep, use1, split, join, fjoin, suffices, frame, done, look, init, forget, stop, from, load, and-then, no-more, land, returns, enter, params1, pass1, pass0, free1, free0, FmC, fmOf, WpFn-mono, RattleType, Is, shows, uint-vals, uint-tells, uint-lawful, u32, RefT, now, sliceVal, ShrSlice, Room, slice-vals, shr-slice-tells, shr-slice-copy, nothing, peeks, heard, plain, Vals, onEntry, Meets, tripleOf, Triple, entered, cited, says, Stays, walkOf, ends-at, walked, walk-meets, yes, alloc-all, via, fst∗, emp}
+use Rattle.records.proofs.Walk.{_≡_, refl, [], _∷_, List, ℕ, _<_, _^_, length, URA, named, w32, Val, vint, SProp, ent, id⊢, Fml, Lft, Share, flft, Memory, Routine, Heap, WpFn, Tables, Atoms, Fun, givenOf, tables, tablesOf, Given, ‵, _⊛_, ⋆, _$_, _∵_, !, qed, by, move, keep, use1, split, join, fjoin, suffices, frame, done, look, init, stop, from, load, and-then, no-more, land, returns, enter, params1, pass1, pass0, free0, FmC, fmOf, WpFn-mono, RattleType, Is, shows, uint-vals, uint-tells, uint-lawful, u32, RefT, now, sliceVal, ShrSlice, Room, slice-vals, shr-slice-tells, shr-slice-copy, nothing, peeks, heard, plain, Vals, onEntry, Meets, tripleOf, Triple, entered, cited, says, Stays, walkOf, ends-at, walked, walk-meets, yes, alloc-all, via, fst∗, emp}
 use Rattle.records.proofs.judge.judge_records as jr
 use Rattle.records.proofs.judge.judge_records.Symbol as jr-def
 use Rattle.records.proofs.judge.judge_records.Symbol.{name as #records·judge·judge-records}
@@ -90,8 +90,7 @@ module _ {M : Type 1} (𝓤 : URA M) (H : Heap 𝓤) (A : Atoms 𝓤) (W : Given
         heard ! (k ≡ or-else (plain-refusal (plain-board width height slow [] [])) (j .number)) (λ e-k. facts ! u32 (Is u32) (shows 𝓤 H A u32) k (u ∷ []) (λ is-k.
         land ! (from ! (stop !)) (init ! 14 refl (uint-lawful 𝓤 H A W w32 .typed k _ is-k .0)) $
         number W w32 k u is-k $ returns ! (look ! 15 refl) $
-        forget ! 15 refl $ forget ! 5 refl $ forget ! 7 refl $ forget ! 9 refl $ forget ! 11 refl $ forget ! 13 refl $
-        move ! (15 ∷ 16 ∷ []) $ free1 ! $ move ! (13 ∷ 14 ∷ []) $ free1 ! $ move ! (11 ∷ 12 ∷ []) $ free1 ! $ move ! (9 ∷ 10 ∷ []) $ free1 ! $ move ! (7 ∷ 8 ∷ []) $ free1 ! $ move ! (5 ∷ 6 ∷ []) $ free1 ! $ free0 ! $
+        move ! (15 ∷ 16 ∷ []) $ frees-full ! $ move ! (13 ∷ 14 ∷ []) $ frees-full ! $ move ! (11 ∷ 12 ∷ []) $ frees-full ! $ move ! (9 ∷ 10 ∷ []) $ frees-full ! $ move ! (7 ∷ 8 ∷ []) $ frees-full ! $ move ! (5 ∷ 6 ∷ []) $ frees-full ! $ free0 ! $
         keep ! (2 ∷ 4 ∷ 0 ∷ []) $ by ! (exits k u (records-number width height slow starts j k e-j e-k))))))))))
 
 module _ {M : Type 1} (𝓤 : URA M) (H : Heap 𝓤) (A : Atoms 𝓤) (W : Given 𝓤 H A) (mem : Memory → SProp 𝓤) (run : Routine → Fun 𝓤) (𝓣 : Tables 𝓤 H) where

@@ -9,11 +9,10 @@ use Rattle.front.specs.State.{Seeded, Empty}
 use Rattle.records.specs.declared.Start.{Start}
 use Rattle.records.specs.Records.{cells-of, begins-of}
 use Rattle.records.proofs.Start as T
-use Rattle.records.proofs.Again.{LentAgain, lends-again, comes-back}
 use Rattle.record_marches.specs.Calls.{Placeable, Begun-unless}
-use Rattle.record_marches.proofs.Calling.{contract-of, given, entry, number, asked, passes, calls-to, calls-to-last}
+use Rattle.record_marches.proofs.Calling.{contract-of, given, entry, number, asked, passes, calls-to, calls-to-last, lends, takes-back, frees-full}
 use Rattle.record_marches.proofs.Placing.{seeds-ask, begun-now, begun-not, unequal}
-use Rattle.records.proofs.Walk.{_≡_, refl, sym, ap, _∙_, subst, [], _∷_, List, ℕ, _*_, _<_, _^_, length, Holds, URA, fullShare, named, w32, w64, tyUnit, Val, vunit, vint, hasTy, WT, SProp, ent, Fml, Lft, Share, GName, flft, Memory, Routine, Heap, WpFn, Tables, Atoms, Fun, givenOf, tables, tablesOf, Given, ‵, _⊛_, ⋆, some, later, atRet, _$_, _∵_, !, qed, by, move, keep, use2, use3, split, join, pick, fsplit, fjoin, feqI, feqL, suffices, frame, await, done, look, init, forget, stop, hop, fld, from, load, lit, unit-lit, of-opd, bin, addr, and-then, no-more, assigns, land, first, branches, skips, exec, returns, enter, params1, pass1, pass0, free1, free0, agg, whole, sub, look-in, lft-new, lft-end, FmC, fmOf, WpFn-mono, RattleType, Is, shows, uint-vals, uint-tells, uint-lawful, u32, usize, RefT, now, sliceVal, MutSlice, Room, slice-vals, shr-slice-tells, mut-slice-tells, only, nothing, heard, plain, Vals, onEntry, Meets, tripleOf, Triple, entered, cited, says, needs, Stays, walkOf, ends-at, walked, walk-meets, yes, env-of, alloc-all, after, stay-slice, goes-slice}
+use Rattle.records.proofs.Walk.{_≡_, refl, sym, ap, _∙_, subst, [], _∷_, List, ℕ, _*_, _<_, _^_, length, Holds, URA, fullShare, named, w32, w64, tyUnit, Val, vunit, vint, hasTy, WT, SProp, ent, Fml, Lft, Share, GName, flft, Memory, Routine, Heap, WpFn, Tables, Atoms, Fun, givenOf, tables, tablesOf, Given, ‵, ⋆, atRet, _$_, _∵_, !, qed, by, move, keep, join, fsplit, fjoin, feqI, feqL, suffices, frame, done, look, init, stop, hop, fld, from, load, lit, unit-lit, of-opd, bin, addr, and-then, no-more, assigns, land, first, branches, skips, exec, returns, enter, params1, pass1, pass0, free1, free0, agg, whole, sub, look-in, FmC, fmOf, WpFn-mono, RattleType, Is, shows, uint-vals, uint-tells, uint-lawful, u32, usize, RefT, now, sliceVal, MutSlice, Room, slice-vals, shr-slice-tells, mut-slice-tells, only, nothing, heard, plain, Vals, onEntry, Meets, tripleOf, Triple, entered, cited, says, needs, Stays, walkOf, ends-at, walked, walk-meets, yes, env-of, alloc-all, after, stay-slice, goes-slice}
 use Rattle.record_marches.proofs.seed.empty_board as eb
 use Rattle.record_marches.proofs.seed.empty_board.Symbol as eb-def
 use Rattle.record_marches.proofs.seed.empty_board.Symbol.{name as #record-marches·seed·empty-board}
@@ -86,35 +85,31 @@ module _ {M : Type 1} (𝓤 : URA M) (H : Heap 𝓤) (A : Atoms 𝓤) (W : Given
         (λ is-0.
         assigns ! (addr ! (from ! (fld ! refl (hop ! (look-in ! 20 (sub ! 0 refl (whole !))) (stop !))))) (from ! (stop !)) (init ! 8 refl (tt, tt)) $
         assigns ! (agg ! (and-then ! (load ! (from ! (stop !)) (look ! 8 refl)) (and-then ! (load ! (from ! (fld ! refl (stop !))) (look-in ! 20 (sub ! 1 refl (whole !)))) (no-more !)))) (from ! (stop !)) (init ! 6 refl (tt, (tt, (record { fits = g-work .0 }, tt)))) $
-        lft-new ! tt (λ ν.
-        move ! (30 ∷ 27 ∷ []) $ use2 W (later (some (λ (ε : GName). ‵ (MutSlice (named 0) (ν ∷ []) u32 .own (m-work ε work) (v-work ∷ [])) ⊛ ‵ (LentAgain u32 κ0 (ν ∷ []) q0 (r-work .name) (r-work .ptr .0) (r-work .ptr .1) (length work) ε work)))) (lends-again u32 κ0 (ν ∷ []) q0 (r-work .name) (r-work .ptr .0) (r-work .ptr .1) (length work) 𝓤 H A W (named 0) (named 0) work) $ await ! tt $ pick ! (λ ε. split ! $
+        move ! (29 ∷ 26 ∷ []) $ lends ! tt u32 κ0 q0 r-work (length work) work (λ ν ε.
         number W w32 width (vint w32 width) (refl, g-width) $ number W w32 height (vint w32 height) (refl, g-height) $
-        move ! (4 ∷ 2 ∷ 1 ∷ 0 ∷ []) $ passes W eb.ended (eb.clauses 𝓤 H A mem run) (to-eb ν ε) (let p = need (eqb→eq refusal 0 is-0) in asked 𝓤 (p .0, p .1, p .2)) $
+        move ! (2 ∷ 3 ∷ 1 ∷ 0 ∷ []) $ passes W eb.ended (eb.clauses 𝓤 H A mem run) (to-eb ν ε) (let p = need (eqb→eq refusal 0 is-0) in asked 𝓤 (p .0, p .1, p .2)) $
         calls-to ! fm eb.ended (eb.clauses 𝓤 H A mem run) known-eb (to-eb ν ε) (and-then ! (load ! (from ! (stop !)) (look ! 8 refl)) (and-then ! (load ! (from ! (stop !)) (look ! 20 refl)) (and-then ! (load ! (from ! (stop !)) (look ! 18 refl)) (no-more !)))) (λ u n zs.
         heard ! ((n ≡ width * height) × Empty (width * height) work (zs .0)) (λ e. facts ! usize (Is usize) (shows 𝓤 H A usize) n (u ∷ []) (λ is-n.
         land ! (from ! (stop !)) (init ! 15 refl (uint-lawful 𝓤 H A W w64 .typed n _ is-n .0)) $
         fsplit ! $ fsplit ! $ move ! (1 ∷ []) $ feqL ! (λ el. move ! (1 ∷ []) $
-        move ! (2 ∷ []) $ lft-end ! tt $ move ! (0 ∷ 3 ∷ 2 ∷ []) $ use3 W (later (‵ (Own-work (zs .0)) ⊛ ‵ (flft κ0 q0))) (comes-back u32 κ0 (ν ∷ []) q0 (r-work .name) (r-work .ptr .0) (r-work .ptr .1) (length work) 𝓤 H A W (named 0) (named 0) work ε (zs .0) g-work el el) $ await ! tt $ split ! $
+        move ! (2 ∷ 3 ∷ 1 ∷ []) $ takes-back ! tt u32 κ0 q0 r-work (length work) ν ε work (zs .0) g-work el el $
         assigns ! (addr ! (from ! (fld ! refl (hop ! (look-in ! 23 (sub ! 0 refl (whole !))) (stop !))))) (from ! (stop !)) (init ! 5 refl (tt, tt)) $
         assigns ! (agg ! (and-then ! (load ! (from ! (stop !)) (look ! 5 refl)) (and-then ! (load ! (from ! (fld ! refl (stop !))) (look-in ! 23 (sub ! 1 refl (whole !)))) (no-more !)))) (from ! (stop !)) (init ! 3 refl (tt, (tt, (record { fits = g-work .0 }, tt)))) $
-        lft-new ! tt (λ ν′.
-        move ! (1 ∷ 2 ∷ []) $ use2 W (later (some (λ (ε′ : GName). ‵ (MutSlice (named 0) (ν′ ∷ []) u32 .own (m-work ε′ (zs .0)) (v-work ∷ [])) ⊛ ‵ (LentAgain u32 κ0 (ν′ ∷ []) q0 (r-work .name) (r-work .ptr .0) (r-work .ptr .1) (length work) ε′ (zs .0))))) (lends-again u32 κ0 (ν′ ∷ []) q0 (r-work .name) (r-work .ptr .0) (r-work .ptr .1) (length work) 𝓤 H A W (named 0) (named 0) (zs .0)) $ await ! tt $ pick ! (λ ε′. split ! $
+        lends ! tt u32 κ0 q0 r-work (length work) (zs .0) (λ ν′ ε′.
         number W w64 n (u) is-n $
-        move ! (3 ∷ 31 ∷ 1 ∷ 0 ∷ 35 ∷ []) $ passes W sr.ended (sr.clauses 𝓤 H A mem run) (to-sr ν′ ε′ (zs .0) n u) (asked 𝓤 (seeds-ask (width * height) n starts work (zs .0) (need (eqb→eq refusal 0 is-0)) e)) $
+        move ! (1 ∷ 31 ∷ 2 ∷ 0 ∷ 35 ∷ []) $ passes W sr.ended (sr.clauses 𝓤 H A mem run) (to-sr ν′ ε′ (zs .0) n u) (asked 𝓤 (seeds-ask (width * height) n starts work (zs .0) (need (eqb→eq refusal 0 is-0)) e)) $
         calls-to-last ! fm sr.ended (sr.clauses 𝓤 H A mem run) known-sr (to-sr ν′ ε′ (zs .0) n u) (and-then ! (load ! (from ! (stop !)) (look ! 3 refl)) (and-then ! (load ! (from ! (stop !)) (look ! 15 refl)) (and-then ! (load ! (from ! (stop !)) (look ! 17 refl)) (no-more !)))) (λ u′ v zs′.
         heard ! (Seeded n (starts-of (cells-of starts) (begins-of starts)) (zs .0) (zs′ .0)) (λ e′. feqL ! (λ eu.
         land-last ! (from ! (stop !)) (init ! 9 refl (subst (λ (w : Val). Holds (hasTy tyUnit w) × WT w) (sym (ap only eu)) (tt, tt))) $
         exec ! (𝓣 .C) (𝓣 .Λ) (env-of (code.function .locals) (l0 ∷ l1 ∷ l2 ∷ l3 ∷ l4 ∷ l5 ∷ l6 ∷ l7 ∷ l8 ∷ l9 ∷ l10 ∷ l11 ∷ l12 ∷ [])) (after 2 (code.function .body)) (atRet (env-of (code.function .locals) (l0 ∷ l1 ∷ l2 ∷ l3 ∷ l4 ∷ l5 ∷ l6 ∷ l7 ∷ l8 ∷ l9 ∷ l10 ∷ l11 ∷ l12 ∷ [])) Post) $
         fsplit ! $ fsplit ! $ move ! (1 ∷ []) $ feqL ! (λ el′. move ! (1 ∷ []) $
-        move ! (2 ∷ []) $ lft-end ! tt $ move ! (0 ∷ 4 ∷ 2 ∷ []) $ use3 W (later (‵ (Own-work (zs′ .0)) ⊛ ‵ (flft κ0 q0))) (comes-back u32 κ0 (ν′ ∷ []) q0 (r-work .name) (r-work .ptr .0) (r-work .ptr .1) (length work) 𝓤 H A W (named 0) (named 0) (zs .0) ε′ (zs′ .0) g-work el′ (el′ ∙ el)) $ await ! tt $ split ! $
+        move ! (2 ∷ 4 ∷ 1 ∷ []) $ takes-back ! tt u32 κ0 q0 r-work (length work) ν′ ε′ (zs .0) (zs′ .0) g-work el′ (el′ ∙ el) $
         assigns ! (of-opd ! (unit-lit !)) (from ! (stop !)) (init ! 29 refl (tt, tt)) $ returns ! (look ! 29 refl) $
-        forget ! 29 refl $ forget ! 5 refl $ forget ! 7 refl $ forget ! 9 refl $ forget ! 11 refl $ forget ! 13 refl $ forget ! 15 refl $ forget ! 17 refl $ forget ! 19 refl $ forget ! 21 refl $ forget ! 23 refl $ forget ! 25 refl $ forget ! 27 refl $
-        move ! (29 ∷ 30 ∷ []) $ free1 ! $ move ! (27 ∷ 28 ∷ []) $ free1 ! $ move ! (25 ∷ 26 ∷ []) $ free1 ! $ move ! (23 ∷ 24 ∷ []) $ free1 ! $ move ! (21 ∷ 22 ∷ []) $ free1 ! $ move ! (19 ∷ 20 ∷ []) $ free1 ! $ move ! (17 ∷ 18 ∷ []) $ free1 ! $ move ! (15 ∷ 16 ∷ []) $ free1 ! $ move ! (13 ∷ 14 ∷ []) $ free1 ! $ move ! (11 ∷ 12 ∷ []) $ free1 ! $ move ! (9 ∷ 10 ∷ []) $ free1 ! $ move ! (7 ∷ 8 ∷ []) $ free1 ! $ move ! (5 ∷ 6 ∷ []) $ free1 ! $ free0 ! $
-        keep ! (1 ∷ 3 ∷ 0 ∷ []) $ by ! (exits (zs′ .0) (begun-now refusal (width * height) n starts work (zs .0) (zs′ .0) (eqb→eq refusal 0 is-0) (need (eqb→eq refusal 0 is-0)) e e′) (el′ ∙ el)))))))))))))))
+        move ! (29 ∷ 30 ∷ []) $ frees-full ! $ move ! (27 ∷ 28 ∷ []) $ frees-full ! $ move ! (25 ∷ 26 ∷ []) $ frees-full ! $ move ! (23 ∷ 24 ∷ []) $ frees-full ! $ move ! (21 ∷ 22 ∷ []) $ frees-full ! $ move ! (19 ∷ 20 ∷ []) $ frees-full ! $ move ! (17 ∷ 18 ∷ []) $ frees-full ! $ move ! (15 ∷ 16 ∷ []) $ frees-full ! $ move ! (13 ∷ 14 ∷ []) $ frees-full ! $ move ! (11 ∷ 12 ∷ []) $ frees-full ! $ move ! (9 ∷ 10 ∷ []) $ frees-full ! $ move ! (7 ∷ 8 ∷ []) $ frees-full ! $ move ! (5 ∷ 6 ∷ []) $ frees-full ! $ free0 ! $
+        keep ! (1 ∷ 3 ∷ 0 ∷ []) $ by ! (exits (zs′ .0) (begun-now refusal (width * height) n starts work (zs .0) (zs′ .0) (eqb→eq refusal 0 is-0) (need (eqb→eq refusal 0 is-0)) e e′) (el′ ∙ el)))))))))))))
         (λ isn-0. skips ! $ exec ! (𝓣 .C) (𝓣 .Λ) (env-of (code.function .locals) (l0 ∷ l1 ∷ l2 ∷ l3 ∷ l4 ∷ l5 ∷ l6 ∷ l7 ∷ l8 ∷ l9 ∷ l10 ∷ l11 ∷ l12 ∷ [])) (after 2 (code.function .body)) (atRet (env-of (code.function .locals) (l0 ∷ l1 ∷ l2 ∷ l3 ∷ l4 ∷ l5 ∷ l6 ∷ l7 ∷ l8 ∷ l9 ∷ l10 ∷ l11 ∷ l12 ∷ [])) Post) $
         assigns ! (of-opd ! (unit-lit !)) (from ! (stop !)) (init ! 24 refl (tt, tt)) $ returns ! (look ! 24 refl) $
-        forget ! 24 refl $ forget ! 10 refl $ forget ! 14 refl $ forget ! 16 refl $ forget ! 18 refl $ forget ! 20 refl $ forget ! 22 refl $
-        move ! (24 ∷ 25 ∷ []) $ free1 ! $ move ! (22 ∷ 23 ∷ []) $ free1 ! $ move ! (20 ∷ 21 ∷ []) $ free1 ! $ move ! (18 ∷ 19 ∷ []) $ free1 ! $ move ! (16 ∷ 17 ∷ []) $ free1 ! $ move ! (14 ∷ 15 ∷ []) $ free1 ! $ move ! (12 ∷ 13 ∷ []) $ free1 ! $ move ! (10 ∷ 11 ∷ []) $ free1 ! $ move ! (8 ∷ 9 ∷ []) $ free1 ! $ move ! (6 ∷ 7 ∷ []) $ free1 ! $ move ! (4 ∷ 5 ∷ []) $ free1 ! $ move ! (2 ∷ 3 ∷ []) $ free1 ! $ free1 ! $ free0 ! $
+        move ! (24 ∷ 25 ∷ []) $ frees-full ! $ move ! (22 ∷ 23 ∷ []) $ frees-full ! $ move ! (20 ∷ 21 ∷ []) $ frees-full ! $ move ! (18 ∷ 19 ∷ []) $ frees-full ! $ move ! (16 ∷ 17 ∷ []) $ frees-full ! $ move ! (14 ∷ 15 ∷ []) $ frees-full ! $ move ! (12 ∷ 13 ∷ []) $ free1 ! $ move ! (10 ∷ 11 ∷ []) $ frees-full ! $ move ! (8 ∷ 9 ∷ []) $ free1 ! $ move ! (6 ∷ 7 ∷ []) $ free1 ! $ move ! (4 ∷ 5 ∷ []) $ free1 ! $ move ! (2 ∷ 3 ∷ []) $ free1 ! $ free1 ! $ free0 ! $
         keep ! (0 ∷ 1 ∷ 3 ∷ []) $ by ! (exits work (begun-not refusal (width * height) (starts-of (cells-of starts) (begins-of starts)) work (unequal refusal isn-0)) refl))))
 
 module _ {M : Type 1} (𝓤 : URA M) (H : Heap 𝓤) (A : Atoms 𝓤) (W : Given 𝓤 H A) (mem : Memory → SProp 𝓤) (run : Routine → Fun 𝓤) (𝓣 : Tables 𝓤 H) where
