@@ -67,7 +67,7 @@ module _ {M : Type 1} (𝓤 : URA M) (H : Heap 𝓤) (A : Atoms 𝓤) (W : Given
   abbrev to-sr : (ν : ℕ) (ε : GName) (zs : List ℕ) (n : ℕ) (u : Val) → contract-of 𝓤 H A sr.ended (sr.clauses 𝓤 H A mem run) .Ghost
   to-sr ν ε zs n u = (((ν ∷ [], (κ1, tt)), (fullShare, (q1, tt)), tt, (m-work ε zs, (n, (r-starts, tt))), (v-work ∷ [], (u ∷ [], (v-starts ∷ [], tt)))), tt)
 
-  exits :  (work′ : List ℕ) → Begun-unless refusal (width * height) (starts-of (cells-of starts) (begins-of starts)) work work′ → length work′ ≡ length work
+  exits : (work′ : List ℕ) → Begun-unless refusal (width * height) (starts-of (cells-of starts) (begins-of starts)) work work′ → length work′ ≡ length work
       → ent 𝓤 (⋆ 𝓤 H A (‵ (flft κ0 q0) ∷ ‵ (flft κ1 q1) ∷ ‵ (Own-work work′) ∷ [])) (Post vunit)
   exits work′ e l-work =
       qed W (‵ (flft κ0 q0) ∷ ‵ (flft κ1 q1) ∷ ‵ (Own-work work′) ∷ []) ∵

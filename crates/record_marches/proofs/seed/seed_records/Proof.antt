@@ -79,7 +79,7 @@ module _ {M : Type 1} (𝓤 : URA M) (H : Heap 𝓤) (A : Atoms 𝓤) (W : Given
   abbrev to-sp : (ν : ℕ) (ε : GName) (zs : List ℕ) (p : Part) (pu : Val) → contract-of 𝓤 H A sp.ended (sp.clauses 𝓤 H A mem run) .Ghost
   to-sp ν ε zs p pu = (((ν ∷ [], tt), (fullShare, tt), tt, (m-work ε zs, (n, (p, tt))), (v-work ∷ [], (vint w64 n ∷ [], (pu ∷ [], tt)))), tt)
 
-  exits :  (work′ : List ℕ) → Seeded n (starts-of (cells-of starts) (begins-of starts)) work work′ → length work′ ≡ length work
+  exits : (work′ : List ℕ) → Seeded n (starts-of (cells-of starts) (begins-of starts)) work work′ → length work′ ≡ length work
       → ent 𝓤 (⋆ 𝓤 H A (‵ (flft κ0 q0) ∷ ‵ (flft κ1 q1) ∷ ‵ (Own-work work′) ∷ [])) (Post vunit)
   exits work′ e l-work =
       qed W (‵ (flft κ0 q0) ∷ ‵ (flft κ1 q1) ∷ ‵ (Own-work work′) ∷ []) ∵
