@@ -1,3 +1,4 @@
 pub mod Placing
 pub mod Closing
+pub mod Calling
 pub mod Promises
