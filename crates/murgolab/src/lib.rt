@@ -1,7 +1,11 @@
-// What others call: the C interface that include/murgolab.h declares. Each call meets the contract of the function that it hands over to.
+// What others call: the C interface that include/murgolab.h declares. A call with plain lists meets the contract of the function that it hands over to;
+// one with start records is a straight line of calls, of which few are lent the records.
 ghost use Rattle.eikonal.specs.Entry.{plain, Local-says, Diagonal-says, March-says, Round-says, Run-says};
 ghost use Rattle.scenario.specs.Calls.{Turn-says, Reads, Writes};
+ghost use Rattle.tablet.specs.Tablet.{Tablet-says};
+ghost use Rattle.records.specs.Records.{cells-of, begins-of};
 use eikonal::Reply;
+use records::Start;
 use scenario::Scenario;
 
 #[no_mangle]
@@ -137,4 +141,164 @@ pub extern "C" fn murgolab_write_scenario_plain(
     ensures { λ x. ⌜ Writes (plain width height (now (slow .entry)) (now (cells .entry)) (now (begins .entry))) ticks ground (now (out .entry)) (now (out .exit)) x ⌝ }
 {
     scenario_write::write_scenario(width, height, ticks, ground, slow, cells, begins, out)
+}
+
+#[no_mangle]
+pub extern "C" fn murgolab_march(
+    width: u32,
+    height: u32,
+    slow: &[u32],
+    starts: &[Start],
+    horizon: u32,
+    times: &mut [u32],
+    work: &mut [u32],
+) -> Reply
+    ensures { λ x. ⌜ March-says width height (now (slow .entry)) (cells-of (now (starts .entry))) (begins-of (now (starts .entry))) horizon x (now (times .entry)) (now (times .exit)) (now (work .entry)) (now (work .exit)) ⌝ }
+{
+    let board = record_marches::board::board_refusal(width, height, slow, starts);
+    let refusal = refusals::march_refusal(board, width, height, horizon, times.len(), work.len());
+    record_marches::seed::begin(refusal, work, width, height, starts);
+    record_marches::begun::march_begun(refusal, width, height, slow, horizon, times, work)
+}
+
+#[no_mangle]
+pub extern "C" fn murgolab_one_round(
+    width: u32,
+    height: u32,
+    slow: &[u32],
+    starts: &[Start],
+    across: u32,
+    down: u32,
+    bound: u32,
+    order: &[u32],
+    times: &mut [u32],
+    work: &mut [u32],
+) -> Reply
+    ensures { λ x. ⌜ Round-says width height (now (slow .entry)) (cells-of (now (starts .entry))) (begins-of (now (starts .entry))) across down bound (now (order .entry)) x (now (times .entry)) (now (times .exit)) (now (work .entry)) (now (work .exit)) ⌝ }
+{
+    let board = record_marches::board::board_refusal(width, height, slow, starts);
+    let refusal = refusals::round_refusal(
+        board,
+        width,
+        height,
+        across,
+        down,
+        bound,
+        order,
+        times.len(),
+        work.len(),
+    );
+    record_marches::seed::begin(refusal, work, width, height, starts);
+    record_marches::begun::round_begun(
+        refusal,
+        width,
+        height,
+        slow,
+        across,
+        down,
+        bound,
+        order,
+        times,
+        work,
+    )
+}
+
+#[no_mangle]
+pub extern "C" fn murgolab_tile_run(
+    width: u32,
+    height: u32,
+    slow: &[u32],
+    starts: &[Start],
+    across: u32,
+    down: u32,
+    stride: u32,
+    horizon: u32,
+    order: &[u32],
+    times: &mut [u32],
+    work: &mut [u32],
+) -> Reply
+    ensures { λ x. ⌜ Run-says width height (now (slow .entry)) (cells-of (now (starts .entry))) (begins-of (now (starts .entry))) across down stride horizon (now (order .entry)) x (now (times .entry)) (now (times .exit)) (now (work .entry)) (now (work .exit)) ⌝ }
+{
+    let board = record_marches::board::board_refusal(width, height, slow, starts);
+    let refusal = refusals::run_refusal(
+        board,
+        width,
+        height,
+        across,
+        down,
+        stride,
+        horizon,
+        order,
+        times.len(),
+        work.len(),
+    );
+    record_marches::seed::begin(refusal, work, width, height, starts);
+    record_marches::begun::run_begun(
+        refusal,
+        width,
+        height,
+        slow,
+        across,
+        down,
+        stride,
+        horizon,
+        times,
+        work,
+    )
+}
+
+#[no_mangle]
+pub extern "C" fn murgolab_read_scenario(
+    file: &[u8],
+    slow: &mut [u32],
+    starts: &mut [Start],
+) -> Scenario
+    ensures { λ x. ⌜ Reads (now (file .entry)) (now (slow .entry)) (now (slow .exit)) (cells-of (now (starts .entry))) (cells-of (now (starts .exit))) (begins-of (now (starts .entry))) (begins-of (now (starts .exit))) x ⌝ }
+{
+    let answer = scenario_read::read_ground(file, slow, starts.len());
+    records::read::read_records(file, records::read::count_of(answer), starts);
+    answer
+}
+
+#[no_mangle]
+pub extern "C" fn murgolab_write_scenario(
+    width: u32,
+    height: u32,
+    ticks: u32,
+    ground: u32,
+    slow: &[u32],
+    starts: &[Start],
+    out: &mut [u8],
+) -> Reply
+    ensures { λ x. ⌜ Writes (plain width height (now (slow .entry)) (cells-of (now (starts .entry))) (begins-of (now (starts .entry)))) ticks ground (now (out .entry)) (now (out .exit)) x ⌝ }
+{
+    let judged = records::judge::judge_records(slow, starts);
+    let reply = scenario_write::begin_file(
+        width,
+        height,
+        ticks,
+        ground,
+        slow,
+        starts.len(),
+        starts.len(),
+        judged,
+        out,
+    );
+    let at = records::write::place_of(reply, starts.len());
+    let count = records::write::count_of(reply, starts.len());
+    records::write::write_records(out, at, count, starts);
+    reply
+}
+
+#[no_mangle]
+pub extern "C" fn murgolab_tablet_run(
+    file: &[u8],
+    stride: u32,
+    across: u32,
+    down: u32,
+    out: &mut [u8],
+) -> u64
+    ensures { λ x. ⌜ Tablet-says (now (file .entry)) stride across down (now (out .entry)) (now (out .exit)) x ⌝ }
+{
+    tablet::tablet_run(file, stride, across, down, out)
 }

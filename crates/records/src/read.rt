@@ -4,8 +4,7 @@ ghost use mathlib.Core.List.{_++_};
 ghost use Prim.Native.Nat.{_≤_, _<_};
 ghost use lib.ListN.{length, take, drop, getD};
 ghost use Rattle.scenario.specs.File.{start-count, file-refusal};
-ghost use Rattle.scenario.specs.Calls.{Reads};
-ghost use Rattle.records.specs.Records.{start-at, records-in, cells-of, begins-of};
+ghost use Rattle.records.specs.Records.{start-at, records-in};
 use super::Start;
 use scenario::Scenario;
 use scenario::bytes::four_at;
@@ -23,7 +22,7 @@ fn record_at(file: &[u8], i: usize) -> Start
 }
 
 // All starts of a file that was judged, or none where the count is 0; later records stay.
-fn read_records(file: &[u8], count: usize, starts: &mut [Start])
+pub fn read_records(file: &[u8], count: usize, starts: &mut [Start])
     requires { ⌜ (0 < count → (file-refusal (now file) ≡ 0) × (count ≡ start-count (now file))) × (count ≤ length (now starts)) ⌝ }
     ensures { λ r. ⌜ now (starts .exit) ≡ take count (records-in (now (file .entry))) ++ drop count (now (starts .entry)) ⌝ }
 {
@@ -34,17 +33,8 @@ fn read_records(file: &[u8], count: usize, starts: &mut [Start])
     }
 }
 
-fn count_of(answer: Scenario) -> usize
+pub fn count_of(answer: Scenario) -> usize
     ensures { λ r. ⌜ r ≡ answer .starts ⌝ }
 {
     answer.starts as usize
-}
-
-// Fills the slownesses and the starts that a file holds; later entries and records stay. A refused file leaves all as it was.
-pub fn read_scenario(file: &[u8], slow: &mut [u32], starts: &mut [Start]) -> Scenario
-    ensures { λ x. ⌜ Reads (now (file .entry)) (now (slow .entry)) (now (slow .exit)) (cells-of (now (starts .entry))) (cells-of (now (starts .exit))) (begins-of (now (starts .entry))) (begins-of (now (starts .exit))) x ⌝ }
-{
-    let answer = scenario_read::read_ground(file, slow, starts.len());
-    read_records(file, count_of(answer), starts);
-    answer
 }

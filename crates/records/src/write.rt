@@ -6,10 +6,8 @@ ghost use Prim.Native.Nat.{_+_, _-_, _*_, _≤_, _<_};
 ghost use lib.Dec.{eqb};
 ghost use lib.ListN.{length, take, drop};
 ghost use Rattle.eikonal.specs.Refusals.{starts-of};
-ghost use Rattle.eikonal.specs.Entry.{plain};
 ghost use Rattle.scenario.specs.Bytes.{bytes-of};
 ghost use Rattle.scenario.specs.File.{start-bytes};
-ghost use Rattle.scenario.specs.Calls.{Writes};
 ghost use Rattle.records.specs.Records.{cells-of, begins-of};
 use super::Start;
 use super::parts::Part;
@@ -28,7 +26,7 @@ fn write_part(out: &mut [u8], at: usize, part: Part)
 }
 
 // All records, or none where the count is 0, from a place on; all other bytes stay.
-fn write_records(out: &mut [u8], at: usize, count: usize, starts: &[Start])
+pub fn write_records(out: &mut [u8], at: usize, count: usize, starts: &[Start])
     requires { ⌜ (0 < count → count ≡ length (now starts)) × (at + 8 * count ≤ length (now out)) ⌝ }
     ensures { λ r. ⌜ now (out .exit) ≡ take at (now (out .entry)) ++ (bytes-of start-bytes (starts-of (cells-of (take count (now (starts .entry)))) (begins-of (take count (now (starts .entry))))) ++ drop (at + 8 * count) (now (out .entry))) ⌝ }
 {
@@ -40,7 +38,7 @@ fn write_records(out: &mut [u8], at: usize, count: usize, starts: &[Start])
 }
 
 // Where the starts of a file begin that is not refused, and how many are to be written.
-fn place_of(reply: Reply, starts: usize) -> usize
+pub fn place_of(reply: Reply, starts: usize) -> usize
     requires { ⌜ («reply» .number ≡ 0 → 8 * starts ≤ «reply» .count) ⌝ }
     ensures { λ r. ⌜ r ≡ cond (eqb («reply» .number) 0) («reply» .count - 8 * starts) 0 ⌝ }
 {
@@ -50,38 +48,8 @@ fn place_of(reply: Reply, starts: usize) -> usize
     reply.count as usize - 8 * starts
 }
 
-fn count_of(reply: Reply, starts: usize) -> usize
+pub fn count_of(reply: Reply, starts: usize) -> usize
     ensures { λ r. ⌜ r ≡ cond (eqb («reply» .number) 0) starts 0 ⌝ }
 {
     if reply.number == 0 { starts } else { 0 }
-}
-
-// Writes the one file that fits a board, its ticks per turn, ground and starts, and answers its length; later bytes stay.
-pub fn write_scenario(
-    width: u32,
-    height: u32,
-    ticks: u32,
-    ground: u32,
-    slow: &[u32],
-    starts: &[Start],
-    out: &mut [u8],
-) -> Reply
-    ensures { λ x. ⌜ Writes (plain width height (now (slow .entry)) (cells-of (now (starts .entry))) (begins-of (now (starts .entry)))) ticks ground (now (out .entry)) (now (out .exit)) x ⌝ }
-{
-    let judged = super::judge::judge_records(slow, starts);
-    let reply = scenario_write::begin_file(
-        width,
-        height,
-        ticks,
-        ground,
-        slow,
-        starts.len(),
-        starts.len(),
-        judged,
-        out,
-    );
-    let at = place_of(reply, starts.len());
-    let count = count_of(reply, starts.len());
-    write_records(out, at, count, starts);
-    reply
 }

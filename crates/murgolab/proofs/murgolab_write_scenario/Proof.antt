@@ -1,9 +1,9 @@
--- `records::write::write_scenario` meets its contract: a walk of its MIR, by hand: a straight line of calls. The bytes are lent again for what stands in front of the starts, and passed on for good for the starts.
+-- `murgolab::murgolab_write_scenario` meets its contract: a walk of its MIR, by hand: a straight line of calls. The bytes are lent again for what stands in front of the starts, and passed on for good for the starts.
 use base.Logic.{exE, snd∗}
 use denote.Struct.Laws as LL
 use Rattle.records.specs.declared.Start.{Start}
 use Rattle.records.proofs.Start as T
 use Rattle.records.proofs.Start.Laws as T′
 use mathlib.Core.Bool.{cond}
 use lib.Dec.{eqb}
 use Rattle.eikonal.specs.Refusals.{starts-of}
@@ -19,35 +19,35 @@ use Rattle.scenario.specs.Bytes.{bytes-of}
 use Rattle.scenario.specs.File.{start-bytes}
 use Rattle.scenario.specs.Calls.{Writes}
 use Rattle.scenario.specs.Inner.Begin.{Begins}
 use Rattle.records.specs.Records.{cells-of, begins-of}
 use Rattle.records.proofs.Writing.{records-most, place-good, records-fit, writes-records}
 use Rattle.records.proofs.Again.{LentAgain, lends-again, comes-back}
 use Rattle.records.proofs.Walk.{_≡_, refl, sym, ap, _∙_, subst, [], _∷_, _++_, List, ℕ, _+_, _-_, _*_, _<_, _≤_, _^_, Holds, length, drop, take, URA, fullShare, Ty, named, erased, imm, mut, tyRef, w8, w32, w64, tyInt, tyUnit, Val, vint, hasTy, WT, SProp, ent, sep, id⊢, via, fst∗, emp, Fml, Lft, Share, GName, ftrue, fat, froom, fdies, flft, Memory, Routine, Heap, WpFn, Wp, Tables, atReturn, Atoms, sem, Fun, fact, givenOf, tables, tablesOf, Given, ‵, raw, _⊛_, ⋆, some, later, atRet, _$_, _∵_, !, qed, by, move, keep, toss, use1, use2, use3, split, join, pick, fsplit, fjoin, feqL, suffices, frame, await, done, look, init, store, forget, stop, hop, fld, from, load, of-opd, addr, and-then, no-more, assigns, land, exec, returns, enter, params1, pass1, pass0, free1, free0, agg, whole, sub, look-in, lft-new, lft-end, FmC, fmOf, WpFn-mono, RattleType, owns, pointee, Is, shows, uint-vals, uint-tells, uint-makes, uint-lawful, u8, u32, usize, unit, RefT, now, sliceTy, sliceVal, ShrSlice, MutSlice, Room, finally, slice-vals, shr-slice-tells, mut-slice-tells, shr-slice-copy, only, nothing, owned, peeks, heard, plain, Vals, onEntry, Meets, tripleOf, Contract, Triple, calls-at, ensured, lasts, entered, cited, says, Stays, stay-none, stay-none-slice, gave-slice, walkOf, goes-none, goes-none-slice, goes-gave-slice, ends-at, walked, walk-meets, yes, env-of, alloc-all}
 use Rattle.records.proofs.judge.judge_records as jr
 use Rattle.records.proofs.judge.judge_records.Symbol as jr-def
 use Rattle.records.proofs.judge.judge_records.Symbol.{name as #records·judge·judge-records}
 use Rattle.records.proofs.judge.judge_records.Met as jr-thm
 use Rattle.scenario_write.proofs.begin_file as bf
 use Rattle.scenario_write.proofs.begin_file.Symbol as bf-def
 use Rattle.scenario_write.proofs.begin_file.Symbol.{name as #scenario-write·begin-file}
 use Rattle.scenario_write.proofs.begin_file.Met as bf-thm
 use Rattle.records.proofs.write.place_of as po
 use Rattle.records.proofs.write.place_of.Symbol as po-def
 use Rattle.records.proofs.write.place_of.Symbol.{name as #records·write·place-of}
 use Rattle.records.proofs.write.place_of.Met as po-thm
 use Rattle.records.proofs.write.count_of as co
 use Rattle.records.proofs.write.count_of.Symbol as co-def
 use Rattle.records.proofs.write.count_of.Symbol.{name as #records·write·count-of}
 use Rattle.records.proofs.write.count_of.Met as co-thm
 use Rattle.records.proofs.write.write_records as wr
 use Rattle.records.proofs.write.write_records.Symbol as wr-def
 use Rattle.records.proofs.write.write_records.Symbol.{name as #records·write·write-records}
 use Rattle.records.proofs.write.write_records.Met as wr-thm
-use Rattle.records.proofs.write.write_scenario.Key.{name as #records·write·write-scenario}
-use Rattle.records.proofs.write.write_scenario as f
-use Rattle.records.proofs.write.write_scenario.Statement as stated
-use Rattle.records.proofs.write.write_scenario.Code as code
-use Rattle.records.proofs.write.write_scenario.Code.Mir as mir
+use Rattle.murgolab.proofs.murgolab_write_scenario.Key.{name as #murgolab·murgolab-write-scenario}
+use Rattle.murgolab.proofs.murgolab_write_scenario as f
+use Rattle.murgolab.proofs.murgolab_write_scenario.Statement as stated
+use Rattle.murgolab.proofs.murgolab_write_scenario.Code as code
+use Rattle.murgolab.proofs.murgolab_write_scenario.Code.Mir as mir
 
 abbrev R : RattleType
 R = T.the-row
@@ -269,11 +269,11 @@ module _ {M : Type 1} (𝓤 : URA M) (H : Heap 𝓤) (A : Atoms 𝓤) (W : Given
       (λ κs qs bounds a g are. via 𝓤 _ (fst∗ 𝓤 _ (emp 𝓤))
       (walk 𝓤 H A W mem run (κs .0) (κs .1 .0) (κs .1 .1 .0) (qs .0) (qs .1 .0) (qs .1 .1 .0) (a .0) (a .1 .0) (a .1 .1 .0) (a .1 .1 .1 .0) (a .1 .1 .1 .1 .0 .ptr .0) (a .1 .1 .1 .1 .0 .ptr .1) (a .1 .1 .1 .1 .0 .name) (a .1 .1 .1 .1 .0 .now) (a .1 .1 .1 .1 .1 .0 .ptr .0) (a .1 .1 .1 .1 .1 .0 .ptr .1) (a .1 .1 .1 .1 .1 .0 .name) (a .1 .1 .1 .1 .1 .0 .now) (a .1 .1 .1 .1 .1 .1 .0 .ptr .0) (a .1 .1 .1 .1 .1 .1 .0 .ptr .1) (a .1 .1 .1 .1 .1 .1 .0 .name) (a .1 .1 .1 .1 .1 .1 .0 .now) 𝓣 (fmOf 𝓤 H (W .laws) 𝓣) known-jr known-bf known-po known-co known-wr (are .0 .1) (are .1 .0 .1) (are .1 .1 .0 .1) (are .1 .1 .1 .0 .1) (are .1 .1 .1 .1 .0 .0 .1) (are .1 .1 .1 .1 .1 .0 .0 .1) (are .1 .1 .1 .1 .1 .1 .0 .0 .1))))
 
-pub write-scenario-spec : {M : Type 1} → stated.statement M
+pub murgolab-write-scenario-spec : {M : Type 1} → stated.statement M
 unfolding code.routine tablesOf
-write-scenario-spec 𝓤 H 𝓜 𝓖 𝓡 =
+murgolab-write-scenario-spec 𝓤 H 𝓜 𝓖 𝓡 =
     entered 𝓤 H (tripleOf 𝓤 H (𝓖 .A) f.signature (f.spec 𝓤 H (𝓖 .A) (𝓜 .mem) (𝓡 .run)))
-    (tables 𝓤 H 𝓜 𝓡 code.env .C) (tables 𝓤 H 𝓜 𝓡 code.env .Λ) #records·write·write-scenario code.function (code.unfolded 𝓤 H 𝓜 𝓡)
+    (tables 𝓤 H 𝓜 𝓡 code.env .C) (tables 𝓤 H 𝓜 𝓡 code.env .Λ) #murgolab·murgolab-write-scenario code.function (code.unfolded 𝓤 H 𝓜 𝓡)
     (write-scenario-meets 𝓤 H (𝓖 .A) (givenOf 𝓤 H 𝓜 𝓖) (𝓜 .mem) (𝓡 .run) (tablesOf 𝓤 H 𝓜 (tables 𝓤 H 𝓜 𝓡 code.env))
     (cited 𝓤 H (Judges 𝓤 H (𝓖 .A) (𝓜 .mem) (𝓡 .run)) 𝓜 𝓡 code.env #records·judge·judge-records jr-def.routine code.calls-records·judge·judge-records (jr-thm.met 𝓤 H 𝓜 𝓖 𝓡))
     (cited 𝓤 H (Fronts 𝓤 H (𝓖 .A) (𝓜 .mem) (𝓡 .run)) 𝓜 𝓡 code.env #scenario-write·begin-file bf-def.routine code.calls-scenario-write·begin-file (bf-thm.met 𝓤 H 𝓜 𝓖 𝓡))

@@ -1,4 +1,4 @@
--- `record_marches::calls::round_begun` meets its contract. Assumes nothing.
+-- `record_marches::begun::round_begun` meets its contract. Assumes nothing.
 use mathlib.Core.Path.{_≡_, refl, sym, subst}
 use mathlib.Core.Bool.{true}
 use mathlib.Core.List.{[]}
@@ -10,8 +10,8 @@ use Rattle.eikonal.specs.Ledger.{answer}
 use Rattle.front.specs.declared.Shape.{Shape}
 use Rattle.engine.specs.Calls.{Seated, Goes-round}
 use borrow.Author.Needs.{needs}
-use Rattle.record_marches.proofs.calls.round_begun.Statement.{statement}
-use Rattle.record_marches.proofs.calls.round_begun.Tie as tie
+use Rattle.record_marches.proofs.begun.round_begun.Statement.{statement}
+use Rattle.record_marches.proofs.begun.round_begun.Tie as tie
 
 refused-requires : tie.Need-refused-requires
 refused-requires c κs = search needs

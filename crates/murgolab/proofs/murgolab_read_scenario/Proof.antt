@@ -1,34 +1,34 @@
--- `records::read::read_scenario` meets its contract: a walk of its MIR, by hand: a straight line of calls. Both lists are passed on for good.
+-- `murgolab::murgolab_read_scenario` meets its contract: a walk of its MIR, by hand: a straight line of calls. Both lists are passed on for good.
 use base.Logic.{exE, snd∗}
 use denote.Struct.Laws as LL
 use Rattle.records.specs.declared.Start.{Start}
 use Rattle.records.proofs.Start as T
 use Rattle.records.proofs.Start.Laws as T′
 use Rattle.scenario.specs.File.{held, start-count, file-refusal}
 use Rattle.scenario.specs.Calls.{filled, reader-refusal, reader-answer, Reads}
 use Rattle.scenario.specs.declared.Scenario.{Scenario}
 use Rattle.scenario.proofs.Scenario as C
 use Rattle.scenario.proofs.Scenario.Laws as C′
 use Rattle.records.specs.Records.{cells-of, begins-of, records-in}
 use Rattle.records.proofs.Reading.{to-read, reads-records}
 use Rattle.records.proofs.Walk.{_≡_, refl, sym, ap, _∙_, subst, [], _∷_, _++_, List, ℕ, _<_, _≤_, Holds, length, drop, take, URA, fullShare, Ty, named, erased, imm, mut, tyRef, w8, w32, w64, tyInt, tyUnit, Val, vint, hasTy, WT, SProp, ent, sep, id⊢, via, fst∗, emp, Fml, Lft, Share, GName, ftrue, fat, froom, fdies, flft, Memory, Routine, Heap, WpFn, Wp, Tables, atReturn, Atoms, sem, Fun, fact, givenOf, tables, tablesOf, Given, ‵, raw, _⊛_, ⋆, some, later, atRet, _$_, _∵_, !, qed, by, move, keep, toss, use1, use2, split, join, pick, fsplit, fjoin, feqL, suffices, frame, await, done, look, init, store, forget, stop, hop, fld, from, load, of-opd, addr, and-then, no-more, assigns, land, exec, returns, enter, params1, pass1, pass0, free1, free0, agg, whole, sub, look-in, FmC, fmOf, WpFn-mono, RattleType, owns, pointee, Is, shows, uint-makes, uint-lawful, u8, u32, usize, unit, RefT, now, sliceTy, sliceVal, ShrSlice, MutSlice, Room, finally, slice-vals, shr-slice-tells, mut-slice-tells, shr-slice-copy, only, nothing, owned, peeks, heard, plain, Vals, onEntry, Meets, tripleOf, Contract, Triple, calls-at, ensured, lasts, entered, cited, says, Stays, stay-none-slice, gave-slice, walkOf, goes-none-slice, goes-gave-slice, ends-at, walked, walk-meets, yes, env-of, alloc-all}
 use Rattle.scenario_read.proofs.read_ground as rg
 use Rattle.scenario_read.proofs.read_ground.Symbol as rg-def
 use Rattle.scenario_read.proofs.read_ground.Symbol.{name as #scenario-read·read-ground}
 use Rattle.scenario_read.proofs.read_ground.Met as rg-thm
 use Rattle.records.proofs.read.count_of as co
 use Rattle.records.proofs.read.count_of.Symbol as co-def
 use Rattle.records.proofs.read.count_of.Symbol.{name as #records·read·count-of}
 use Rattle.records.proofs.read.count_of.Met as co-thm
 use Rattle.records.proofs.read.read_records as rr
 use Rattle.records.proofs.read.read_records.Symbol as rr-def
 use Rattle.records.proofs.read.read_records.Symbol.{name as #records·read·read-records}
 use Rattle.records.proofs.read.read_records.Met as rr-thm
-use Rattle.records.proofs.read.read_scenario.Key.{name as #records·read·read-scenario}
-use Rattle.records.proofs.read.read_scenario as f
-use Rattle.records.proofs.read.read_scenario.Statement as stated
-use Rattle.records.proofs.read.read_scenario.Code as code
-use Rattle.records.proofs.read.read_scenario.Code.Mir as mir
+use Rattle.murgolab.proofs.murgolab_read_scenario.Key.{name as #murgolab·murgolab-read-scenario}
+use Rattle.murgolab.proofs.murgolab_read_scenario as f
+use Rattle.murgolab.proofs.murgolab_read_scenario.Statement as stated
+use Rattle.murgolab.proofs.murgolab_read_scenario.Code as code
+use Rattle.murgolab.proofs.murgolab_read_scenario.Code.Mir as mir
 
 abbrev R : RattleType
 R = T.the-row
@@ -184,11 +184,11 @@ module _ {M : Type 1} (𝓤 : URA M) (H : Heap 𝓤) (A : Atoms 𝓤) (W : Given
       (λ κs qs bounds a g are. via 𝓤 _ (fst∗ 𝓤 _ (emp 𝓤))
       (walk 𝓤 H A W mem run (κs .0) (κs .1 .0) (κs .1 .1 .0) (qs .0) (qs .1 .0) (qs .1 .1 .0) (a .0 .ptr .0) (a .0 .ptr .1) (a .0 .name) (a .0 .now) (a .1 .0 .ptr .0) (a .1 .0 .ptr .1) (a .1 .0 .name) (a .1 .0 .now) (a .1 .1 .0 .ptr .0) (a .1 .1 .0 .ptr .1) (a .1 .1 .0 .name) (a .1 .1 .0 .now) 𝓣 (fmOf 𝓤 H (W .laws) 𝓣) known-rg known-co known-rr (are .0 .0 .1) (are .1 .0 .0 .1) (are .1 .1 .0 .0 .1))))
 
-pub read-scenario-spec : {M : Type 1} → stated.statement M
+pub murgolab-read-scenario-spec : {M : Type 1} → stated.statement M
 unfolding code.routine tablesOf
-read-scenario-spec 𝓤 H 𝓜 𝓖 𝓡 =
+murgolab-read-scenario-spec 𝓤 H 𝓜 𝓖 𝓡 =
     entered 𝓤 H (tripleOf 𝓤 H (𝓖 .A) f.signature (f.spec 𝓤 H (𝓖 .A) (𝓜 .mem) (𝓡 .run)))
-    (tables 𝓤 H 𝓜 𝓡 code.env .C) (tables 𝓤 H 𝓜 𝓡 code.env .Λ) #records·read·read-scenario code.function (code.unfolded 𝓤 H 𝓜 𝓡)
+    (tables 𝓤 H 𝓜 𝓡 code.env .C) (tables 𝓤 H 𝓜 𝓡 code.env .Λ) #murgolab·murgolab-read-scenario code.function (code.unfolded 𝓤 H 𝓜 𝓡)
     (read-scenario-meets 𝓤 H (𝓖 .A) (givenOf 𝓤 H 𝓜 𝓖) (𝓜 .mem) (𝓡 .run) (tablesOf 𝓤 H 𝓜 (tables 𝓤 H 𝓜 𝓡 code.env))
     (cited 𝓤 H (Grounds 𝓤 H (𝓖 .A) (𝓜 .mem) (𝓡 .run)) 𝓜 𝓡 code.env #scenario-read·read-ground rg-def.routine code.calls-scenario-read·read-ground (rg-thm.met 𝓤 H 𝓜 𝓖 𝓡))
     (cited 𝓤 H (Counts 𝓤 H (𝓖 .A) (𝓜 .mem) (𝓡 .run)) 𝓜 𝓡 code.env #records·read·count-of co-def.routine code.calls-records·read·count-of (co-thm.met 𝓤 H 𝓜 𝓖 𝓡))

@@ -1,13 +1,13 @@
--- `record_marches::calls::march_begun` meets its contract. Assumes nothing.
+-- `record_marches::begun::run_begun` meets its contract. Assumes nothing.
 use mathlib.Core.Path.{_≡_, refl, sym, subst}
 use Prim.Native.Nat.{_≤_}
 use Rattle.eikonal.specs.Board.{largest}
 use Rattle.eikonal.specs.Ledger.{answer}
 use Rattle.front.specs.declared.Shape.{Shape}
-use Rattle.engine.specs.Calls.{Seated, Marches}
+use Rattle.engine.specs.Calls.{Seated, Runs-through}
 use borrow.Author.Needs.{needs}
-use Rattle.record_marches.proofs.calls.march_begun.Statement.{statement}
-use Rattle.record_marches.proofs.calls.march_begun.Tie as tie
+use Rattle.record_marches.proofs.begun.run_begun.Statement.{statement}
+use Rattle.record_marches.proofs.begun.run_begun.Tie as tie
 
 refused-requires : tie.Need-refused-requires
 refused-requires c κs = search needs
@@ -20,12 +20,12 @@ shape-of-requires c κs =
     let r = c .before .before .before .before .pre (c .if1 .left) in
     (r .0, r .1)
 
-march-requires : tie.Need-march-requires
-march-requires c κs =
+tile-run-requires : tie.Need-tile-run-requires
+tile-run-requires c κs =
     let p = c .before .before .before .before .before .before .before in
     let a = p .args in
     let r = p .pre (c .before .before .before .if1 .left) in
-    subst (λ (s : Shape). (Seated s (a .slow .now) (a .times .now) (a .work .now)) × (s .width ≤ s .across) × (s .height ≤ s .down) × (a .horizon ≤ largest)) (sym (c .before .before .shape-of .ensures)) (r .2, r .0, r .1, r .3)
+    subst (λ (s : Shape). (Seated s (a .slow .now) (a .times .now) (a .work .now)) × (1 ≤ a .stride) × (a .stride ≤ largest) × (a .horizon ≤ largest)) (sym (c .before .before .shape-of .ensures)) (r .2, r .3, r .4, r .5)
 
 same-length : tie.Need-same-length
 same-length c = search needs
@@ -37,11 +37,11 @@ returns-2 : tie.Need-returns-2
 unfolding answer
 returns-2 c =
     let a = c .before .before .before .before .before .before .before .before .before .before .before .before .args in
-    let m = c .before .before .before .before .march in
+    let m = c .before .before .before .before .tile-run in
     record {
       turned-down = λ d. absurd (d (c .before .before .before .before .before .before .before .before .if1 .left));
-      gone-through = λ e. (refl, subst (λ (s : Shape). Marches s (a .slow .now) (a .horizon) (m .result) (a .times .now) (m .last .1 .1 .1 .0) (a .work .now) (m .last .1 .1 .1 .1 .0)) (c .before .before .before .before .before .before .before .shape-of .ensures) (m .ensures));
+      gone-through = λ e. (refl, subst (λ (s : Shape). Runs-through s (a .slow .now) (a .stride) (a .horizon) (m .result) (a .times .now) (m .last .1 .1 .1 .1 .0) (a .work .now) (m .last .1 .1 .1 .1 .1 .0)) (c .before .before .before .before .before .before .before .shape-of .ensures) (m .ensures));
     }
 
-pub march-begun-spec : {M : Type 1} → statement M
-march-begun-spec = tie.close (tie.spec refused-requires returns shape-of-requires march-requires same-length same-length-2 returns-2)
+pub run-begun-spec : {M : Type 1} → statement M
+run-begun-spec = tie.close (tie.spec refused-requires returns shape-of-requires tile-run-requires same-length same-length-2 returns-2)
