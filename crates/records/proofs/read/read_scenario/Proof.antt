@@ -3,7 +3,6 @@ use base.Logic.{exE, snd∗}
 use denote.Struct.Laws as LL
 use Rattle.records.specs.declared.Start.{Start}
 use Rattle.records.proofs.Start as T
-use Rattle.records.proofs.Start.Laws as T′
 use Rattle.scenario.specs.File.{held, start-count, file-refusal}
 use Rattle.scenario.specs.Calls.{filled, reader-refusal, reader-answer, Reads}
 use Rattle.scenario.specs.declared.Scenario.{Scenario}

@@ -3,7 +3,6 @@ use base.Logic.{exE, snd∗}
 use denote.Struct.Laws as LL
 use Rattle.records.specs.declared.Start.{Start}
 use Rattle.records.proofs.Start as T
-use Rattle.records.proofs.Start.Laws as T′
 use mathlib.Core.Bool.{cond}
 use lib.Dec.{eqb}
 use Rattle.eikonal.specs.Refusals.{starts-of}
