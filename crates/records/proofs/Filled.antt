@@ -1,14 +1,11 @@
 -- A list copied into the front of another, element by element; the plain lists of records. Assumes nothing.
-use mathlib.Core.Path.{_≡_, refl, sym, ap, _∙_, subst}
+use mathlib.Core.Path.{_≡_, sym, ap, _∙_}
 use mathlib.Core.List.{List, [], _∷_, _++_, append-assoc}
-use Prim.Native.Nat.{ℕ, zero, suc, _+_, _-_, _<_, _≤_, min}
+use Prim.Native.Nat.{ℕ, zero, suc, _+_, _-_, _<_, _≤_}
 use native.Mathlib.Nat.{le-of-lt, le-trans}
 use native.Mathlib.Omega.{arith}
-use lib.ListN.{length, getD, set, take, drop, replicate, length-map, length-take, length-drop, length-replicate}
-use lib.Seq.{take-suc, take-all, drop-cons, set-at, length-take-le, length-front, getD-take, getD-drop}
-use Rattle.records.specs.declared.Start.{Start}
-use Rattle.records.specs.declared.parts.Part.{Part}
-use Rattle.records.specs.Records.{cells-of, begins-of, padded, part-of}
+use lib.ListN.{length, getD, set, take, drop}
+use lib.Seq.{take-suc, take-all, drop-cons, set-at, length-take-le, length-front}
 
 -- i elements of cs, and the rest of xs
 abbrev pub filled : {A : Type 0} → List A → List A → ℕ → List A

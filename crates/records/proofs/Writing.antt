@@ -10,7 +10,6 @@ use lib.Dec.{eqb}
 use borrow.Author.Tests.{eq-eqb, ne-eqb}
 use lib.ListN.{length, take, drop, length-map, length-append, length-take, length-drop, take-append-drop}
 use lib.Seq.{take-add, take-all, take-at, drop-at, drop-drop, length-take-le}
-use Rattle.eikonal.specs.Board.{Start as Plain-start}
 use Rattle.eikonal.specs.Refusals.{starts-of}
 use Rattle.eikonal.specs.Entry.{plain}
 use Rattle.eikonal.specs.Inner.Judge.{judge, nothing-judged}
@@ -26,7 +25,7 @@ use Rattle.scenario.proofs.Beginning.{judged-most, Awaits, awaits, writes-none,
 use Rattle.records.specs.declared.Start.{Start}
 use Rattle.records.specs.declared.parts.Part.{Part}
 use Rattle.records.specs.Records.{cells-of, begins-of, part-of}
-use Rattle.records.proofs.Split.{part-at, part-long, plain-of, plain-append, plain-next, plain-all, plain-long, part-starts}
+use Rattle.records.proofs.Split.{part-at, part-long, plain-of, plain-append, plain-long, part-starts}
 
 -- a list in which bs stands from a place on, and all else stays
 abbrev pub entered : (at : ℕ) → (bs out : List ℕ) → List ℕ

@@ -1,6 +1,6 @@
 -- The writer's call in two parts: all in front of the starts, then the starts. Assumes nothing.
 use mathlib.Core.Path.{_≡_, refl, sym, ap, ap₂, _∙_}
-use mathlib.Core.Bool.{cond, _&&_}
+use mathlib.Core.Bool.{_&&_}
 use mathlib.Core.List.{List, [], _++_, append-assoc}
 use Prim.Native.Nat.{ℕ, _+_, _-_, _*_, _≤_, _<_}
 use native.Mathlib.Omega.{arith}
@@ -26,7 +26,7 @@ use Rattle.scenario.proofs.Records.{length-bytes}
 use Rattle.scenario.proofs.Causes.{met, passed, or-else-first, or-else-next, or-else-zero, size-most, sound, rise-count}
 use Rattle.scenario.proofs.Answers.{answered-number, answered-zero, entered, kept}
 use Rattle.scenario.proofs.Written.{run-length, start-length, head-length}
-use Rattle.scenario.proofs.Writing.{Taken, took-written, given-long, length-starts, taken, slow-most, written-length, writes-refused, writes-short, writes-done}
+use Rattle.scenario.proofs.Writing.{Taken, took-written, given-long, length-starts, taken, written-length, writes-refused, writes-short, writes-done}
 
 pub front-length : (w h t g : ℕ) (ss : List ℕ) (q : ℕ) → length (front w h t g ss q) ≡ 16 + 10 * length (runs-of g ss)
 unfolding front

@@ -9,12 +9,11 @@ use Rattle.eikonal.proofs.refusals.Judged.Laws as J′
 use Rattle.records.specs.declared.Start.{Start}
 use Rattle.records.specs.declared.parts.Part.{Part}
 use Rattle.records.specs.Records.{cells-of, begins-of, part-of}
-use Rattle.records.proofs.Walk.{_≡_, refl, sym, ap, _∙_, WellFounded, InvImage·wf, [], _∷_, List, ℕ, _+_, _-_, _<_, _≤_, _^_, lt-of-le-of-lt, arith, Holds, ltb, ltb→lt, nltb→le, lit<, length, take, Nat·lt-wfRel, URA, fullShare, Ty, Code, loop, named, imm, tyRef, w32, w64, tyInt, tyBool, Fits, Val, vbool, vint, SProp, ent, sep, id⊢, Fml, Lft, Share, GName, ftrue, fat, froom, fdies, flft, Memory, Routine, Heap, Calls, Loops, Out, Env, WpFn, Wp, Tables, afterBlock, afterSeq, atReturn, afterTurn, Atoms, sem, Fun, fact, givenOf, tables, tablesOf, anyQ, Given, Item, ‵, raw, _⊛_, ⋆, some, later, atRet, _$_, _∵_, !, qed, by, move, keep, toss, use1, use2, split, join, pick, rewrite, fsplit, fjoin, suffices, frame, await, done, look, init, store, forget, stop, fld, from, load, lit, of-opd, bin, and-then, no-more, assigns, assigns-last, land, first, blocks, branches, skips, jumps, exec, again, Below, returns, enter, params1, pass1, pass0, free1, free0, whole, sub, look-in, loop-rule, FmC, fmOf, WpFn-mono, RattleType, owns, pointee, Is, shows, uint-makes, u32, usize, RefT, sliceTy, sliceVal, ShrSlice, Room, slice-vals, shr-slice-tells, shr-slice-copy, nothing, owned, peeks, heard, plain, Vals, onEntry, Meets, tripleOf, Contract, Triple, calls-at, ensured, lasts, entered, cited, says, Stays, stay-none-slice, walkOf, goes-none-slice, Walks, ends-at, walked, walk-meets, yes, via, fst∗, emp, after, env-of, alloc-all}
+use Rattle.records.proofs.Walk.{_≡_, refl, _∙_, WellFounded, InvImage·wf, [], _∷_, List, ℕ, _+_, _-_, _<_, _≤_, lt-of-le-of-lt, arith, ltb, ltb→lt, nltb→le, lit<, length, take, Nat·lt-wfRel, URA, fullShare, Ty, loop, named, imm, tyRef, w32, w64, tyInt, tyBool, Fits, Val, vbool, vint, SProp, ent, sep, id⊢, Fml, Lft, Share, GName, ftrue, fat, froom, fdies, flft, Memory, Routine, Heap, Calls, Loops, Out, Env, WpFn, Wp, Tables, afterBlock, afterSeq, atReturn, afterTurn, Atoms, sem, Fun, fact, givenOf, tables, tablesOf, anyQ, Given, Item, ‵, raw, _⊛_, ⋆, some, later, atRet, _$_, _∵_, !, qed, by, move, keep, toss, use1, use2, split, join, pick, rewrite, fsplit, fjoin, suffices, frame, await, done, look, init, store, forget, stop, fld, from, load, lit, of-opd, bin, and-then, no-more, assigns, assigns-last, land, first, blocks, branches, skips, jumps, exec, again, Below, returns, enter, params1, pass1, pass0, free1, free0, whole, sub, look-in, loop-rule, FmC, fmOf, WpFn-mono, RattleType, owns, pointee, Is, shows, uint-makes, u32, usize, RefT, sliceTy, sliceVal, ShrSlice, Room, slice-vals, shr-slice-tells, shr-slice-copy, nothing, owned, peeks, heard, plain, Vals, onEntry, Meets, tripleOf, Contract, Triple, calls-at, ensured, lasts, entered, cited, says, Stays, stay-none-slice, walkOf, goes-none-slice, ends-at, walked, walk-meets, yes, via, fst∗, emp, after, env-of, alloc-all}
 use Rattle.records.proofs.Split.{part-at, part-room}
 use Rattle.records.proofs.Walk.{next-part}
 use Rattle.records.proofs.Judging.{judged-none, judged-more, judged-all, judged-to}
 use Rattle.records.proofs.Start as T
-use Rattle.records.proofs.Start.Laws as T′
 use Rattle.records.proofs.parts.Part as P
 use Rattle.records.proofs.parts.Part.Laws as P′
 use Rattle.eikonal.proofs.refusals.nothing_judged as nj

@@ -6,8 +6,8 @@ use denote.Struct.Laws as LL
 use Rattle.records.specs.declared.Start.{Start}
 use Rattle.records.specs.declared.parts.Part.{Part}
 use Rattle.records.specs.Records.{padded, part-of}
-use Rattle.records.proofs.Walk.{_≡_, refl, sym, ap, _∙_, WellFounded, InvImage·wf, [], _∷_, List, ℕ, _+_, _-_, _<_, _≤_, _^_, min, lt-of-le-of-lt, arith, Holds, ltb, ltb→lt, nltb→le, lit<, length, set, getD, take, drop, replicate, Nat·lt-wfRel, URA, fullShare, Ty, Code, loop, named, imm, tyRef, w32, w64, tyInt, tyBool, tyPtr, Fits, Val, vbool, vint, vptr, hasTy, WT, SProp, ent, sep, id⊢, Lft, Share, GName, ftrue, fat, froom, fdies, flft, fobor, fres, fshr-bor, Memory, Routine, Heap, Calls, Loops, Out, Env, WpFn, Wp, Tables, afterBlock, afterSeq, atReturn, afterTurn, Atoms, sem, Fun, fact, givenOf, tables, tablesOf, anyQ, Given, Item, ‵, raw, _⊛_, ⋆, some, later, atRet, _$_, _∵_, !, qed, by, move, keep, toss, use1, use2, split, join, pick, rewrite, fsplit, fjoin, suffices, frame, await, done, look, init, store, forget, stop, hop, fld, from, load, lit, of-opd, bin, addr, and-then, no-more, assigns, assigns-last, land, first, blocks, branches, skips, jumps, exec, again, Below, returns, enter, params1, pass1, pass0, free1, free0, rep, whole, sub, look-in, arr-parts, loop-rule, FmC, fmOf, WpFn-mono, RattleType, owns, shares, pointee, Is, shows, uint-vals, uint-tells, uint-makes, uint-lawful, uint-copy, u32, usize, arrayVal, array-repeat, RefT, sliceTy, sliceVal, ShrSlice, Room, heres, codedHoleys, at-slice, slice-vals, shr-slice-tells, row, place-is, elem-out, elem-back, elem-put, looks-slice, shuts-slice, only, nothing, owned, peeks, heard, plain, Vals, onEntry, Meets, tripleOf, Contract, Triple, calls-at, ensured, lasts, entered, cited, says, needs, Stays, stay-none, stay-none-slice, walkOf, goes-none, goes-none-slice, Walks, ends-at, walked, walk-meets, yes, scaled-fits, after, env-of, alloc-all, A256, array-ty, array-val, array-fits, zeros-typed, zeros-in, array-out}
-use Rattle.records.proofs.Split.{none, zeros, part-at, part-long, copied, copied-long, copied-next, copied-all, part-is}
+use Rattle.records.proofs.Walk.{_≡_, refl, sym, ap, _∙_, WellFounded, InvImage·wf, [], _∷_, List, ℕ, _+_, _-_, _<_, _≤_, _^_, min, lt-of-le-of-lt, arith, ltb, ltb→lt, nltb→le, lit<, length, getD, Nat·lt-wfRel, URA, fullShare, Ty, loop, named, imm, tyRef, w32, w64, tyInt, tyBool, tyPtr, Fits, Val, vbool, vint, vptr, SProp, ent, sep, id⊢, Lft, Share, GName, ftrue, fat, froom, fdies, flft, fobor, fres, fshr-bor, Memory, Routine, Heap, Calls, Loops, Out, Env, WpFn, Wp, Tables, afterBlock, afterSeq, atReturn, afterTurn, Atoms, sem, Fun, fact, givenOf, tables, tablesOf, anyQ, Given, Item, ‵, raw, _⊛_, ⋆, some, later, atRet, _$_, _∵_, !, qed, by, move, keep, toss, use1, use2, split, join, pick, rewrite, fsplit, fjoin, suffices, frame, await, done, look, init, store, forget, stop, hop, fld, from, load, lit, of-opd, bin, addr, and-then, no-more, assigns, assigns-last, land, first, blocks, branches, skips, jumps, exec, again, Below, returns, enter, params1, pass1, pass0, free1, free0, rep, whole, sub, look-in, arr-parts, loop-rule, FmC, fmOf, WpFn-mono, RattleType, owns, shares, pointee, Is, shows, uint-vals, uint-tells, uint-makes, uint-lawful, u32, usize, RefT, sliceTy, sliceVal, ShrSlice, Room, heres, codedHoleys, at-slice, slice-vals, shr-slice-tells, row, place-is, elem-out, elem-back, elem-put, looks-slice, shuts-slice, only, nothing, owned, peeks, heard, plain, Vals, onEntry, Meets, tripleOf, Contract, Triple, calls-at, ensured, lasts, entered, cited, says, needs, Stays, stay-none, stay-none-slice, walkOf, goes-none, goes-none-slice, Walks, ends-at, walked, walk-meets, yes, scaled-fits, after, env-of, alloc-all, A256, array-ty, array-val, array-fits, zeros-typed, zeros-in, array-out}
+use Rattle.records.proofs.Split.{none, zeros, part-at, copied, copied-long, copied-next, copied-all, part-is}
 use Rattle.records.proofs.Start as T
 use Rattle.records.proofs.Start.Laws as T′
 use Rattle.records.proofs.parts.Part as P

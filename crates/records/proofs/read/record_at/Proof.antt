@@ -2,7 +2,6 @@
 use Prim.Native.Nat.{_+_, _*_, _≤_}
 use native.Mathlib.Omega.{arith}
 use lib.ListN.{length}
-use borrow.Author.Needs.{needs}
 use Rattle.scenario.proofs.Causes.{accepted}
 use Rattle.records.proofs.Reading.{record-is}
 use Rattle.records.proofs.read.record_at.Statement.{statement}

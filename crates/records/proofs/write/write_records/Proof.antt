@@ -3,7 +3,6 @@ use base.Logic.{exE, snd∗}
 use denote.Struct.Laws as LL
 use Rattle.records.specs.declared.Start.{Start}
 use Rattle.records.proofs.Start as T
-use Rattle.records.proofs.Start.Laws as T′
 use Rattle.records.specs.declared.parts.Part.{Part}
 use Rattle.records.specs.Records.{cells-of, begins-of, part-of}
 use Rattle.records.proofs.parts.Part as P
