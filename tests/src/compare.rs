@@ -95,7 +95,7 @@ impl Tally {
     }
 }
 
-fn assert_same<T: PartialEq + Debug>(what: &str, got: &[T], want: &[T], told: impl Fn() -> String) {
+pub fn assert_same<T: PartialEq + Debug>(what: &str, got: &[T], want: &[T], told: impl Fn() -> String) {
     if let Some(at) = difference(got, want) {
         panic!("{}: {}, {}", what, at, told());
     }
