@@ -132,3 +132,32 @@ fn rings_of_the_three_by_three_board_are_those_worked_by_hand() {
     assert_eq!(rings(&file), "3 3 10\n0 1 2\n1 1 2\n2 2 3\n");
     assert_eq!(rings(&file[..23]), "refused 1\n");
 }
+
+/// What a march gives to the second solver, with lists as long as they must be.
+fn marched(board: Board, times: usize) -> (Reply, Vec<u32>) {
+    let (mut times, mut work) = (vec![7; times], vec![9; 4 * times]);
+    let reply = Call { board, kind: Kind::March { horizon: LARGEST } }.play(&mut times, &mut work);
+    (reply, times)
+}
+
+#[test]
+fn the_other_boards_are_those_worked_by_hand() {
+    let no_starts = Board { cells: vec![], begins: vec![], ..three_by_three() };
+    assert_eq!(marched(no_starts, 9), (Reply::accepted(0), vec![NEVER; 9]));
+    let late = Board { cells: vec![0, 1], begins: vec![0, 15], ..three_by_three() };
+    assert_eq!(marched(late, 9), (Reply::accepted(9), SOLVED.to_vec()));
+    for (begin, reply) in [(1_000_000, Reply::accepted(9)), (1_000_001, Reply::refused(8))] {
+        let board = Board { begins: vec![begin], ..three_by_three() };
+        assert_eq!(marched(board, 9).0, reply, "start time {}", begin);
+    }
+    for (width, height, reply) in [
+        (256, 1, Reply::accepted(256)),
+        (1, 256, Reply::accepted(256)),
+        (257, 1, Reply::refused(2)),
+        (0, 256, Reply::refused(2)),
+    ] {
+        let size = (width * height) as usize;
+        let board = Board { width, height, slow: vec![10; size], cells: vec![0], begins: vec![0] };
+        assert_eq!(marched(board, size).0, reply, "{} by {}", width, height);
+    }
+}

@@ -5,3 +5,4 @@ pub mod Judging
 pub mod Again
 pub mod Writing
 pub mod Reading
+pub mod Promises
