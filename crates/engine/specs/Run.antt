@@ -4,7 +4,7 @@ use mathlib.Core.Logic.{_≢_}
 use mathlib.Core.List.{List}
 use Prim.Native.Nat.{ℕ, suc, _*_, _≤_, _<_, min}
 use lib.ListN.{length, getD}
-use Rattle.eikonal.specs.Board.{Board, Start, size, start-time, time, marched}
+use Rattle.eikonal.specs.Board.{Board, Start, size, start-time, time}
 use Rattle.eikonal.specs.Tiles.{altered, after-rounds, rounds}
 use Rattle.eikonal.proofs.Good.{Good}
 use Rattle.queue.specs.Tree.{keys}
@@ -53,17 +53,17 @@ pub record Leapt (least done stride horizon r : ℕ) : Type 0 where
   pub up : done ≤ r
   pub short : done < r → r * stride < min least horizon
 
--- A WHOLE TILE RUN: its rounds, and the march's times
-pub record Ran (s : Shape) (slow : List ℕ) (xs : List Start) (stride horizon r : ℕ) (times times' work work' : List ℕ) : Type 0 where
-  pub counted : r ≡ rounds (whole s slow xs) (s .across) (s .down) stride horizon
-  pub marches : times' ≡ marched (whole s slow xs) horizon
+-- A TILE RUN WITH A LIMIT: it counts the lesser of the limit and the number of rounds, and holds the times after so many
+pub record Ran (s : Shape) (slow : List ℕ) (xs : List Start) (stride horizon limit r : ℕ) (times times' work work' : List ℕ) : Type 0 where
+  pub counted : r ≡ min limit (rounds (whole s slow xs) (s .across) (s .down) stride horizon)
+  pub holds : times' ≡ after-rounds r (whole s slow xs) (s .across) (s .down) stride horizon
   pub long : length times' ≡ length times
   pub kept : length work' ≡ length work
   pub past : (i : ℕ) → 4 * s .cells ≤ i → getD work' i 0 ≡ getD work i 0
 
--- WHATEVER STARTS the work list stands for: one round more, and a whole run
+-- WHATEVER STARTS the work list stands for: one round more, and a run with a limit
 abbrev pub Rounds-on : Shape → (slow : List ℕ) → (stride horizon j m : ℕ) → (times times' work work' : List ℕ) → Type 0
 Rounds-on s ss S H j m ts ts' v v' = (xs : List Start) → Good (whole s ss xs) → At-round s ss xs S H j ts v → One-round s ss xs S H j m ts ts' v v'
 
-abbrev pub Runs : Shape → (slow : List ℕ) → (stride horizon r : ℕ) → (times times' work work' : List ℕ) → Type 0
-Runs s ss S H r ts ts' v v' = (xs : List Start) → Good (whole s ss xs) → At-round s ss xs S H 0 ts v → Ran s ss xs S H r ts ts' v v'
+abbrev pub Runs : Shape → (slow : List ℕ) → (stride horizon limit r : ℕ) → (times times' work work' : List ℕ) → Type 0
+Runs s ss S H limit r ts ts' v v' = (xs : List Start) → Good (whole s ss xs) → At-round s ss xs S H 0 ts v → Ran s ss xs S H limit r ts ts' v v'

@@ -81,7 +81,8 @@ fn round(
     m
 }
 
-// Works rounds out, or leaps over them, until a round at the horizon alters nothing. Answers how many there are.
+// Works rounds out, or leaps over them, until a round at the horizon alters nothing or the limit of rounds is reached: for every limit
+// the times are those after so many rounds. Answers how many there are.
 pub fn run(
     slow: &[u32],
     times: &mut [u32],
@@ -91,13 +92,14 @@ pub fn run(
     shape: Shape,
     stride: u32,
     horizon: u32,
+    limit: u32,
 ) -> u32
     requires { ⌜ Ground shape (now slow) (now times) (now cols) (now rows) × Amid shape (now slow) stride horizon 0 (now times) (now work) × (1 ≤ stride) × (stride ≤ largest) × (horizon ≤ largest) ⌝ }
-    ensures { λ r. ⌜ Runs shape (now (slow .entry)) stride horizon r (now (times .entry)) (now (times .exit)) (now (work .entry)) (now (work .exit)) ⌝ }
+    ensures { λ r. ⌜ Runs shape (now (slow .entry)) stride horizon limit r (now (times .entry)) (now (times .exit)) (now (work .entry)) (now (work .exit)) ⌝ }
 {
     let n = shape.cells;
     let mut done = 0;
-    loop {
+    while done < limit {
         let m = round(slow, times, work, cols, rows, shape, done, stride, horizon);
         done += 1;
         if m == 0 {
@@ -105,6 +107,7 @@ pub fn run(
                 return done;
             }
         }
-        done = leap(least_key(work, n), done, stride, horizon);
+        done = lesser(leap(least_key(work, n), done, stride, horizon), limit);
     }
+    done
 }

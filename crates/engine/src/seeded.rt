@@ -10,6 +10,9 @@ ghost use Rattle.engine.specs.Calls.{Seated, Marches, Runs-through, Goes
 use eikonal::arrival::NEVER;
 use front::Shape;
 
+// A limit that stops no tile run: none has more than 300,000,000 + 65,536 rounds (`rounds-short` of proofs/Theory/Running.antt).
+const MOST_ROUNDS: u32 = 1000000000;
+
 fn wide(x: u32) -> usize
     ensures { λ r. ⌜ r ≡ x ⌝ }
 {
@@ -58,7 +61,17 @@ pub fn tile_run(
     rows::whole::fill(times, 0, n, NEVER);
     let cols = front::seams::lay(shape.width, shape.across);
     let rows = front::seams::lay(shape.height, shape.down);
-    let count = super::run::run(slow, times, work, &cols, &rows, shape, stride, horizon);
+    let count = super::run::run(
+        slow,
+        times,
+        work,
+        &cols,
+        &rows,
+        shape,
+        stride,
+        horizon,
+        MOST_ROUNDS,
+    );
     rows::whole::fill(work, 0, 4 * n, 0);
     count
 }

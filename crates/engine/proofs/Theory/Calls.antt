@@ -32,7 +32,7 @@ use Rattle.engine.specs.Calls.{Fit, Through}
 use Rattle.front.specs.declared.Shape.{Shape}
 use Rattle.engine.proofs.Theory.Rounds.{drained-round}
 use Rattle.rows.proofs.Theory.Lists.{filled-front}
-use Rattle.engine.proofs.Theory.Running.{size-whole}
+use Rattle.engine.proofs.Theory.Running.{size-whole, run-counts, run-marches}
 use Rattle.front.proofs.Theory.Front.{Lawful}
 use Rattle.front.proofs.Theory.Sight.{gives-late}
 use Rattle.front.proofs.Theory.Draining.{lawful}
@@ -126,11 +126,11 @@ module _ (s : Shape) (slow : List ℕ) (xs : List Start) (times work : List ℕ)
     }
 
     -- and goes through
-    pub run-through : (us v2 v3 : List ℕ) (r : ℕ) → Ran s slow xs S H r ts us work v2
+    pub run-through : 1 ≤ S → S ≤ largest → H ≤ largest → (us v2 v3 : List ℕ) (limit r : ℕ) → 1000000000 ≤ limit → Ran s slow xs S H limit r ts us work v2
         → Filled 0 (4 * s .cells) 0 v2 v3 → Through (s .cells) (rounds (whole s slow xs) (s .across) (s .down) S H) (marched (whole s slow xs) H) r us work v3
-    run-through us v2 v3 r ran fi = record {
-      counts = ran .counted;
-      enters = ran .marches;
+    run-through low high horizon us v2 v3 limit r beyond ran fi = record {
+      counts = run-counts s slow xs (fit .good) S H low high horizon ran beyond;
+      enters = run-marches s slow xs (fit .good) S H low high horizon ran beyond;
       wipes = wiped (s .cells) work v2 v3 (fit .room) (ran .kept) (ran .past) fi;
     }
 

@@ -204,15 +204,22 @@ module _ (s : Shape) (slow : List ℕ) (xs : List Start) (good : Good (whole s s
             absurd (true≢false (sym (rounds-last (whole s slow xs) good (s .across) (s .down) S H stride horizon)
             ∙ md .more total-rounds (rounds-low (whole s slow xs) good (s .across) (s .down) S H stride horizon) l))
 
+    pub run-short : done < 1000000000
+    run-short = omega (arith, rounds-short, rounds-left)
+
+    -- the limit is reached
+    pub run-stops : {limit : ℕ} → limit ≡ done → Ran s slow xs S H limit done ts₀ ts v₀ v
+    run-stops e = record { counted = omega (arith, rounds-left); holds = md .at .between .is; long = md .long; kept = md .kept; past = md .past }
+
     module _ {m : ℕ} {ts' v' : List ℕ} (one : One-round s slow xs S H done m ts ts' v v') where
       -- the last one: at the horizon, and it took no cell
-      pub run-ends : m ≡ 0 → leb H (suc done * S) ≡ true → Ran s slow xs S H (suc done) ts₀ ts' v₀ v'
-      run-ends e l =
+      pub run-ends : m ≡ 0 → leb H (suc done * S) ≡ true → {limit : ℕ} → done < limit → Ran s slow xs S H limit (suc done) ts₀ ts' v₀ v'
+      run-ends e l below =
           let last = is-last good (s .across) (s .down) S H stride horizon done (leb-true H (suc done * S) l) (one .idle e) in
           let is = rounds-is (whole s slow xs) good (s .across) (s .down) S H stride horizon (suc done) (omega arith) last (λ k a b. md .more k a (omega arith)) in
           record {
-            counted = sym is;
-            marches = one .next .between .is ∙ ap (λ (k : ℕ). after-rounds k (whole s slow xs) (s .across) (s .down) S H) (sym is) ∙ rounds-march (whole s slow xs) good (s .across) (s .down) S H stride horizon;
+            counted = omega (arith, is);
+            holds = one .next .between .is;
             long = one .long ∙ md .long;
             kept = one .kept ∙ md .kept;
             past = λ i k. one .past i k ∙ md .past i k;
@@ -264,3 +271,19 @@ module _ (s : Shape) (slow : List ℕ) (xs : List Start) (good : Good (whole s s
 
   pub run-begins : {ts v : List ℕ} → At-round s slow xs S H 0 ts v → Mid-run s slow xs S H 0 ts ts v v
   run-begins at = record { long = refl; kept = refl; past = λ i l. refl; at = at; more = λ k a b. absurd (omega arith) }
+
+  -- a limit that no board's rounds pass: all rounds, and the march's times
+  module _ {limit r : ℕ} {ts ts' v v' : List ℕ} (ran : Ran s slow xs S H limit r ts ts' v v') (beyond : 1000000000 ≤ limit) where
+    pub run-counts : r ≡ total-rounds
+    run-counts = omega (arith, ran .counted, rounds-short)
+
+    pub run-marches : ts' ≡ marched (whole s slow xs) H
+    run-marches =
+        ran .holds ∙ ap (λ (k : ℕ). after-rounds k (whole s slow xs) (s .across) (s .down) S H) run-counts
+        ∙ rounds-march (whole s slow xs) good (s .across) (s .down) S H stride horizon
+
+-- a leap that stops at the limit
+pub leap-cut : {least done S H r limit to : ℕ} → Leapt least done S H r → done ≤ limit → to ≡ min r limit → Leapt least done S H to
+leap-cut {S = S} {r} {to = to} lp within e =
+    let short : to ≤ r = omega arith in
+    record { up = omega (arith, lp .up); short = λ h. omega (arith, lp .short (omega arith), mul-le-mul-right S short) }

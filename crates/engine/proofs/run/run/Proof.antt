@@ -8,102 +8,121 @@ use mathlib.Core.Logic.{⊎-elim}
 use mathlib.Core.Bool.{true, false}
 use mathlib.Core.List.{List}
 use lib.Dec.{leb}
+use borrow.Author.Needs.{needs}
 use Rattle.eikonal.specs.Board.{Start}
 use Rattle.eikonal.proofs.Good.{Good}
 use Rattle.front.proofs.Theory.Reading.{cells-most}
 use Rattle.engine.specs.Run.{whole, At-round, Leapt}
-use Rattle.engine.proofs.Theory.Running.{ground-kept, size-whole, Mid-run, rounds-short, rounds-left, run-begins, run-ends, run-goes-on, run-early, run-busy}
+use Rattle.engine.proofs.Theory.Running.{ground-kept, size-whole, Mid-run, run-short, run-begins, run-stops, run-ends, leap-cut, run-goes-on, run-early, run-busy}
 use Rattle.engine.proofs.run.run.Statement.{statement}
 use Rattle.engine.proofs.run.run.Tie as tie
 
 abbrev Inv-loop : tie.InvT-loop
-Inv-loop slow times₀ work₀ cols rows shape stride horizon n done₀ times work done =
-    (xs : List Start) → Good (whole shape slow xs) → At-round shape slow xs stride horizon 0 times₀ work₀ → Mid-run shape slow xs stride horizon done times₀ times work₀ work
+Inv-loop slow times₀ work₀ cols rows shape stride horizon limit n done₀ times work done =
+    (done ≤ limit)
+    × ((xs : List Start) → Good (whole shape slow xs) → At-round shape slow xs stride horizon 0 times₀ work₀ → Mid-run shape slow xs stride horizon done times₀ times work₀ work)
 
--- no board has more rounds
 abbrev μ-loop : tie.MeasureT-loop
-μ-loop slow times₀ work₀ cols rows shape stride horizon n done₀ times work done = 1000000000 - done
+μ-loop slow times₀ work₀ cols rows shape stride horizon limit n done₀ times work done = limit - done
 
 loop-holds : tie.Need-loop-holds Inv-loop μ-loop
-loop-holds c xs good at =
+loop-holds c =
     let p = c .before .before .before in
     let a = p .args in
-    run-begins (a .shape) (a .slow .now) xs good (a .stride) (a .horizon) (p .pre .2) (p .pre .3) (p .pre .4) at
+    (omega arith, λ xs good at. run-begins (a .shape) (a .slow .now) xs good (a .stride) (a .horizon) (p .pre .2) (p .pre .3) (p .pre .4) at)
 
 round-requires : tie.Need-round-requires Inv-loop μ-loop
 round-requires c κs =
-    let p = c .before .before .before .before .before .before in
+    let p = c .before .before .before .before .before .before .before in
     let a = p .args in
     let o = p .pre .1 in
-    let md = c .before .before .loop .inv (o .starts) (o .good) (o .at) in
-    (ground-kept (a .shape) (a .slow .now) (o .starts) (md .long) (p .pre .0), record { starts = o .starts; good = o .good; at = md .at }, omega (arith, rounds-short (a .shape) (a .slow .now) (o .starts) (o .good) (a .stride) (a .horizon) (p .pre .2) (p .pre .3) (p .pre .4), rounds-left (a .shape) (a .slow .now) (o .starts) (o .good) (a .stride) (a .horizon) (p .pre .2) (p .pre .3) (p .pre .4) md), p .pre .2, p .pre .3, p .pre .4)
+    let md = c .before .before .before .loop .inv .1 (o .starts) (o .good) (o .at) in
+    (ground-kept (a .shape) (a .slow .now) (o .starts) (md .long) (p .pre .0), record { starts = o .starts; good = o .good; at = md .at }, omega (arith, run-short (a .shape) (a .slow .now) (o .starts) (o .good) (a .stride) (a .horizon) (p .pre .2) (p .pre .3) (p .pre .4) md), p .pre .2, p .pre .3, p .pre .4)
 
 add-done : tie.Need-add-done Inv-loop μ-loop
 add-done c =
-    let p = c .before .before .before .before .before .before .before .before .before .before .before in
-    let a = p .args in
-    let o = p .pre .1 in
-    omega (arith, rounds-short (a .shape) (a .slow .now) (o .starts) (o .good) (a .stride) (a .horizon) (p .pre .2) (p .pre .3) (p .pre .4), rounds-left (a .shape) (a .slow .now) (o .starts) (o .good) (a .stride) (a .horizon) (p .pre .2) (p .pre .3) (p .pre .4) (c .before .before .before .before .before .before .before .loop .inv (o .starts) (o .good) (o .at)))
-
-at-horizon-requires : tie.Need-at-horizon-requires Inv-loop μ-loop
-at-horizon-requires c κs =
     let p = c .before .before .before .before .before .before .before .before .before .before .before .before in
     let a = p .args in
     let o = p .pre .1 in
-    (omega (arith, rounds-short (a .shape) (a .slow .now) (o .starts) (o .good) (a .stride) (a .horizon) (p .pre .2) (p .pre .3) (p .pre .4), rounds-left (a .shape) (a .slow .now) (o .starts) (o .good) (a .stride) (a .horizon) (p .pre .2) (p .pre .3) (p .pre .4) (c .before .before .before .before .before .before .before .before .loop .inv (o .starts) (o .good) (o .at))), p .pre .3)
+    omega (arith, run-short (a .shape) (a .slow .now) (o .starts) (o .good) (a .stride) (a .horizon) (p .pre .2) (p .pre .3) (p .pre .4) (c .before .before .before .before .before .before .before .before .loop .inv .1 (o .starts) (o .good) (o .at)))
+
+at-horizon-requires : tie.Need-at-horizon-requires Inv-loop μ-loop
+at-horizon-requires c κs =
+    let p = c .before .before .before .before .before .before .before .before .before .before .before .before .before in
+    let a = p .args in
+    let o = p .pre .1 in
+    (omega (arith, run-short (a .shape) (a .slow .now) (o .starts) (o .good) (a .stride) (a .horizon) (p .pre .2) (p .pre .3) (p .pre .4) (c .before .before .before .before .before .before .before .before .before .loop .inv .1 (o .starts) (o .good) (o .at))), p .pre .3)
 
 same-length : tie.Need-same-length Inv-loop μ-loop
 same-length c =
-    let o = c .before .before .before .before .before .before .before .before .before .before .before .before .before .before .pre .1 in
-    let md = c .before .before .before .before .before .before .before .before .before .before .loop .inv (o .starts) (o .good) (o .at) in
+    let o = c .before .before .before .before .before .before .before .before .before .before .before .before .before .before .before .pre .1 in
+    let md = c .before .before .before .before .before .before .before .before .before .before .before .loop .inv .1 (o .starts) (o .good) (o .at) in
     c .before .before .before .before .before .before .before .round .ensures (o .starts) (o .good) (md .at) .long ∙ md .long
 
 same-length-2 : tie.Need-same-length-2 Inv-loop μ-loop
 same-length-2 c =
-    let o = c .before .before .before .before .before .before .before .before .before .before .before .before .before .before .pre .1 in
-    let md = c .before .before .before .before .before .before .before .before .before .before .loop .inv (o .starts) (o .good) (o .at) in
+    let o = c .before .before .before .before .before .before .before .before .before .before .before .before .before .before .before .pre .1 in
+    let md = c .before .before .before .before .before .before .before .before .before .before .before .loop .inv .1 (o .starts) (o .good) (o .at) in
     c .before .before .before .before .before .before .before .round .ensures (o .starts) (o .good) (md .at) .kept ∙ md .kept
 
 returns : tie.Need-returns Inv-loop μ-loop
 returns c xs good at =
-    let p = c .before .before .before .before .before .before .before .before .before .before .before .before .before .before in
+    let p = c .before .before .before .before .before .before .before .before .before .before .before .before .before .before .before in
     let a = p .args in
-    let md = c .before .before .before .before .before .before .before .before .before .before .loop .inv xs good at in
-    let done = c .before .before .before .before .before .before .before .before .before .before .loop .done in
-    rw (add-one done) (run-ends (a .shape) (a .slow .now) xs good (a .stride) (a .horizon) (p .pre .2) (p .pre .3) (p .pre .4) md (c .before .before .before .before .before .before .before .round .ensures xs good (md .at)) (c .before .before .if1 .taken) (subst (λ u. leb (a .horizon) (u * a .stride) ≡ true) (add-one done) (sym (c .before .at-horizon .ensures) ∙ c .if2 .taken)))
+    let md = c .before .before .before .before .before .before .before .before .before .before .before .loop .inv .1 xs good at in
+    let done = c .before .before .before .before .before .before .before .before .before .before .before .loop .done in
+    rw (add-one done) (run-ends (a .shape) (a .slow .now) xs good (a .stride) (a .horizon) (p .pre .2) (p .pre .3) (p .pre .4) md (c .before .before .before .before .before .before .before .round .ensures xs good (md .at)) (c .before .before .if1 .taken) (subst (λ u. leb (a .horizon) (u * a .stride) ≡ true) (add-one done) (sym (c .before .at-horizon .ensures) ∙ c .if2 .taken)) (omega (arith, c .before .before .before .before .before .before .before .before .before .before .loop-test)))
 
 least-key-requires : tie.Need-least-key-requires Inv-loop μ-loop
 least-key-requires c κs =
-    let p = c .before .before .before .before .before .before .before .before .before .before .before .before .before in
+    let p = c .before .before .before .before .before .before .before .before .before .before .before .before .before .before in
     let a = p .args in
     let o = p .pre .1 in
-    let md = c .before .before .before .before .before .before .before .before .before .loop .inv (o .starts) (o .good) (o .at) in
+    let md = c .before .before .before .before .before .before .before .before .before .before .loop .inv .1 (o .starts) (o .good) (o .at) in
     let he = c .before .before .before .before .before .before .round .ensures (o .starts) (o .good) (md .at) .next .held in
     (omega (arith, p .pre .0 .cells, mul-le-mul (p .pre .0 .good .wide-low) (p .pre .0 .good .high-low)), cells-most (a .shape) (a .slow .now) (a .times .now) (a .cols .now) (a .rows .now) (p .pre .0), omega (arith, he .room), he .tree)
 
 leap-requires : tie.Need-leap-requires Inv-loop μ-loop
-leap-requires c κs = c .before .before .before .before .before .before .before .before .before .before .before .before .before .before .pre .2
+leap-requires c κs = c .before .before .before .before .before .before .before .before .before .before .before .before .before .before .before .pre .2
+
+lesser-requires : tie.Need-lesser-requires Inv-loop μ-loop
+lesser-requires c κs = search needs
 
 loop-again : tie.Need-loop-again Inv-loop μ-loop
-loop-again c xs good at =
-    let p = c .before .before .before .before .before .before .before .before .before .before .before .before .before .before .before in
+loop-again c =
+    let p = c .before .before .before .before .before .before .before .before .before .before .before .before .before .before .before .before .before in
     let a = p .args in
-    let md = c .before .before .before .before .before .before .before .before .before .before .before .loop .inv xs good at in
-    let one = c .before .before .before .before .before .before .before .before .round .ensures xs good (md .at) in
-    let done = c .before .before .before .before .before .before .before .before .before .before .before .loop .done in
-    run-goes-on (a .shape) (a .slow .now) xs good (a .stride) (a .horizon) (p .pre .2) (p .pre .3) (p .pre .4) md one (size-whole (a .shape) (a .slow .now) xs (p .pre .0 .cells)) (c .before .least-key .ensures)
-    (subst (λ u. Leapt (c .before .least-key .result) u (a .stride) (a .horizon) (c .leap .result)) (add-one done) (c .leap .ensures))
-    (⊎-elim
-    (λ w. run-early (a .shape) (a .slow .now) xs good (a .stride) (a .horizon) (p .pre .2) (p .pre .3) (p .pre .4) md one (subst (λ u. leb (a .horizon) (u * a .stride) ≡ false) (add-one done) (sym (w .1 .ensures) ∙ w .2 .left)))
-    (λ w. run-busy (a .shape) (a .slow .now) xs good (a .stride) (a .horizon) (p .pre .2) (p .pre .3) (p .pre .4) md one (w .left))
-    (c .before .before .before .if1 .came))
+    let done = c .before .before .before .before .before .before .before .before .before .before .before .before .before .loop .done in (
+      omega (arith, c .lesser .ensures),
+      λ xs good at.
+          let md = c .before .before .before .before .before .before .before .before .before .before .before .before .before .loop .inv .1 xs good at in
+          let one = c .before .before .before .before .before .before .before .before .before .round .ensures xs good (md .at) in
+          run-goes-on (a .shape) (a .slow .now) xs good (a .stride) (a .horizon) (p .pre .2) (p .pre .3) (p .pre .4) md one (size-whole (a .shape) (a .slow .now) xs (p .pre .0 .cells)) (c .before .before .least-key .ensures)
+          (leap-cut (subst (λ u. Leapt (c .before .before .least-key .result) u (a .stride) (a .horizon) (c .before .leap .result)) (add-one done) (c .before .leap .ensures)) (omega (arith, c .before .before .before .before .before .before .before .before .before .before .before .before .loop-test)) (c .lesser .ensures))
+          (⊎-elim
+          (λ w. run-early (a .shape) (a .slow .now) xs good (a .stride) (a .horizon) (p .pre .2) (p .pre .3) (p .pre .4) md one (subst (λ u. leb (a .horizon) (u * a .stride) ≡ false) (add-one done) (sym (w .1 .ensures) ∙ w .2 .left)))
+          (λ w. run-busy (a .shape) (a .slow .now) xs good (a .stride) (a .horizon) (p .pre .2) (p .pre .3) (p .pre .4) md one (w .left))
+          (c .before .before .before .before .if1 .came)),
+    )
 
 loop-less : tie.Need-loop-less Inv-loop μ-loop
-loop-less c =
-    let p = c .before .before .before .before .before .before .before .before .before .before .before .before .before .before .before in
+loop-less c = omega (arith, c .before .before .before .before .before .before .before .before .before .before .before .before .loop-test, c .before .leap .ensures .up, c .lesser .ensures)
+
+same-length-3 : tie.Need-same-length-3 Inv-loop μ-loop
+same-length-3 c =
+    let o = c .before .before .before .before .before .pre .1 in
+    c .before .loop .inv .1 (o .starts) (o .good) (o .at) .long
+
+same-length-4 : tie.Need-same-length-4 Inv-loop μ-loop
+same-length-4 c =
+    let o = c .before .before .before .before .before .pre .1 in
+    c .before .loop .inv .1 (o .starts) (o .good) (o .at) .kept
+
+returns-2 : tie.Need-returns-2 Inv-loop μ-loop
+returns-2 c xs good at =
+    let p = c .before .before .before .before .before in
     let a = p .args in
-    let o = p .pre .1 in
-    omega (arith, rounds-short (a .shape) (a .slow .now) (o .starts) (o .good) (a .stride) (a .horizon) (p .pre .2) (p .pre .3) (p .pre .4), rounds-left (a .shape) (a .slow .now) (o .starts) (o .good) (a .stride) (a .horizon) (p .pre .2) (p .pre .3) (p .pre .4) (loop-again c (o .starts) (o .good) (o .at)), c .leap .ensures .up)
+    run-stops (a .shape) (a .slow .now) xs good (a .stride) (a .horizon) (p .pre .2) (p .pre .3) (p .pre .4) (c .before .loop .inv .1 xs good at) (omega (arith, c .loop-test))
 
 pub run-spec : {M : Type 1} → statement M
 run-spec =
@@ -120,5 +139,9 @@ run-spec =
     returns
     least-key-requires
     leap-requires
+    lesser-requires
     loop-less
-    loop-again)
+    loop-again
+    same-length-3
+    same-length-4
+    returns-2)
