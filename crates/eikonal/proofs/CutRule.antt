@@ -8,9 +8,10 @@ use lib.ListN.{length}
 use lib.Seq.{ext-getD}
 use Rattle.eikonal.specs.Board.{Board, never, largest, size, met, time, solved, cut, marched}
 use Rattle.eikonal.specs.Tiles.{round}
+use Rattle.eikonal.specs.Inner.Good.{Good}
+use Rattle.eikonal.specs.Inner.Clip.{clip}
 use Rattle.eikonal.proofs.Levels.{order, lower, Agree, Causal, one-fixed}
-use Rattle.eikonal.proofs.Clip.{clip, clip-never, clip-agree, clip-low, clip-same, clip-most, cut-time, cut-length}
-use Rattle.eikonal.proofs.Good.{Good}
+use Rattle.eikonal.proofs.Clip.{clip-never, clip-agree, clip-low, clip-same, clip-most, cut-time, cut-length}
 use Rattle.eikonal.proofs.Passes.{Look, Sound, rule, rule-on, rule-off, rule-agree, rule-causal, solved-by, solved-length, solved-fixed, time-off}
 use Rattle.eikonal.proofs.Solution.{plain, plain-sound, solved-plain}
 use Rattle.eikonal.proofs.Ghosts.{tiled, tiled-sound}

@@ -8,8 +8,9 @@ use lib.Dec.{ltb, eqb}
 use borrow.Author.Tests.{lt-ltb, le-ltb}
 use Rattle.eikonal.specs.Board.{Board, never, largest, slowness, time}
 use Rattle.eikonal.specs.Tiles.{tile-of, counts-as}
+use Rattle.eikonal.specs.Inner.Clip.{clip}
 use Rattle.eikonal.proofs.Levels.{Agree}
-use Rattle.eikonal.proofs.Clip.{clip, Clipped, kept, lost, clipped, clip-agree, clip-late}
+use Rattle.eikonal.proofs.Clip.{Clipped, kept, lost, clipped, clip-agree, clip-late}
 use Rattle.eikonal.proofs.Passes.{Look, Sound}
 
 abbrev pub tiled : Board → (tw th : ℕ) → (stored : List ℕ) → Look

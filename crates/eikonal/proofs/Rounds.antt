@@ -13,11 +13,13 @@ use borrow.Author.Tests.{leb-true, eqb-true, le-leb}
 use Rattle.eikonal.specs.Board.{Board, never, largest, size, slowness, time, solved, least-from, marched, reached, all-never}
 use Rattle.eikonal.specs.Tiles.{tile-of, counts-as, round, altered, after-rounds, last-round, rounds, rounds-from, up}
 use Rattle.eikonal.specs.Promise.{Run-is-march, Few-rounds}
+use Rattle.eikonal.specs.Inner.Good.{Good}
+use Rattle.eikonal.specs.Inner.Clip.{clip}
 use Rattle.eikonal.proofs.Levels.{order, lower, Agree, Under, worked, count, count-most, settles}
 use Rattle.eikonal.proofs.Least.{Least, least, least-bound}
-use Rattle.eikonal.proofs.Clip.{clip, clip-agree, clip-under, clip-late, clip-low, clip-same, clip-most, cut-time, cut-length, reached-count}
+use Rattle.eikonal.proofs.Clip.{clip-agree, clip-under, clip-late, clip-low, clip-same, clip-most, cut-time, cut-length, reached-count}
 use Rattle.eikonal.proofs.Altered.{altered-none, altered-same}
-use Rattle.eikonal.proofs.Good.{Good, good, and-true}
+use Rattle.eikonal.proofs.Good.{good, and-true}
 use Rattle.eikonal.proofs.Local.{local-of, Answers, stays, comes, local-answers, earlier-min}
 use Rattle.eikonal.proofs.Rule.{along, down, met-is}
 use Rattle.eikonal.proofs.Passes.{never-time, rule, rule-on, rule-off, rule-under, levels, time-off, solved-by, solved-is, solved-length, solved-fixed}

@@ -9,8 +9,9 @@ use lib.Dec.{ltb}
 use lib.ListN.{length}
 use Rattle.eikonal.specs.Board.{Board, never, size, slowness, start-time, met, time, solved, Meets, earlier}
 use Rattle.eikonal.specs.Promise.{One-solution, Times-below}
+use Rattle.eikonal.specs.Inner.Good.{Good, Known}
 use Rattle.eikonal.proofs.Levels.{order, worked}
-use Rattle.eikonal.proofs.Good.{Good, good, Known, size-most}
+use Rattle.eikonal.proofs.Good.{good, size-most}
 use Rattle.eikonal.proofs.Local.{local-of, Answers, stays, comes, local-answers}
 use Rattle.eikonal.proofs.Rule.{sides, along, down, met-is}
 use Rattle.eikonal.proofs.Passes.{Look, Sound, rule, rule-on, rule-off, time-off, solved-by, solved-is, solved-length, solved-fixed, solved-only}

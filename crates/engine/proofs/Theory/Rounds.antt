@@ -13,8 +13,9 @@ use lib.ListN.{length}
 use Rattle.eikonal.specs.Board.{Board, never, largest, size, start-time, arrival, met, time}
 use Rattle.eikonal.specs.Tiles.{tile-of, counts-as, round, altered, after-rounds, last-round}
 use Rattle.eikonal.specs.Promise.{Neighbour}
-use Rattle.eikonal.proofs.Good.{Good}
-use Rattle.eikonal.proofs.Clip.{clip, Clipped, kept, lost, clipped, clip-keeps, clip-loses, clip-never}
+use Rattle.eikonal.specs.Inner.Good.{Good}
+use Rattle.eikonal.specs.Inner.Clip.{clip}
+use Rattle.eikonal.proofs.Clip.{Clipped, kept, lost, clipped, clip-keeps, clip-loses, clip-never}
 use Rattle.eikonal.proofs.Neighbours.{arrival-same, met-capped}
 use Rattle.eikonal.proofs.Passes.{never-time}
 use Rattle.eikonal.proofs.Altered.{altered-none, altered-same}
