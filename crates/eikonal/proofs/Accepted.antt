@@ -10,7 +10,8 @@ use borrow.Author.Tests.{eqb-true, eqb-false, eq-eqb, ltb-false, le-ltb, not-fal
 use Rattle.eikonal.specs.Board.{size, largest}
 use Rattle.eikonal.specs.Refusals.{Plain, board, or-else, side-good, board-refusal, plain-refusal, lists-refusal, tiles-refusal, order-good, march-refusal, round-refusal, run-refusal}
 use Rattle.eikonal.specs.Promise.{board-good}
-use Rattle.eikonal.proofs.Good.{Good, good, passed, side, and-true, or-false}
+use Rattle.eikonal.specs.Inner.Good.{Good}
+use Rattle.eikonal.proofs.Good.{good, passed, side, and-true, or-false}
 
 -- neither of two refusals
 pub neither : (a b : ℕ) → or-else a b ≡ 0 → (a ≡ 0) × (b ≡ 0)

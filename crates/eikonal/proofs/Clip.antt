@@ -8,10 +8,8 @@ use lib.Dec.{leb}
 use lib.ListN.{length}
 use borrow.Author.Tests.{leb-true, leb-false, lt-leb}
 use Rattle.eikonal.specs.Board.{never, time, cut, reached}
+use Rattle.eikonal.specs.Inner.Clip.{clip}
 use Rattle.eikonal.proofs.Levels.{count}
-
-unfoldable pub clip : (bound t : ℕ) → ℕ
-clip h t = cond (leb t h) t never
 
 -- what a clipped time is
 pub data Clipped (h t : ℕ) : Type 0 where

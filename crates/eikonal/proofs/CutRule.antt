@@ -7,13 +7,14 @@ use native.Mathlib.Omega.{arith}
 use lib.ListN.{length}
 use lib.Seq.{ext-getD}
 use Rattle.eikonal.specs.Board.{Board, never, largest, size, met, time, solved, cut, marched}
-use Rattle.eikonal.specs.Tiles.{round}
+use Rattle.eikonal.specs.Tiles.{tiled, solved-in-tiles, round}
+use Rattle.eikonal.specs.Inner.Good.{Good}
+use Rattle.eikonal.specs.Inner.Clip.{clip}
 use Rattle.eikonal.proofs.Levels.{order, lower, Agree, Causal, one-fixed}
-use Rattle.eikonal.proofs.Clip.{clip, clip-never, clip-agree, clip-low, clip-same, clip-most, cut-time, cut-length}
-use Rattle.eikonal.proofs.Good.{Good}
+use Rattle.eikonal.proofs.Clip.{clip-never, clip-agree, clip-low, clip-same, clip-most, cut-time, cut-length}
 use Rattle.eikonal.proofs.Passes.{Look, Sound, rule, rule-on, rule-off, rule-agree, rule-causal, solved-by, solved-length, solved-fixed, time-off}
 use Rattle.eikonal.proofs.Solution.{plain, plain-sound, solved-plain}
-use Rattle.eikonal.proofs.Ghosts.{tiled, tiled-sound}
+use Rattle.eikonal.proofs.Ghosts.{tiled-sound}
 
 module _ (b : Board) (look : Look) (sound : Sound look) (g : Good b) (m : ℕ) (low : m < never) where
   -- the rule, cut at the bound
@@ -73,6 +74,6 @@ march-by-rule b g h k ts l meets =
 -- TIMES THAT MEET THE TILED RULE UP TO THE BOUND ARE THE ROUND
 pub round-by-rule : (b : Board) → Good b → (tw th m : ℕ) → m ≤ largest → (stored ts : List ℕ) → length ts ≡ size b
     → ((c : ℕ) → c < size b → time ts c ≡ clip m (met b c (tiled b tw th stored (time ts) c))) → ts ≡ round b tw th m stored
-unfolding round solved-by
+unfolding round solved-in-tiles solved-by
 round-by-rule b g tw th m k stored ts l meets =
     cut-by-rule b (tiled b tw th stored) (tiled-sound b tw th stored) g m (omega arith) ts l meets

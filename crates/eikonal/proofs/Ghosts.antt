@@ -7,13 +7,11 @@ use native.Mathlib.Omega.{arith}
 use lib.Dec.{ltb, eqb}
 use borrow.Author.Tests.{lt-ltb, le-ltb}
 use Rattle.eikonal.specs.Board.{Board, never, largest, slowness, time}
-use Rattle.eikonal.specs.Tiles.{tile-of, counts-as}
+use Rattle.eikonal.specs.Tiles.{tile-of, counts-as, tiled}
+use Rattle.eikonal.specs.Inner.Clip.{clip}
 use Rattle.eikonal.proofs.Levels.{Agree}
-use Rattle.eikonal.proofs.Clip.{clip, Clipped, kept, lost, clipped, clip-agree, clip-late}
-use Rattle.eikonal.proofs.Passes.{Look, Sound}
-
-abbrev pub tiled : Board → (tw th : ℕ) → (stored : List ℕ) → Look
-tiled b tw th ts f c e = cond (eqb (tile-of b tw th c) (tile-of b tw th e)) (f e) (counts-as b ts e)
+use Rattle.eikonal.proofs.Clip.{Clipped, kept, lost, clipped, clip-agree, clip-late}
+use Rattle.eikonal.proofs.Passes.{Sound}
 
 pub tiled-sound : (b : Board) (tw th : ℕ) (ts : List ℕ) → Sound (tiled b tw th ts)
 tiled-sound b tw th ts = record {

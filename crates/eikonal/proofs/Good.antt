@@ -1,8 +1,8 @@
--- What a board that is not refused has. Assumes nothing.
+-- A board that is not refused is Good. Assumes nothing.
 use mathlib.Core.Path.{_≡_, refl, sym, ap, _∙_, subst}
 use mathlib.Core.Bool.{Bool, true, false, cond, not, _&&_, _||_, false≢true, true≢false}
 use mathlib.Core.List.{List, [], _∷_}
-use mathlib.Core.Logic.{_⊎_, inl, inr}
+use mathlib.Core.Logic.{inl, inr}
 use Prim.Native.Nat.{ℕ, zero, suc, _+_, _*_, _≤_, _<_}
 use native.Mathlib.Omega.{arith}
 use native.Mathlib.Nat.{mul-le-mul}
@@ -12,20 +12,7 @@ use borrow.Author.Tests.{eqb-true, eqb-false, leb-true, ltb-false, not-false}
 use Rattle.eikonal.specs.Board.{Board, Start, size, slowness, never, start-time}
 use Rattle.eikonal.specs.Refusals.{board-refusal, starts-refusal, side-good, any-above, starts-rise, late, on-wall}
 use Rattle.eikonal.specs.Promise.{board-good}
-
--- a start's time, or never
-abbrev pub Known : (most t : ℕ) → Type 0
-Known m t = (t ≡ never) ⊎ (t ≤ m)
-
-pub record Good (b : Board) : Type 0 where
-  pub wide-low : 1 ≤ b .wide
-  pub wide-high : b .wide ≤ 256
-  pub high-low : 1 ≤ b .high
-  pub high-high : b .high ≤ 256
-  pub slow-length : length (b .slow) ≡ size b
-  pub slow-most : (c : ℕ) → slowness b c ≤ 4095
-  pub starts-known : (c : ℕ) → Known 1000000 (start-time c (b .starts))
-  pub walls-free : (c : ℕ) → slowness b c ≡ 0 → start-time c (b .starts) ≡ never
+use Rattle.eikonal.specs.Inner.Good.{Known, Good}
 
 pub and-true : (p q : Bool) → p && q ≡ true → (p ≡ true) × (q ≡ true)
 and-true true q e = (refl, e)

@@ -9,8 +9,8 @@ use lib.Dec.{ltb, eqb}
 use borrow.Author.Tests.{eqb-true, eqb-false, ne-eqb, ltb-true, ltb-false}
 use Rattle.eikonal.specs.Board.{Board, never, size, earlier}
 use Rattle.eikonal.specs.Promise.{Beside, Neighbour}
+use Rattle.eikonal.specs.Inner.Good.{Good}
 use Rattle.eikonal.proofs.Levels.{order}
-use Rattle.eikonal.proofs.Good.{Good}
 use Rattle.eikonal.proofs.Local.{earlier-min}
 use Rattle.eikonal.proofs.Rule.{sides, along, down}
 

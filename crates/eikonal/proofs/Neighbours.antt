@@ -7,7 +7,8 @@ use lib.Dec.{eqb}
 use borrow.Author.Tests.{eqb-false}
 use Rattle.eikonal.specs.Board.{Board, never, size, slowness, earlier, local, arrival, met, start-time}
 use Rattle.eikonal.specs.Promise.{Neighbour}
-use Rattle.eikonal.proofs.Good.{Good, start-most}
+use Rattle.eikonal.specs.Inner.Good.{Good}
+use Rattle.eikonal.proofs.Good.{start-most}
 use Rattle.eikonal.proofs.Local.{local-of, earlier-min, earlier-agree, earlier-under, local-agree, local-under, Answers, stays, comes, local-answers, passes-late, step-passes}
 use Rattle.eikonal.proofs.Rule.{sides, along, down}
 use Rattle.eikonal.proofs.Grid.{left-near, right-near, above-near, below-near}

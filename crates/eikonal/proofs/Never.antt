@@ -6,9 +6,11 @@ use Prim.Native.Nat.{ℕ, zero, suc, _+_, _≤_, _<_, min}
 use native.Mathlib.Omega.{arith}
 use Rattle.eikonal.specs.Board.{Board, never, largest, size, slowness, start-time, met, time, solved, marched, Meets}
 use Rattle.eikonal.specs.Promise.{board-good, Never-past-horizon, Never-unjoined, One-solution, Times-below, Joined, begins, goes-on}
+use Rattle.eikonal.specs.Inner.Good.{Good}
+use Rattle.eikonal.specs.Inner.Clip.{clip}
 use Rattle.eikonal.proofs.Levels.{order}
-use Rattle.eikonal.proofs.Good.{Good, good, start-most}
-use Rattle.eikonal.proofs.Clip.{clip, Clipped, kept, lost, clipped, cut-time}
+use Rattle.eikonal.proofs.Good.{good, start-most}
+use Rattle.eikonal.proofs.Clip.{Clipped, kept, lost, clipped, cut-time}
 use Rattle.eikonal.proofs.Local.{local-of, Answers, stays, comes, local-answers, earlier-min, passes-late, step-passes}
 use Rattle.eikonal.proofs.Rule.{along, down, met-is}
 use Rattle.eikonal.proofs.Solution.{one-solution, times-below}

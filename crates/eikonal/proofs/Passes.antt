@@ -12,8 +12,8 @@ use lib.Seq.{ext-getD}
 use borrow.Author.Tests.{lt-ltb, le-ltb}
 use Rattle.eikonal.specs.Board.{Board, never, size, met, time, one-pass, passes-of, all-never, solved, Meets}
 use Rattle.eikonal.specs.Promise.{One-solution}
+use Rattle.eikonal.specs.Inner.Good.{Good}
 use Rattle.eikonal.proofs.Levels.{order, Agree, Under, Causal, Monotone, worked, count, count-most, one-fixed, limit, reached-limit}
-use Rattle.eikonal.proofs.Good.{Good, good}
 use Rattle.eikonal.proofs.Rule.{met-agree, met-under, met-most}
 
 -- what the cells of a board see of a state

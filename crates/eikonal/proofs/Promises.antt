@@ -1,5 +1,5 @@
 -- THE PROMISES, gathered: each statement of specs/Promise.antt with its proof. Assumes nothing.
-use Rattle.eikonal.specs.Promise.{Local-least, Diagonal-step, One-solution, Times-below, Never-past-horizon, Never-unjoined, Run-is-march, Few-rounds, Order-free, Run-order-free, Run-is-rounds, Every-list, Lists-keep}
+use Rattle.eikonal.specs.Promise.{Local-least, Diagonal-step, One-solution, Times-below, Never-past-horizon, Never-unjoined, Round-is-solution, Run-is-march, Rounds-least, Few-rounds, Order-free, Run-order-free, Run-is-rounds, Every-list, Lists-keep}
 use Rattle.eikonal.proofs.LocalRule as local-rule
 use Rattle.eikonal.proofs.Solution as solution
 use Rattle.eikonal.proofs.Never as never
@@ -27,8 +27,14 @@ pub never-unjoined : Never-unjoined
 never-unjoined = never.never-unjoined
 
 -- the third condition
+pub round-is-solution : Round-is-solution
+round-is-solution = rounds.round-is-solution
+
 pub run-is-march : Run-is-march
 run-is-march = rounds.run-is-march
+
+pub rounds-least : Rounds-least
+rounds-least = rounds.rounds-least
 
 pub few-rounds : Few-rounds
 few-rounds = rounds.few-rounds

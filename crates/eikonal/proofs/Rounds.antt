@@ -1,4 +1,4 @@
--- A round over tiles solves a board that is seen in part as stored, and rounds come to the march: Run-is-march and Few-rounds. Assumes nothing.
+-- A round over tiles solves a board that is seen in part as stored, and rounds come to the march: Round-is-solution, Run-is-march, Rounds-least, Few-rounds. Assumes nothing.
 use mathlib.Core.Path.{_≡_, refl, sym, ap, _∙_}
 use mathlib.Core.Bool.{Bool, true, false, cond, true≢false}
 use mathlib.Core.List.{List}
@@ -11,18 +11,20 @@ use lib.ListN.{length, length-replicate}
 use lib.Seq.{ext-getD}
 use borrow.Author.Tests.{leb-true, eqb-true, le-leb}
 use Rattle.eikonal.specs.Board.{Board, never, largest, size, slowness, time, solved, least-from, marched, reached, all-never}
-use Rattle.eikonal.specs.Tiles.{tile-of, counts-as, round, altered, after-rounds, last-round, rounds, rounds-from, up}
-use Rattle.eikonal.specs.Promise.{Run-is-march, Few-rounds}
+use Rattle.eikonal.specs.Tiles.{tile-of, counts-as, tiled, Meets-in-tiles, solved-in-tiles, round, altered, after-rounds, last-round, rounds, rounds-from, up}
+use Rattle.eikonal.specs.Promise.{Round-is-solution, Run-is-march, Rounds-least, Few-rounds}
+use Rattle.eikonal.specs.Inner.Good.{Good}
+use Rattle.eikonal.specs.Inner.Clip.{clip}
 use Rattle.eikonal.proofs.Levels.{order, lower, Agree, Under, worked, count, count-most, settles}
 use Rattle.eikonal.proofs.Least.{Least, least, least-bound}
-use Rattle.eikonal.proofs.Clip.{clip, clip-agree, clip-under, clip-late, clip-low, clip-same, clip-most, cut-time, cut-length, reached-count}
+use Rattle.eikonal.proofs.Clip.{clip-agree, clip-under, clip-late, clip-low, clip-same, clip-most, cut-time, cut-length, reached-count}
 use Rattle.eikonal.proofs.Altered.{altered-none, altered-same}
-use Rattle.eikonal.proofs.Good.{Good, good, and-true}
+use Rattle.eikonal.proofs.Good.{good, and-true}
 use Rattle.eikonal.proofs.Local.{local-of, Answers, stays, comes, local-answers, earlier-min}
 use Rattle.eikonal.proofs.Rule.{along, down, met-is}
 use Rattle.eikonal.proofs.Passes.{never-time, rule, rule-on, rule-off, rule-under, levels, time-off, solved-by, solved-is, solved-length, solved-fixed}
-use Rattle.eikonal.proofs.Solution.{plain, plain-sound, solved-plain}
-use Rattle.eikonal.proofs.Ghosts.{tiled, tiled-sound, stored, stored-agree, stored-late}
+use Rattle.eikonal.proofs.Solution.{plain, plain-sound, solved-plain, one-solution-by}
+use Rattle.eikonal.proofs.Ghosts.{tiled-sound, stored, stored-agree, stored-late}
 
 -- the rounds up to the horizon cover it
 up-covers : (h s : ℕ) → 1 ≤ s → h ≤ up h s * s
@@ -39,11 +41,11 @@ module _ (b : Board) (g : Good b) (tw th : ℕ) where
   tiles-fixed ts = solved-fixed b (tiled b tw th ts) (tiled-sound b tw th ts) g
 
   pub round-time : (m : ℕ) (ts : List ℕ) (c : ℕ) → m < never → time (round b tw th m ts) c ≡ clip m (tiles ts c)
-  unfolding round solved-by
+  unfolding round solved-in-tiles solved-by
   round-time m ts c h = cut-time m (solved-by b (tiled b tw th ts)) c h
 
   pub round-length : (m : ℕ) (ts : List ℕ) → length (round b tw th m ts) ≡ size b
-  unfolding round solved-by
+  unfolding round solved-in-tiles solved-by
   round-length m ts = cut-length m (solved-by b (tiled b tw th ts)) ∙ solved-length b (tiled b tw th ts)
 
   tiles-agree : (t : ℕ) (ts us : List ℕ) → t < never → Agree t (time ts) (time us) → Agree (suc t) (tiles ts) (tiles us)
@@ -215,25 +217,25 @@ module _ (b : Board) (g : Good b) (tw th : ℕ) where
     rounds-from-least zero k = refl
     rounds-from-least (suc f) k = ap (cond (last-round b tw th s h k) k) (rounds-from-least f (suc k))
 
-    rounds-least : Least (λ k. last-round b tw th s h k) 1 (1 + (up h s + size b + 2)) (rounds b tw th s h)
+    rounds-found : Least (λ k. last-round b tw th s h k) 1 (1 + (up h s + size b + 2)) (rounds b tw th s h)
     unfolding rounds
-    rounds-least = rw (rounds-from-least (up h s + size b + 2) 1) (least (up h s + size b + 2) 1 (λ k. last-round b tw th s h k))
+    rounds-found = rw (rounds-from-least (up h s + size b + 2) 1) (least (up h s + size b + 2) 1 (λ k. last-round b tw th s h k))
 
     pub rounds-low : 1 ≤ rounds b tw th s h
-    rounds-low = rounds-least .low
+    rounds-low = rounds-found .low
 
     pub rounds-few : rounds b tw th s h ≤ max 1 (up h s) + reached h (solved b)
     rounds-few =
         let k : ℕ = max 1 (up h s) - 1 in
         let more : up h s ≤ suc k = omega arith in
         let covers : h ≤ suc k * s = omega (arith, up-covers h s low, mul-le-mul-right s more) in
-        omega (arith, least-bound rounds-least (suc (k + reached h (solved b))) (omega arith) (last-march k (reached h (solved b)) covers (omega arith)))
+        omega (arith, least-bound rounds-found (suc (k + reached h (solved b))) (omega arith) (last-march k (reached h (solved b)) covers (omega arith)))
 
     pub rounds-last : last-round b tw th s h (rounds b tw th s h) ≡ true
-    rounds-last = rounds-least .hit (omega (arith, rounds-few, march-count, count-most (size b) never (time (marched b h))))
+    rounds-last = rounds-found .hit (omega (arith, rounds-few, march-count, count-most (size b) never (time (marched b h))))
 
     pub rounds-march : after-rounds (rounds b tw th s h) b tw th s h ≡ marched b h
-    rounds-march = go (rounds b tw th s h) (rounds-least .low) rounds-last
+    rounds-march = go (rounds b tw th s h) (rounds-found .low) rounds-last
       where
         go : (k : ℕ) → 1 ≤ k → last-round b tw th s h k ≡ true → after k ≡ marched b h
         go zero i e = absurd (omega arith)
@@ -244,14 +246,24 @@ module _ (b : Board) (g : Good b) (tw th : ℕ) where
     rounds-is k l e none = go (order (rounds b tw th s h) k)
       where
         go : (rounds b tw th s h < k) ⊎ (k ≤ rounds b tw th s h) → rounds b tw th s h ≡ k
-        go (inl i) = absurd (true≢false (sym rounds-last ∙ none (rounds b tw th s h) (rounds-least .low) i))
-        go (inr i) = omega (arith, least-bound rounds-least k l e)
+        go (inl i) = absurd (true≢false (sym rounds-last ∙ none (rounds b tw th s h) (rounds-found .low) i))
+        go (inr i) = omega (arith, least-bound rounds-found k l e)
+
+pub round-is-solution : Round-is-solution
+unfolding Round-is-solution Meets-in-tiles solved-in-tiles solved-by
+round-is-solution b tw th ts e = one-solution-by b (tiled b tw th ts) (tiled-sound b tw th ts) (good b e)
 
 -- THE THIRD CONDITION's weight
 pub run-is-march : Run-is-march
 unfolding Run-is-march
 run-is-march b tw th s h e w1 w2 t1 t2 low s2 high =
     (rounds-last b (good b e) tw th s h low high, rounds-march b (good b e) tw th s h low high)
+
+pub rounds-least : Rounds-least
+unfolding Rounds-least
+rounds-least b tw th s h e w1 w2 t1 t2 low s2 high =
+    let g = good b e in
+    (rounds-low b g tw th s h low high, rounds-last b g tw th s h low high, rounds-found b g tw th s h low high .first)
 
 pub few-rounds : Few-rounds
 unfolding Few-rounds

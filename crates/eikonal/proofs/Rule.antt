@@ -6,8 +6,9 @@ use Prim.Native.Nat.{ℕ, zero, suc, _+_, _*_, _-_, _/_, _%_, _≤_, _<_, min}
 use native.Mathlib.Omega.{arith}
 use lib.Dec.{ltb, eqb}
 use Rattle.eikonal.specs.Board.{Board, never, size, slowness, earlier, local, start-time, arrival, met}
+use Rattle.eikonal.specs.Inner.Good.{Good}
 use Rattle.eikonal.proofs.Levels.{Agree, Under, Causal, Monotone}
-use Rattle.eikonal.proofs.Good.{Good, start-most}
+use Rattle.eikonal.proofs.Good.{start-most}
 use Rattle.eikonal.proofs.Local.{earlier-min, local-of, local-is, earlier-agree, earlier-under, local-agree, local-under}
 
 -- a side of a cell: never off the board

@@ -9,8 +9,9 @@ use lib.Dec.{ltb}
 use lib.ListN.{length}
 use Rattle.eikonal.specs.Board.{Board, never, size, slowness, start-time, met, time, solved, Meets, earlier}
 use Rattle.eikonal.specs.Promise.{One-solution, Times-below}
+use Rattle.eikonal.specs.Inner.Good.{Good, Known}
 use Rattle.eikonal.proofs.Levels.{order, worked}
-use Rattle.eikonal.proofs.Good.{Good, good, Known, size-most}
+use Rattle.eikonal.proofs.Good.{good, size-most}
 use Rattle.eikonal.proofs.Local.{local-of, Answers, stays, comes, local-answers}
 use Rattle.eikonal.proofs.Rule.{sides, along, down, met-is}
 use Rattle.eikonal.proofs.Passes.{Look, Sound, rule, rule-on, rule-off, time-off, solved-by, solved-is, solved-length, solved-fixed, solved-only}
@@ -22,14 +23,23 @@ plain f c e = f e
 pub plain-sound : Sound plain
 plain-sound = record { agree = λ t f g a c. a; under = λ f g a c. a }
 
--- meeting the rule is being fixed
-pub meets-fixed : (b : Board) (ts : List ℕ) → Meets b ts → (c : ℕ) → time ts c ≡ rule b plain (time ts) c
-unfolding Meets
-meets-fixed b ts m c = go (order c (size b))
-  where
-    go : (c < size b) ⊎ (size b ≤ c) → time ts c ≡ rule b plain (time ts) c
-    go (inl h) = m .1 c h ∙ sym (rule-on b plain (time ts) c h)
-    go (inr h) = time-off ts c (omega (arith, m .0)) ∙ sym (rule-off b plain (time ts) c h)
+-- however its cells see each other, just one set of times meets a board's rule: meeting it is being fixed
+module _ (b : Board) (look : Look) (sound : Sound look) (g : Good b) where
+  abbrev Meets-by : List ℕ → Type 0
+  Meets-by ts = (length ts ≡ size b) × ((c : ℕ) → c < size b → time ts c ≡ met b c (look (time ts) c))
+
+  meets-fixed : (ts : List ℕ) → Meets-by ts → (c : ℕ) → time ts c ≡ rule b look (time ts) c
+  meets-fixed ts m c = go (order c (size b))
+    where
+      go : (c < size b) ⊎ (size b ≤ c) → time ts c ≡ rule b look (time ts) c
+      go (inl h) = m .1 c h ∙ sym (rule-on b look (time ts) c h)
+      go (inr h) = time-off ts c (omega (arith, m .0)) ∙ sym (rule-off b look (time ts) c h)
+
+  pub one-solution-by : Meets-by (solved-by b look) × ((ts : List ℕ) → Meets-by ts → ts ≡ solved-by b look)
+  one-solution-by = (
+    (solved-length b look, λ c h. solved-fixed b look sound g c ∙ rule-on b look (time (solved-by b look)) c h),
+    λ ts m. solved-only b look sound g ts (m .0) (meets-fixed ts m),
+  )
 
 pub solved-plain : (b : Board) → solved b ≡ solved-by b plain
 unfolding solved solved-by
@@ -37,13 +47,7 @@ solved-plain b = refl
 
 pub one-solution : One-solution
 unfolding One-solution Meets
-one-solution b e = (
-  rw (solved-plain b) (
-    solved-length b plain,
-    λ c h. solved-fixed b plain plain-sound (good b e) c ∙ rule-on b plain (time (solved-by b plain)) c h,
-  ),
-  λ ts m. solved-only b plain plain-sound (good b e) ts (m .0) (meets-fixed b ts m) ∙ sym (solved-plain b),
-)
+one-solution b e = rw (solved-plain b) (one-solution-by b plain plain-sound (good b e))
 
 -- ---- times grow by at most 4095 with each pass
 cond-known : (p : Bool) (m x y : ℕ) → Known m x → Known m y → Known m (cond p x y)

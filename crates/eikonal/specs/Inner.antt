@@ -1,2 +1,4 @@
 -- Definitions that only contracts inside the library cite: no public promise rests on these.
 pub mod Judge
+pub mod Good
+pub mod Clip

@@ -7,7 +7,7 @@ use Prim.Native.Nat.{ℕ, zero, suc, _+_, _*_, _%_, _≤_, _<_, min, max}
 use lib.Dec.{eqb}
 use lib.ListN.{length}
 use Rattle.eikonal.specs.Board.{Board, size, slowness, start-time, time, Meets, solved, marched, reached, diagonal, local, never, largest, all-never, passes, earlier}
-use Rattle.eikonal.specs.Tiles.{after-rounds, last-round, rounds, up}
+use Rattle.eikonal.specs.Tiles.{Meets-in-tiles, solved-in-tiles, after-rounds, last-round, rounds, up}
 use Rattle.eikonal.specs.Refusals.{Plain, board, board-refusal, run-refusal, order-good}
 use Rattle.eikonal.specs.Ledger.{Call, march, tile-run, one-round, ledger-answer, ledger-after, Book, book, ledger}
 use Rattle.eikonal.specs.Entry.{plain, March-says, Round-says, Run-says}
@@ -61,11 +61,24 @@ Never-unjoined =
     (b : Board) (c : ℕ) → board-good b ≡ true → c < size b →
     (time (solved b) c ≡ never → Joined b c → ⊥) × ((Joined b c → ⊥) → time (solved b) c ≡ never)
 
--- ---- THE THIRD CONDITION: a tile run's rounds come to the march, whatever its tiles and stride, and they are few
+-- ---- THE THIRD CONDITION: just one set of times meets the rule in tiles, and a round is its cut
+unfoldable pub Round-is-solution : Type 0
+Round-is-solution =
+    (b : Board) (tw th : ℕ) (stored : List ℕ) → board-good b ≡ true →
+    Meets-in-tiles b tw th stored (solved-in-tiles b tw th stored)
+    × ((ts : List ℕ) → Meets-in-tiles b tw th stored ts → ts ≡ solved-in-tiles b tw th stored)
+
+-- a tile run's rounds come to the march, whatever its tiles and stride; its last round is the first that can be, and they are few
 unfoldable pub Run-is-march : Type 0
 Run-is-march =
     (b : Board) (tw th s h : ℕ) → board-good b ≡ true → 1 ≤ tw → tw ≤ 256 → 1 ≤ th → th ≤ 256 → 1 ≤ s → s ≤ 300000000 → h ≤ 300000000 →
     (last-round b tw th s h (rounds b tw th s h) ≡ true) × (after-rounds (rounds b tw th s h) b tw th s h ≡ marched b h)
+
+unfoldable pub Rounds-least : Type 0
+Rounds-least =
+    (b : Board) (tw th s h : ℕ) → board-good b ≡ true → 1 ≤ tw → tw ≤ 256 → 1 ≤ th → th ≤ 256 → 1 ≤ s → s ≤ 300000000 → h ≤ 300000000 →
+    (1 ≤ rounds b tw th s h) × (last-round b tw th s h (rounds b tw th s h) ≡ true)
+    × ((k : ℕ) → 1 ≤ k → k < rounds b tw th s h → last-round b tw th s h k ≡ false)
 
 unfoldable pub Few-rounds : Type 0
 Few-rounds =

@@ -1,9 +1,11 @@
 -- Tiles, a round over stored times, and tile runs ("Rounds over tiles" of document 01). Assumes nothing: these are definitions.
+use mathlib.Core.Path.{_≡_}
 use mathlib.Core.Bool.{Bool, _&&_, _||_, cond}
 use mathlib.Core.List.{List, [], _∷_}
-use Prim.Native.Nat.{ℕ, zero, suc, _+_, _*_, _-_, _/_, _%_, min}
+use Prim.Native.Nat.{ℕ, zero, suc, _+_, _*_, _-_, _/_, _%_, _<_, min}
 use lib.Dec.{ltb, leb, eqb}
-use Rattle.eikonal.specs.Board.{Board, size, slowness, never, largest, time, passes-of, all-never, cut}
+use lib.ListN.{length}
+use Rattle.eikonal.specs.Board.{Board, size, slowness, never, largest, met, time, passes-of, all-never, cut}
 
 -- a divided by b, rounded up
 unfoldable pub up : (a b : ℕ) → ℕ
@@ -20,10 +22,22 @@ tile-count b tw th = up (b .wide) tw * up (b .high) th
 unfoldable pub counts-as : Board → (stored : List ℕ) → (c : ℕ) → ℕ
 counts-as b ts c = cond (eqb (slowness b c) 0 || ltb largest (time ts c)) never (time ts c)
 
--- ONE ROUND: a cell sees cells of other tiles (its ghosts) as stored before the round, those of its own tile as they are met
+-- what a cell c sees of e: a cell of its own tile as it is met, one of another tile (a ghost) as stored before the round
+abbrev pub tiled : Board → (tw th : ℕ) → (stored : List ℕ) → (times : ℕ → ℕ) → (c e : ℕ) → ℕ
+tiled b tw th ts f c e = cond (eqb (tile-of b tw th c) (tile-of b tw th e)) (f e) (counts-as b ts e)
+
+-- EVERY CELL MEETS THE RULE in its tile
+unfoldable pub Meets-in-tiles : Board → (tw th : ℕ) → (stored times : List ℕ) → Type 0
+Meets-in-tiles b tw th ts ns =
+    (length ns ≡ size b) × ((c : ℕ) → c < size b → time ns c ≡ met b c (tiled b tw th ts (λ e. time ns e) c))
+
+-- the solution in tiles, worked out by passes as that of the board is
+unfoldable pub solved-in-tiles : Board → (tw th : ℕ) → (stored : List ℕ) → List ℕ
+solved-in-tiles b tw th ts = passes-of (size b) b (λ ns. tiled b tw th ts (λ e. time ns e)) (all-never b)
+
+-- ONE ROUND: each time up to the bound, never elsewhere
 unfoldable pub round : Board → (tw th bound : ℕ) → (stored : List ℕ) → List ℕ
-round b tw th m ts =
-    cut m (passes-of (size b) b (λ ns. λ c. λ e. cond (eqb (tile-of b tw th c) (tile-of b tw th e)) (time ns e) (counts-as b ts e)) (all-never b))
+round b tw th m ts = cut m (solved-in-tiles b tw th ts)
 
 -- entries that differ, as bare numbers
 unfoldable pub altered : (before after : List ℕ) → ℕ

@@ -5,7 +5,7 @@ use Prim.Native.Nat.{ℕ, _*_, _≤_}
 use lib.ListN.{length, drop, replicate}
 use Rattle.eikonal.specs.Board.{Start, solved, marched, reached}
 use Rattle.eikonal.specs.Tiles.{round, altered, rounds}
-use Rattle.eikonal.proofs.Good.{Good}
+use Rattle.eikonal.specs.Inner.Good.{Good}
 use Rattle.front.specs.State.{Standing}
 use Rattle.engine.specs.Run.{whole}
 use Rattle.front.specs.declared.Shape.{Shape}

@@ -6,7 +6,7 @@ use Prim.Native.Nat.{ℕ, suc, _*_, _≤_, _<_, min}
 use lib.ListN.{length, getD}
 use Rattle.eikonal.specs.Board.{Board, Start, size, start-time, time}
 use Rattle.eikonal.specs.Tiles.{altered, after-rounds, rounds}
-use Rattle.eikonal.proofs.Good.{Good}
+use Rattle.eikonal.specs.Inner.Good.{Good}
 use Rattle.queue.specs.Tree.{keys}
 use Rattle.front.specs.Front.{Tied, Settled, Upheld, Drift}
 use Rattle.front.specs.Board.{rule-by, tentative}

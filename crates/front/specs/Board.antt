@@ -6,7 +6,7 @@ use Prim.Native.Nat.{ℕ, suc, _+_, _*_, _-_, _≤_, _<_}
 use lib.ListN.{length, getD}
 use Rattle.eikonal.specs.Board.{Board}
 use Rattle.eikonal.specs.Tiles.{counts-as}
-use Rattle.eikonal.proofs.Good.{Good}
+use Rattle.eikonal.specs.Inner.Good.{Good}
 use Rattle.front.specs.Front.{gives}
 use Rattle.front.specs.Seams.{seam, edge}
 use Rattle.front.specs.declared.Shape.{Shape}

@@ -8,10 +8,10 @@ use Rattle.eikonal.specs.Ledger.{Call}
 use Rattle.eikonal.specs.Entry.{Keeps, March-says, Round-says, Run-says}
 use Rattle.eikonal.specs.Promise.{Step, by-march, by-run, by-round, Steps, done, then, Every-list}
 use Rattle.eikonal.specs.declared.Reply.{Reply}
-use Rattle.eikonal.proofs.Promises.{every-list}
+use Rattle.eikonal.proofs.Promises as eikonal
 use Rattle.records.specs.declared.Start.{Start}
 use Rattle.records.specs.Records.{cells-of, begins-of}
-use Rattle.record_marches.specs.Promise.{Same-march, Same-round, Same-run, joined, Lists-are-records, Any-step, over-lists, record-march, record-run, record-round, Any-steps, Every-mixed-list}
+use Rattle.record_marches.specs.Promise.{Same-march, Same-round, Same-run, joined, Lists-are-records, Any-step, over-lists, record-march, record-run, record-round, Any-steps, Every-mixed-list, Third-condition}
 use Rattle.record_marches.specs.Promise as p
 
 -- two answers to one call are one
@@ -52,4 +52,16 @@ as-steps (p.then a b z c x cs xs s ss) = then a b z c x cs xs (as-step s) (as-st
 
 pub every-mixed-list : Every-mixed-list
 unfolding Every-mixed-list Every-list
-every-mixed-list cs xs a z ss = every-list cs xs a z (as-steps ss)
+every-mixed-list cs xs a z ss = eikonal.every-list cs xs a z (as-steps ss)
+
+pub third-condition : Third-condition
+third-condition = record {
+  every-mixed-list = every-mixed-list;
+  round-is-solution = eikonal.round-is-solution;
+  run-is-march = eikonal.run-is-march;
+  rounds-least = eikonal.rounds-least;
+  few-rounds = eikonal.few-rounds;
+  run-is-rounds = eikonal.run-is-rounds;
+  order-free = eikonal.order-free;
+  run-order-free = eikonal.run-order-free;
+}

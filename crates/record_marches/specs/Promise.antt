@@ -5,7 +5,7 @@ use Prim.Native.Nat.{ℕ}
 use lib.ListN.{length}
 use Rattle.eikonal.specs.Ledger.{Call, march, tile-run, one-round, book, ledger}
 use Rattle.eikonal.specs.Entry.{plain, March-says, Round-says, Run-says}
-use Rattle.eikonal.specs.Promise.{Step}
+use Rattle.eikonal.specs.Promise.{Round-is-solution, Run-is-march, Rounds-least, Few-rounds, Order-free, Run-is-rounds, Run-order-free, Step}
 use Rattle.eikonal.specs.declared.Reply.{Reply}
 use Rattle.records.specs.declared.Start.{Start}
 use Rattle.records.specs.Records.{cells-of, begins-of}
@@ -58,3 +58,19 @@ pub data Any-steps : (times : List ℕ) → List Call → List Reply → (last :
 unfoldable pub Every-mixed-list : Type 0
 Every-mixed-list =
     (cs : List Call) (xs : List Reply) (a z : List ℕ) → Any-steps a cs xs z → book xs z ≡ ledger cs [] a
+
+-- THE THIRD CONDITION, WHOLE: a value of this record shows it
+pub record Third-condition : Type 0 where
+  -- every list of marches, tile runs and rounds, refused ones too, over records and over plain lists, is the ledger's
+  pub every-mixed-list : Every-mixed-list
+  -- a round is the cut of the one set of times that meets the rule in tiles
+  pub round-is-solution : Round-is-solution
+  -- a tile run comes to the march, at its first round that can be the last, and soon
+  pub run-is-march : Run-is-march
+  pub rounds-least : Rounds-least
+  pub few-rounds : Few-rounds
+  -- what it holds after each round is what single rounds leave
+  pub run-is-rounds : Run-is-rounds
+  -- and the order of tiles never shows, in the times or in the answers
+  pub order-free : Order-free
+  pub run-order-free : Run-order-free

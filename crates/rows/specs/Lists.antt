@@ -5,7 +5,7 @@ use mathlib.Core.List.{List}
 use Prim.Native.Nat.{ℕ, _≤_, _<_}
 use lib.ListN.{length, getD}
 use Rattle.eikonal.specs.Board.{time, reached}
-use Rattle.eikonal.proofs.Clip.{clip}
+use Rattle.eikonal.specs.Inner.Clip.{clip}
 use Rattle.front.specs.Board.{tentative}
 
 -- entries from `from` up to `end` are x, the others are kept

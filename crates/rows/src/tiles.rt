@@ -6,7 +6,7 @@ ghost use Prim.Native.Nat.{_+_, _≤_, _<_, min};
 ghost use lib.Dec.{eqb};
 ghost use lib.ListN.{length, getD};
 ghost use Rattle.eikonal.specs.Refusals.{order-good};
-ghost use Rattle.eikonal.proofs.Clip.{clip};
+ghost use Rattle.eikonal.specs.Inner.Clip.{clip};
 ghost use Rattle.front.specs.Board.{land};
 ghost use Rattle.rows.specs.Lists.{due};
 ghost use Rattle.rows.specs.Rows.{Entered, All, Block, tile-in, Room, Wrote};

@@ -5,7 +5,7 @@ ghost use Prim.Native.Nat.{_*_, _≤_, _<_};
 ghost use lib.Dec.{leb};
 ghost use lib.ListN.{length};
 ghost use Rattle.eikonal.specs.Board.{never};
-ghost use Rattle.eikonal.proofs.Clip.{clip};
+ghost use Rattle.eikonal.specs.Inner.Clip.{clip};
 ghost use Rattle.rows.specs.Lists.{Filled, Finished};
 use eikonal::arrival::NEVER;
 

@@ -15,8 +15,9 @@ use Rattle.eikonal.specs.Refusals.{Plain, board, starts-of, starts-rise, late, 
 use Rattle.eikonal.specs.Ledger.{Call, march, tile-run, one-round, refusal, cells-of, entered, counted, answer, answered, ledger-answer, ledger-after, work-after}
 use Rattle.eikonal.specs.Entry.{plain, Keeps, March-says, Round-says, Run-says}
 use Rattle.eikonal.specs.Promise.{board-good}
+use Rattle.eikonal.specs.Inner.Good.{Good}
 use Rattle.eikonal.specs.declared.Reply.{Reply}
-use Rattle.eikonal.proofs.Good.{Good, passed}
+use Rattle.eikonal.proofs.Good.{passed}
 use Rattle.eikonal.proofs.Accepted.{Handed, Lent, March-fits, march-fits, Round-fits, round-fits, Run-fits, run-fits}
 use Rattle.front.specs.Board.{land}
 use Rattle.front.specs.State.{Begun}

@@ -11,15 +11,15 @@ use lib.ListN.{length, getD, drop, replicate, length-drop, length-replicate, get
 use lib.Seq.{ext-getD, getD-drop}
 use borrow.Author.Tests.{lt-ltb, lt-leb, leb-true, eq-eqb}
 use Rattle.eikonal.specs.Board.{Board, Start, never, largest, size, slowness, start-time, arrival, met, time, solved, cut, marched, reached, all-never}
-use Rattle.eikonal.specs.Tiles.{tile-of, counts-as, round, altered, after-rounds, rounds, up}
+use Rattle.eikonal.specs.Tiles.{tile-of, counts-as, tiled, round, altered, after-rounds, rounds, up}
 use Rattle.eikonal.specs.Promise.{Neighbour}
-use Rattle.eikonal.proofs.Good.{Good}
-use Rattle.eikonal.proofs.Clip.{clip, cut-length}
+use Rattle.eikonal.specs.Inner.Good.{Good}
+use Rattle.eikonal.specs.Inner.Clip.{clip}
+use Rattle.eikonal.proofs.Clip.{cut-length}
 use Rattle.eikonal.proofs.Grid.{row-low}
 use Rattle.eikonal.proofs.Neighbours.{arrival-same, met-capped}
 use Rattle.eikonal.proofs.Passes.{never-time, solved-length, rule-on}
 use Rattle.eikonal.proofs.Solution.{plain, plain-sound, solved-plain}
-use Rattle.eikonal.proofs.Ghosts.{tiled}
 use Rattle.eikonal.proofs.CutRule.{cut-meets, round-by-rule}
 use Rattle.queue.specs.Tree.{keys}
 use Rattle.front.specs.Front.{ghosted, gives, heard, Tied, Out, Settled, Midway, Upheld, Drift}

@@ -13,7 +13,8 @@ use lib.ListN.{length, getD}
 use lib.Seq.{ext-getD}
 use Rattle.eikonal.specs.Board.{Board, Start, never, largest, size, slowness, arrival, time, solved, marched}
 use Rattle.eikonal.specs.Tiles.{tile-of, counts-as, altered, after-rounds, last-round, rounds, up}
-use Rattle.eikonal.proofs.Good.{Good, size-most}
+use Rattle.eikonal.specs.Inner.Good.{Good}
+use Rattle.eikonal.proofs.Good.{size-most}
 use Rattle.eikonal.proofs.Levels.{order}
 use Rattle.eikonal.proofs.Passes.{solved-length}
 use Rattle.eikonal.proofs.Solution.{plain, solved-plain}

@@ -10,7 +10,7 @@ use lib.ListN.{length, getD, set, length-set}
 use lib.Seq.{getD-set-same, getD-set-other}
 use Rattle.eikonal.specs.Board.{Board, never, largest, size, time}
 use Rattle.eikonal.specs.Promise.{Neighbour}
-use Rattle.eikonal.proofs.Good.{Good}
+use Rattle.eikonal.specs.Inner.Good.{Good}
 use Rattle.queue.specs.Tree.{keys}
 use Rattle.front.specs.Front.{gives, Out, Settled, Midway, Upheld, Drift, Written}
 use Rattle.front.specs.Seams.{border, near}

@@ -12,7 +12,7 @@ use Rattle.eikonal.specs.Board.{Board, Start, never, largest, size, slowness, s
 use Rattle.eikonal.specs.Tiles.{tile-of, counts-as}
 use Rattle.eikonal.specs.Refusals.{starts-rise, late}
 use Rattle.eikonal.specs.Promise.{Neighbour}
-use Rattle.eikonal.proofs.Good.{Good}
+use Rattle.eikonal.specs.Inner.Good.{Good}
 use Rattle.eikonal.proofs.Local.{local-of, earlier-min, Answers, stays, comes, local-answers}
 use Rattle.eikonal.proofs.Rule.{sides, along, down}
 use Rattle.eikonal.proofs.Neighbours.{arrival-is, arrival-same}

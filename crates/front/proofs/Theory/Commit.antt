@@ -12,7 +12,7 @@ use borrow.Author.Tests.{eq-eqb, ne-eqb, le-ltb, ltb-true, ltb-false}
 use Rattle.eikonal.specs.Board.{Board, never, largest, size, slowness, time}
 use Rattle.eikonal.specs.Tiles.{tile-of, counts-as}
 use Rattle.eikonal.specs.Promise.{Neighbour}
-use Rattle.eikonal.proofs.Good.{Good}
+use Rattle.eikonal.specs.Inner.Good.{Good}
 use Rattle.front.specs.Front.{ghosted, gives, heard, Settled, Midway, Upheld}
 use Rattle.front.proofs.Theory.Sight.{gives-mono, gives-causal, gives-same, gives-lawful}
 use Rattle.front.specs.Board.{rule-by}

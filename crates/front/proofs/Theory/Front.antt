@@ -6,7 +6,8 @@ use native.Mathlib.Omega.{arith}
 use native.Mathlib.Decide.{ℕ-discrete}
 use native.Mathlib.Nat.{le-trans}
 use Rattle.eikonal.specs.Board.{never}
-use Rattle.eikonal.proofs.Clip.{clip, clip-same, clip-low}
+use Rattle.eikonal.specs.Inner.Clip.{clip}
+use Rattle.eikonal.proofs.Clip.{clip-same, clip-low}
 use Rattle.front.specs.Front.{heard, Tied, Settled, Midway, Upheld, Drop, total, weight}
 
 -- what the engine needs of a rule

@@ -12,7 +12,8 @@ use lib.ListN.{length, getD}
 use borrow.Author.Tests.{eq-eqb, ne-eqb, lt-ltb, le-ltb}
 use Rattle.eikonal.specs.Board.{Board, never, largest, size, slowness, time, local, arrival}
 use Rattle.eikonal.specs.Tiles.{counts-as}
-use Rattle.eikonal.proofs.Good.{Good, size-most}
+use Rattle.eikonal.specs.Inner.Good.{Good}
+use Rattle.eikonal.proofs.Good.{size-most}
 use Rattle.eikonal.proofs.Grid.{right-on, below-on}
 use Rattle.front.specs.Front.{ghosted}
 use Rattle.front.specs.Seams.{seam, edge, across}

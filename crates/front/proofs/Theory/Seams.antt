@@ -12,7 +12,7 @@ use borrow.Author.Tests.{eq-eqb, ne-eqb, eqb-true, eqb-false}
 use Rattle.eikonal.specs.Board.{Board, never, size}
 use Rattle.eikonal.specs.Tiles.{tile-of, up}
 use Rattle.eikonal.specs.Promise.{Neighbour, Beside}
-use Rattle.eikonal.proofs.Good.{Good}
+use Rattle.eikonal.specs.Inner.Good.{Good}
 use Rattle.eikonal.proofs.Grid.{next-column, wraps, below-off, below-on, above-on, above-off, column-some, row-low}
 use Rattle.front.specs.Front.{Out, ghosted}
 use Rattle.front.specs.Seams.{edge, border, inside, seam, across, beyond, near}

@@ -7,7 +7,7 @@ use lib.Dec.{eqb}
 use Rattle.eikonal.specs.Board.{Board, never, size, slowness, arrival}
 use Rattle.eikonal.specs.Tiles.{tile-of}
 use Rattle.eikonal.specs.Promise.{Neighbour}
-use Rattle.eikonal.proofs.Good.{Good}
+use Rattle.eikonal.specs.Inner.Good.{Good}
 use Rattle.eikonal.proofs.Neighbours.{arrival-agree, arrival-under, arrival-same, arrival-wall, arrival-late}
 use Rattle.front.specs.Front.{ghosted, gives}
 use Rattle.front.proofs.Theory.Front.{Lawful}

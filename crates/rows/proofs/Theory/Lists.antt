@@ -12,8 +12,9 @@ use lib.ListN.{length, getD, set, take, drop, replicate, length-set, length-appe
 use lib.Seq.{getD-set-same, getD-set-other, getD-drop, drop-at, take-suc-set, take-length, ext-getD}
 use borrow.Author.Tests.{le-leb, lt-leb}
 use Rattle.eikonal.specs.Board.{never, reached}
+use Rattle.eikonal.specs.Inner.Clip.{clip}
 use Rattle.eikonal.proofs.Levels.{order}
-use Rattle.eikonal.proofs.Clip.{clip, Clipped, kept, lost, clipped}
+use Rattle.eikonal.proofs.Clip.{Clipped, kept, lost, clipped}
 use Rattle.rows.specs.Lists.{Filled, Finished, due}
 use Rattle.front.proofs.Theory.Reading.{time-at}
 

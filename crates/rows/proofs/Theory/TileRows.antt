@@ -16,10 +16,10 @@ use borrow.Rule.Slice.PartMut.{midOf, mid-len}
 use Rattle.eikonal.specs.Board.{Board}
 use Rattle.eikonal.specs.Tiles.{up, tile-of, tile-count}
 use Rattle.eikonal.specs.Refusals.{member, all-there, order-good}
+use Rattle.eikonal.specs.Inner.Clip.{clip}
 use Rattle.eikonal.proofs.Levels.{order}
 use Rattle.eikonal.proofs.Good.{and-true}
 use Rattle.eikonal.proofs.Grid.{row-low}
-use Rattle.eikonal.proofs.Clip.{clip}
 use Rattle.front.specs.Board.{land}
 use Rattle.rows.specs.Lists.{due}
 use Rattle.rows.specs.Rows.{Entered, Block, tile-in, Room, Wrote}

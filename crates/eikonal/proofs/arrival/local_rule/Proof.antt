@@ -10,7 +10,7 @@ use lib.Dec.{ltb}
 use Rattle.eikonal.specs.Board.{never, largest, local}
 use Rattle.eikonal.specs.Ledger.{answer, answered}
 use Rattle.eikonal.specs.Entry.{seen, slowness-refusal, Local-says}
-use Rattle.eikonal.proofs.Good.{Known}
+use Rattle.eikonal.specs.Inner.Good.{Known}
 use Rattle.eikonal.proofs.Local.{local-is}
 use Rattle.eikonal.proofs.Solution.{earlier-known, local-known}
 use Rattle.eikonal.proofs.arrival.local_rule.Statement.{statement}

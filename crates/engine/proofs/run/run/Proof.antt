@@ -10,7 +10,7 @@ use mathlib.Core.List.{List}
 use lib.Dec.{leb}
 use borrow.Author.Needs.{needs}
 use Rattle.eikonal.specs.Board.{Start}
-use Rattle.eikonal.proofs.Good.{Good}
+use Rattle.eikonal.specs.Inner.Good.{Good}
 use Rattle.front.proofs.Theory.Reading.{cells-most}
 use Rattle.engine.specs.Run.{whole, At-round, Leapt}
 use Rattle.engine.proofs.Theory.Running.{ground-kept, size-whole, Mid-run, run-short, run-begins, run-stops, run-ends, leap-cut, run-goes-on, run-early, run-busy}

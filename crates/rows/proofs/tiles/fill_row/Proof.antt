@@ -3,7 +3,7 @@ use Prim.Native.Nat.{_-_, _≤_, _<_}
 use native.Mathlib.Omega.{arith}
 use lib.ListN.{length, getD}
 use borrow.Author.Needs.{needs}
-use Rattle.eikonal.proofs.Clip.{clip}
+use Rattle.eikonal.specs.Inner.Clip.{clip}
 use Rattle.rows.specs.Rows.{Entered, All}
 use Rattle.rows.proofs.Theory.Entered.{differ-most, count-most, entered-none, entered-next, entered-of}
 use Rattle.rows.proofs.tiles.fill_row.Statement.{statement}

@@ -4,7 +4,7 @@ use native.Mathlib.Omega.{arith}
 use lib.ListN.{getD}
 use borrow.Author.Needs.{needs}
 use borrow.Rule.Slice.PartMut.{midOf}
-use Rattle.eikonal.proofs.Clip.{clip}
+use Rattle.eikonal.specs.Inner.Clip.{clip}
 use Rattle.rows.specs.Lists.{due}
 use Rattle.rows.specs.Rows.{Block}
 use Rattle.rows.proofs.Theory.Entered.{entered-part, entered-of}
