@@ -2,7 +2,7 @@
 
 use second_solver::board::Board;
 use second_solver::calls::{Call, Kind};
-use second_solver::compare::play_both;
+use second_solver::compare::{play_both, Tally};
 use second_solver::damage::{spoil_call, CALL_CAUSES};
 use second_solver::ffi::engine::play;
 use second_solver::generate::{self, garbage};
@@ -25,16 +25,13 @@ fn refused_by(causes: &[u32], seed: u64) -> u32 {
 
 #[test]
 fn every_cause_is_refused_by_its_number() {
-    let mut given = [0; 16];
+    let mut tally = Tally::default();
     for (i, &cause) in CALL_CAUSES.iter().enumerate() {
         for seed in 0..1_500 {
-            let number = refused_by(&[cause], 10_000_000 + 10_000 * i as u64 + seed);
-            given[number as usize] += 1;
+            tally.note(refused_by(&[cause], 10_000_000 + 10_000 * i as u64 + seed));
         }
     }
-    for cause in CALL_CAUSES {
-        assert!(given[cause as usize] > 700, "{} was given {} times only", cause, given[cause as usize]);
-    }
+    tally.assert_each(&CALL_CAUSES, 700);
 }
 
 #[test]
