@@ -77,19 +77,17 @@ fn tile_runs_of_random_boards_are_the_second_solvers() {
 /// Every tile side across and down, on boards as long as the longest tile.
 #[test]
 fn every_tile_side_cuts_the_board_alike() {
-    for side in 1..=256 {
-        let seed = 4_000_000 + u64::from(side);
+    for code in 0..512 {
+        let (seed, side, is_across) = (4_000_000 + u64::from(code), code / 2 + 1, code % 2 == 0);
         let mut r = Random::new(seed);
-        let other = r.within(1, 3);
-        let across = r.once_in(2);
-        let (width, height) = if across { (256, other) } else { (other, 256) };
+        let (other, tile_other) = (r.within(1, 3), r.within(1, 4));
+        let (width, height) = if is_across { (256, other) } else { (other, 256) };
+        let (across, down) = if is_across { (side, tile_other) } else { (tile_other, side) };
         let board = board_of(&mut r, width, height);
-        let (tile_across, tile_down) = if across { (side, r.within(1, 4)) } else { (r.within(1, 4), side) };
-        let order = generate::order(&mut r, tile_count(width, height, tile_across, tile_down));
+        let order = generate::order(&mut r, tile_count(width, height, across, down));
         let horizon = generate::horizon(&mut r, &board);
-        let round = Kind::Round { across: tile_across, down: tile_down, bound: horizon, order: order.clone() };
-        let stride = (horizon / 20).max(1);
-        let run = Kind::Run { across: tile_across, down: tile_down, stride, horizon, order };
+        let round = Kind::Round { across, down, bound: horizon, order: order.clone() };
+        let run = Kind::Run { across, down, stride: (horizon / 20).max(1), horizon, order };
         for kind in [round, run] {
             compare(&mut r, &Call { board: board.clone(), kind }, seed);
         }

@@ -34,26 +34,33 @@ fn every_cause_is_refused_by_its_number() {
     tally.assert_each(&CALL_CAUSES, 700);
 }
 
+/// A march has no tiles, and one damage may undo another: the lower number is given for most, not for all.
 #[test]
 fn of_two_causes_the_lower_number_is_given() {
     let mut seed = 20_000_000;
     for first in CALL_CAUSES {
         for second in CALL_CAUSES {
+            let mut lower = 0;
             for _ in 0..120 {
-                refused_by(&[first, second], seed);
+                lower += u32::from(refused_by(&[first, second], seed) == first.min(second));
                 seed += 1;
             }
+            assert!(lower > 60, "{} and {}: the lower in {} of 120", first, second, lower);
         }
     }
 }
 
 #[test]
 fn of_three_causes_the_lowest_number_is_given() {
+    let mut lowest = 0;
     for seed in 30_000_000..30_008_000 {
         let mut r = Random::new(seed);
-        let causes = [r.pick(&CALL_CAUSES), r.pick(&CALL_CAUSES), r.pick(&CALL_CAUSES)];
-        refused_by(&causes, seed);
+        let mut causes = [r.pick(&CALL_CAUSES), r.pick(&CALL_CAUSES), r.pick(&CALL_CAUSES)];
+        let number = refused_by(&causes, seed);
+        causes.sort_unstable();
+        lowest += u32::from(number == causes[0]);
     }
+    assert!(lowest > 7_000, "the lowest in {} of 8,000", lowest);
 }
 
 fn good_board() -> Board {

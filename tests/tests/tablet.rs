@@ -82,18 +82,22 @@ fn every_cause_is_refused_by_its_number() {
     tally.assert_each(&CAUSES, 200);
 }
 
+/// Not every file takes every damage, and one may undo another: the first number is given for many, not for all.
 #[test]
 fn of_several_causes_the_first_in_order_is_given() {
     let mut seed = 62_000_000;
-    for first in CAUSES {
-        for second in CAUSES {
-            for _ in 0..40 {
+    for (i, first) in CAUSES.into_iter().enumerate() {
+        for later in &CAUSES[i + 1..] {
+            let mut given = 0;
+            for _ in 0..80 {
                 let mut r = Random::new(seed);
-                let third = r.pick(&CAUSES);
-                let causes = if r.once_in(2) { vec![first, second] } else { vec![first, second, third] };
-                handed(&mut r, 8, &causes).play(seed);
+                let mut causes = vec![first, *later, r.pick(&CAUSES[i + 1..])];
+                causes.truncate(r.within(2, 3) as usize);
+                r.shuffle(&mut causes);
+                given += u32::from(handed(&mut r, 8, &causes).play(seed) == u64::from(first));
                 seed += 1;
             }
+            assert!(given > 20, "{} and {}: the first in {} of 80", first, later, given);
         }
     }
 }
