@@ -11,9 +11,9 @@ fn main() {
     };
     let archive = folder.join("libmurgolab.a");
     println!("cargo:rerun-if-changed={}", archive.display());
-    if !archive.exists() {
-        panic!("{} is not there: run `rt staticlib murgolab`, or name its folder in MURGOLAB_LIB", archive.display());
-    }
     println!("cargo:rustc-link-search=native={}", folder.display());
-    println!("cargo:rustc-link-lib=static=murgolab");
+    // A build script does not know what it is run for: one that failed would stop `cargo doc` and `cargo check` too.
+    // So a library is asked for whose name says what is missing: the compiler's one message is then of use.
+    let missing = " (run rt staticlib murgolab, or name the folder of libmurgolab.a in MURGOLAB_LIB)";
+    println!("cargo:rustc-link-lib=static=murgolab{}", if archive.exists() { "" } else { missing });
 }

@@ -19,7 +19,7 @@
 //! | `random`, `generate` | seeded boards, calls and scenarios |
 //! | `typed` | a scenario file typed by hand |
 //! | `damage`, `drafts` | calls and files that are damaged in every way that the table names |
-//! | `lent`, `compare` | lists lent with marked entries on both sides; calls and lists of calls played on both solvers |
+//! | `lent`, `compare` | lists lent with marked entries on both sides; calls and lists of calls played on both |
 //! | `ffi` | the engine's C names, one module to a family, so that a test links what it calls |
 //! | `declared` | the C interface as the header, the source and Rust code state it |
 //! | `programs` | programs that are compiled and run |

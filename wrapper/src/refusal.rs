@@ -70,8 +70,7 @@ refusals! {
     3 => Ticks, "ticks per turn not 1 to 65,535";
     4 => ListLength, "slowness list not N long, or plain start lists of unequal length";
     5 => Slowness, "a slowness, the ground's too, above 4,095";
-    6 => Run, "a run of the file not sorted, overlapping, empty, past the board, of the ground's slowness, \
-        or of the slowness of one it touches";
+    6 => Run, "a run not sorted, overlapping, empty, past the board, or as slow as the ground or as a run it touches";
     7 => StartCell, "start cell off the board, or not above the one before";
     8 => StartTime, "start time above 1,000,000";
     9 => StartOnWall, "start on a wall";

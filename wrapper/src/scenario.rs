@@ -36,14 +36,10 @@ pub fn read_scenario(file: &[u8]) -> Result<Scenario, Refusal> {
     let most_starts = MOST_CELLS.min(file.len() / 8);
     let (mut slow, mut starts) = (vec![0; MOST_CELLS], vec![Start { cell: 0, time: 0 }; most_starts]);
     // SAFETY: the lists are as long as said, and those lent for writing are borrowed alone
+    #[rustfmt::skip]
     let said = unsafe {
         sys::murgolab_read_scenario(
-            file.as_ptr(),
-            file.len(),
-            slow.as_mut_ptr(),
-            slow.len(),
-            starts.as_mut_ptr(),
-            starts.len(),
+            file.as_ptr(), file.len(), slow.as_mut_ptr(), slow.len(), starts.as_mut_ptr(), starts.len(),
         )
     };
     if let Some(refusal) = Refusal::of(said.number) {
@@ -77,21 +73,15 @@ pub fn write_scenario(scenario: &Scenario) -> Result<Vec<u8>, Refusal> {
     // a run for each cell at most, and a start: more starts are refused for their cells, before room is asked for
     let mut out = vec![0; 16 + 10 * board.size() + 8 * board.size().min(board.starts.len())];
     // SAFETY: the lists are as long as said, and the one lent for writing is borrowed alone
-    let length = answer(unsafe {
+    #[rustfmt::skip]
+    let reply = unsafe {
         sys::murgolab_write_scenario(
-            board.width,
-            board.height,
-            *ticks,
-            *ground,
-            board.slow.as_ptr(),
-            board.slow.len(),
-            board.starts.as_ptr(),
-            board.starts.len(),
-            out.as_mut_ptr(),
-            out.len(),
+            board.width, board.height, *ticks, *ground,
+            board.slow.as_ptr(), board.slow.len(), board.starts.as_ptr(), board.starts.len(),
+            out.as_mut_ptr(), out.len(),
         )
-    })?;
-    out.truncate(length as usize);
+    };
+    out.truncate(answer(reply)? as usize);
     out.shrink_to_fit();
     Ok(out)
 }
@@ -115,15 +105,10 @@ pub fn write_scenario(scenario: &Scenario) -> Result<Vec<u8>, Refusal> {
 pub fn tablet_run(file: &[u8], stride: u32, tiles: Tiles) -> Result<Run, Refusal> {
     let mut out = [0; 4 * 32 * 32];
     // SAFETY: the lists are as long as said, and the one lent for writing is borrowed alone
+    #[rustfmt::skip]
     let said = unsafe {
         sys::murgolab_tablet_run(
-            file.as_ptr(),
-            file.len(),
-            stride,
-            tiles.across,
-            tiles.down,
-            out.as_mut_ptr(),
-            out.len(),
+            file.as_ptr(), file.len(), stride, tiles.across, tiles.down, out.as_mut_ptr(), out.len(),
         )
     };
     // rounds × 256, or the bare refusal

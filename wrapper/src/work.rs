@@ -64,7 +64,7 @@ impl Work {
     fn lists(&mut self, board: &Board, tiles: usize) -> (&mut [u32], &[u32]) {
         let room = 4 * board.size();
         if self.list.len() < room {
-            self.list.resize(room, 0);
+            self.list = vec![0; room];
         }
         if self.rising.len() < tiles {
             self.rising = (0..tiles as u32).collect();
@@ -80,21 +80,16 @@ impl Work {
     pub fn march(&mut self, board: &Board, horizon: u32, times: &mut [u32]) -> Result<u32, Refusal> {
         let (work, _) = self.lists(board, 0);
         // SAFETY: the lists are as long as said, and those lent for writing are borrowed alone
-        answer(unsafe {
+        #[rustfmt::skip]
+        let reply = unsafe {
             sys::murgolab_march(
-                board.width,
-                board.height,
-                board.slow.as_ptr(),
-                board.slow.len(),
-                board.starts.as_ptr(),
-                board.starts.len(),
+                board.width, board.height, board.slow.as_ptr(), board.slow.len(),
+                board.starts.as_ptr(), board.starts.len(),
                 horizon,
-                times.as_mut_ptr(),
-                times.len(),
-                work.as_mut_ptr(),
-                work.len(),
+                times.as_mut_ptr(), times.len(), work.as_mut_ptr(), work.len(),
             )
-        })
+        };
+        answer(reply)
     }
 
     /// As the function [`one_round`]: answers how many entries of `times` it alters.
@@ -105,25 +100,16 @@ impl Work {
     pub fn one_round(&mut self, board: &Board, tiles: Tiles, bound: u32, times: &mut [u32]) -> Result<u32, Refusal> {
         let (work, order) = self.lists(board, board.tiles(tiles));
         // SAFETY: the lists are as long as said, and those lent for writing are borrowed alone
-        answer(unsafe {
+        #[rustfmt::skip]
+        let reply = unsafe {
             sys::murgolab_one_round(
-                board.width,
-                board.height,
-                board.slow.as_ptr(),
-                board.slow.len(),
-                board.starts.as_ptr(),
-                board.starts.len(),
-                tiles.across,
-                tiles.down,
-                bound,
-                order.as_ptr(),
-                order.len(),
-                times.as_mut_ptr(),
-                times.len(),
-                work.as_mut_ptr(),
-                work.len(),
+                board.width, board.height, board.slow.as_ptr(), board.slow.len(),
+                board.starts.as_ptr(), board.starts.len(),
+                tiles.across, tiles.down, bound, order.as_ptr(), order.len(),
+                times.as_mut_ptr(), times.len(), work.as_mut_ptr(), work.len(),
             )
-        })
+        };
+        answer(reply)
     }
 
     /// As the function [`tile_run`]: fills `times`, which may hold anything, and answers how many rounds there are.
@@ -141,26 +127,16 @@ impl Work {
     ) -> Result<u32, Refusal> {
         let (work, order) = self.lists(board, board.tiles(tiles));
         // SAFETY: the lists are as long as said, and those lent for writing are borrowed alone
-        answer(unsafe {
+        #[rustfmt::skip]
+        let reply = unsafe {
             sys::murgolab_tile_run(
-                board.width,
-                board.height,
-                board.slow.as_ptr(),
-                board.slow.len(),
-                board.starts.as_ptr(),
-                board.starts.len(),
-                tiles.across,
-                tiles.down,
-                stride,
-                horizon,
-                order.as_ptr(),
-                order.len(),
-                times.as_mut_ptr(),
-                times.len(),
-                work.as_mut_ptr(),
-                work.len(),
+                board.width, board.height, board.slow.as_ptr(), board.slow.len(),
+                board.starts.as_ptr(), board.starts.len(),
+                tiles.across, tiles.down, stride, horizon, order.as_ptr(), order.len(),
+                times.as_mut_ptr(), times.len(), work.as_mut_ptr(), work.len(),
             )
-        })
+        };
+        answer(reply)
     }
 }
 

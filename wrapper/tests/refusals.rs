@@ -65,6 +65,13 @@ fn files_are_judged_by_the_library() {
         assert_eq!(read_scenario(&file[..length]), Err(Refusal::FileLength));
         assert_eq!(tablet_run(&file[..length], 1, TILES), Err(Refusal::FileLength));
     }
+    // ticks, the one run's slowness
+    for (place, byte, refusal) in [(4, 0, Refusal::Ticks), (24, 10, Refusal::Run)] {
+        let mut damaged = file.clone();
+        damaged[place] = byte;
+        assert_eq!(read_scenario(&damaged), Err(refusal));
+        assert_eq!(tablet_run(&damaged, 1, TILES), Err(refusal));
+    }
     assert_eq!(tablet_run(&file, 0, TILES), Err(Refusal::Range));
     assert_eq!(tablet_run(&file, 1, Tiles { across: 0, down: 1 }), Err(Refusal::SidesOfTile));
     let wide = Board { width: 33, height: 1, slow: vec![10; 33], starts: vec![] };
