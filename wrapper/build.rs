@@ -1,14 +1,12 @@
 //! Links libmurgolab.a: from the folder that MURGOLAB_LIB names, else from the repository's target/staticlib.
 
-use std::path::{Path, PathBuf};
+use std::path::Path;
 
 fn main() {
     println!("cargo:rerun-if-env-changed=MURGOLAB_LIB");
     let package = std::env::var("CARGO_MANIFEST_DIR").expect("cargo names the package's folder");
-    let folder = match std::env::var_os("MURGOLAB_LIB") {
-        Some(folder) => PathBuf::from(folder),
-        None => Path::new(&package).join("../target/staticlib"),
-    };
+    let named = std::env::var_os("MURGOLAB_LIB").unwrap_or_else(|| "../target/staticlib".into());
+    let folder = Path::new(&package).join(named);
     let archive = folder.join("libmurgolab.a");
     println!("cargo:rerun-if-changed={}", archive.display());
     println!("cargo:rustc-link-search=native={}", folder.display());
