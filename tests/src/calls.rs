@@ -30,7 +30,7 @@ impl Call {
         let numbers_good = match self.kind {
             Kind::March { horizon } => horizon <= LARGEST,
             Kind::Round { bound, .. } => bound <= LARGEST,
-            Kind::Run { stride, horizon, .. } => horizon <= LARGEST && stride >= 1 && stride <= LARGEST,
+            Kind::Run { stride, horizon, .. } => horizon <= LARGEST && (1..=LARGEST).contains(&stride),
         };
         if !numbers_good {
             return 10;

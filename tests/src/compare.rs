@@ -6,23 +6,55 @@ use crate::calls::Call;
 use crate::lent::{difference, Lent};
 use crate::scenario::{self, Held, Scenario};
 use crate::Reply;
+use std::collections::BTreeMap;
 use std::fmt::Debug;
 
 /// The engine's way to play a call: one of `ffi`.
 pub type Engine = fn(&Call, &mut [u32], &mut [u32]) -> Reply;
 
+/// Answer, times and work of the engine alone, for a call on lists that hold these.
+pub fn engine_alone(engine: Engine, call: &Call, times: &[u32], work: &[u32]) -> (Reply, Vec<u32>, Vec<u32>) {
+    let (mut times, mut work) = (Lent::new(times), Lent::new(work));
+    let reply = engine(call, times.lend(), work.lend());
+    (reply, times.back().to_vec(), work.back().to_vec())
+}
+
+/// One list of times, held twice: the engine is lent its own from call to call, the second solver keeps
+/// its own. Neither is ever set to what the other holds.
+pub struct Ledger {
+    lent: Lent<u32>,
+    kept: Vec<u32>,
+}
+
+impl Ledger {
+    pub fn new(times: &[u32]) -> Ledger {
+        Ledger { lent: Lent::new(times), kept: times.to_vec() }
+    }
+
+    pub fn times(&self) -> &[u32] {
+        &self.kept
+    }
+
+    /// Plays the next call on both, with work lists that hold `work`; answers what both answer.
+    pub fn play(&mut self, engine: Engine, call: &Call, work: &[u32], seed: u64) -> Reply {
+        let (before, mut want_work) = (self.kept.clone(), work.to_vec());
+        let want = call.play(&mut self.kept, &mut want_work);
+        let mut lent_work = Lent::new(work);
+        let got = engine(call, self.lent.lend(), lent_work.lend());
+        let told = || format!("seed {}: {:?}\nwith times {:?}\nand {} work entries", seed, call, before, work.len());
+        assert_eq!(got, want, "the answer, {}", told());
+        assert_same("times", self.lent.back(), &self.kept, told);
+        assert_same("work", lent_work.back(), &want_work, told);
+        want
+    }
+}
+
 /// Plays the call on lists that hold `times` and `work`; answers what both answer, and the times that
 /// both leave.
 pub fn play_both(engine: Engine, call: &Call, times: &[u32], work: &[u32], seed: u64) -> (Reply, Vec<u32>) {
-    let (mut want_times, mut want_work) = (times.to_vec(), work.to_vec());
-    let want = call.play(&mut want_times, &mut want_work);
-    let (mut lent_times, mut lent_work) = (Lent::new(times), Lent::new(work));
-    let got = engine(call, lent_times.lend(), lent_work.lend());
-    let told = || format!("seed {}: {:?}\nwith times {:?}\nand {} work entries", seed, call, times, work.len());
-    assert_eq!(got, want, "the answer, {}", told());
-    assert_same("times", lent_times.back(), &want_times, told);
-    assert_same("work", lent_work.back(), &want_work, told);
-    (want, want_times)
+    let mut ledger = Ledger::new(times);
+    let reply = ledger.play(engine, call, work, seed);
+    (reply, ledger.kept)
 }
 
 /// The engine's way to read a file: one of `ffi`.
@@ -75,22 +107,25 @@ fn start_of(file: &[u8]) -> &[u8] {
 
 /// How often each number was answered, 0 for accepted.
 #[derive(Default)]
-pub struct Tally([u32; 16]);
+pub struct Tally(BTreeMap<u32, u32>);
 
 impl Tally {
     pub fn note(&mut self, number: u32) {
-        self.0[number as usize] += 1;
+        *self.0.entry(number).or_default() += 1;
     }
 
     pub fn calls(&self) -> u32 {
-        self.0.iter().sum()
+        self.0.values().sum()
     }
 
     /// Acceptance and each of the causes came at least so often, and no other number did.
     pub fn assert_each(&self, causes: &[u32], least: u32) {
-        for (number, &given) in self.0.iter().enumerate() {
-            let may_come = number == 0 || causes.contains(&(number as u32));
-            assert!(if may_come { given >= least } else { given == 0 }, "{} was given {} times", number, given);
+        for number in causes.iter().chain([&0]) {
+            let given = self.0.get(number).copied().unwrap_or(0);
+            assert!(given >= least, "{} was given {} times only", number, given);
+        }
+        for (number, given) in &self.0 {
+            assert!(*number == 0 || causes.contains(number), "{} was given {} times", number, given);
         }
     }
 }

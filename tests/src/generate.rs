@@ -74,13 +74,12 @@ pub fn board(r: &mut Random, longest: u32) -> Board {
 
 /// What a list of times may hold before a call: anything at all.
 pub fn stored(r: &mut Random, board: &Board) -> Vec<u32> {
-    let n = board.size();
     let times = solved(&Grid::new(board));
     let edges = [0, 1, LARGEST - 1, LARGEST, LARGEST + 1, NEVER - 1, NEVER];
     let late = times.iter().copied().filter(|&t| t != NEVER).max().unwrap_or(0);
     let (style, rare) = (r.below(7), r.within(2, 12));
-    let mut held = Vec::with_capacity(n);
-    for c in 0..n {
+    let mut held = Vec::with_capacity(times.len());
+    for time in times {
         held.push(match style {
             0 => NEVER,
             1 => r.any(),
@@ -89,7 +88,7 @@ pub fn stored(r: &mut Random, board: &Board) -> Vec<u32> {
             4 if r.once_in(rare) => NEVER,
             5 if r.once_in(rare) => r.within(0, late),
             6 if r.once_in(rare) => r.pick(&edges),
-            _ => times[c],
+            _ => time,
         });
     }
     held

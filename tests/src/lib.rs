@@ -1,8 +1,10 @@
 //! A second solver for fronts on a tiled board.
 //!
-//! It is written from document 01 alone, by the plainest means, and shares nothing with the proved
-//! engine: where both give the same answers, neither can have the same slip as the other. The tests
-//! beside it (`tests/*.rs`) call the engine through its C names and compare, exactly.
+//! It is written from document 01, by the plainest means, and shares no code with the proved engine. The
+//! tests beside it (`tests/*.rs`) call the engine through its C names and compare, exactly: a slip of one
+//! program shows as a difference. What both share is a reading: both were written from the same page, and
+//! where it was misread in the same way both agree and are wrong. Against that stand the answers that
+//! document 01 works by hand (cells, boards, rounds, the lines of `rings`); they are typed into the tests.
 //!
 //! | Module | Holds |
 //! |---|---|
@@ -17,7 +19,7 @@
 //! | `random`, `generate` | seeded boards, calls and scenarios |
 //! | `typed` | a scenario file typed by hand |
 //! | `damage`, `drafts` | calls and files that are damaged in every way that the table names |
-//! | `lent`, `compare` | lists lent with marked entries on both sides; a call played on both solvers |
+//! | `lent`, `compare` | lists lent with marked entries on both sides; calls and lists of calls played on both |
 //! | `ffi` | the engine's C names, one module to a family, so that a test links what it calls |
 //! | `declared` | the C interface as the header, the source and Rust code state it |
 //! | `programs` | programs that are compiled and run |

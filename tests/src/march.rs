@@ -47,10 +47,10 @@ pub fn solved_by_passes(grid: &Grid) -> Vec<u32> {
 pub fn solved_by_front(grid: &Grid) -> Vec<u32> {
     let mut times = vec![NEVER; grid.size()];
     let mut front = BinaryHeap::new();
-    for c in 0..grid.size() {
-        if grid.start[c] != NEVER {
-            times[c] = grid.start[c];
-            front.push(Reverse((times[c], c)));
+    for (c, &start) in grid.start.iter().enumerate() {
+        if start != NEVER {
+            times[c] = start;
+            front.push(Reverse((start, c)));
         }
     }
     while let Some(Reverse((time, c))) = front.pop() {

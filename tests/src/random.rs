@@ -7,7 +7,7 @@ impl Random {
         Random(seed.wrapping_mul(0x9E37_79B9_7F4A_7C15) ^ 0x5851_F42D_4C95_7F2D)
     }
 
-    pub fn next(&mut self) -> u64 {
+    fn bits(&mut self) -> u64 {
         self.0 = self.0.wrapping_add(0x9E37_79B9_7F4A_7C15);
         let mut z = self.0;
         z = (z ^ (z >> 30)).wrapping_mul(0xBF58_476D_1CE4_E5B9);
@@ -17,17 +17,17 @@ impl Random {
 
     /// Any 32 bits.
     pub fn any(&mut self) -> u32 {
-        (self.next() >> 32) as u32
+        (self.bits() >> 32) as u32
     }
 
     /// 0 to n - 1; n is 1 or more.
     pub fn below(&mut self, n: u32) -> u32 {
-        ((self.next() >> 32) * u64::from(n) >> 32) as u32
+        (((self.bits() >> 32) * u64::from(n)) >> 32) as u32
     }
 
     /// low to high, both included.
     pub fn within(&mut self, low: u32, high: u32) -> u32 {
-        (u64::from(low) + ((self.next() >> 32) * (u64::from(high - low) + 1) >> 32)) as u32
+        (u64::from(low) + (((self.bits() >> 32) * (u64::from(high - low) + 1)) >> 32)) as u32
     }
 
     /// True once in n times.

@@ -2,13 +2,15 @@
 
 use second_solver::board::{Board, Grid};
 use second_solver::calls::{Call, Kind, MOST_WORKED};
-use second_solver::compare::play_both;
+use second_solver::compare::{engine_alone, play_both, Ledger};
 use second_solver::ffi::engine::play;
+use second_solver::ffi::engine_records;
 use second_solver::generate::{self, board_of};
 use second_solver::march::solved;
 use second_solver::random::Random;
 use second_solver::tiles::{bound_of, round, tile_count, Tiling};
 use second_solver::{LARGEST, NEVER};
+use std::collections::BTreeSet;
 
 /// Plays a good call: the times hold anything, the work list is longer than it must be.
 fn compare(r: &mut Random, call: &Call, seed: u64) -> (u32, Vec<u32>) {
@@ -75,19 +77,17 @@ fn tile_runs_of_random_boards_are_the_second_solvers() {
 /// Every tile side across and down, on boards as long as the longest tile.
 #[test]
 fn every_tile_side_cuts_the_board_alike() {
-    for side in 1..=256 {
-        let seed = 4_000_000 + u64::from(side);
+    for code in 0..512 {
+        let (seed, side, is_across) = (4_000_000 + u64::from(code), code / 2 + 1, code % 2 == 0);
         let mut r = Random::new(seed);
-        let other = r.within(1, 3);
-        let across = r.once_in(2);
-        let (width, height) = if across { (256, other) } else { (other, 256) };
+        let (other, tile_other) = (r.within(1, 3), r.within(1, 4));
+        let (width, height) = if is_across { (256, other) } else { (other, 256) };
+        let (across, down) = if is_across { (side, tile_other) } else { (tile_other, side) };
         let board = board_of(&mut r, width, height);
-        let (tile_across, tile_down) = if across { (side, r.within(1, 4)) } else { (r.within(1, 4), side) };
-        let order = generate::order(&mut r, tile_count(width, height, tile_across, tile_down));
+        let order = generate::order(&mut r, tile_count(width, height, across, down));
         let horizon = generate::horizon(&mut r, &board);
-        let round = Kind::Round { across: tile_across, down: tile_down, bound: horizon, order: order.clone() };
-        let stride = (horizon / 20).max(1);
-        let run = Kind::Run { across: tile_across, down: tile_down, stride, horizon, order };
+        let round = Kind::Round { across, down, bound: horizon, order: order.clone() };
+        let run = Kind::Run { across, down, stride: (horizon / 20).max(1), horizon, order };
         for kind in [round, run] {
             compare(&mut r, &Call { board: board.clone(), kind }, seed);
         }
@@ -153,7 +153,7 @@ fn rounds_go_on_where_the_stride_times_their_number_passes_32_bits() {
 }
 
 /// As many single rounds as a run answers, from all never and with its bounds, leave the run's times;
-/// the last alters nothing, and none at the horizon before it does so.
+/// the last alters nothing, and none at the horizon before it does so. The run is the engine's alone.
 #[test]
 fn a_tile_run_is_as_many_single_rounds_as_it_answers() {
     for seed in 7_000_000..7_001_500 {
@@ -162,21 +162,21 @@ fn a_tile_run_is_as_many_single_rounds_as_it_answers() {
         let (across, down, order) = tiles(&mut r, &board);
         let horizon = generate::horizon(&mut r, &board);
         let stride = (horizon / r.within(1, 40)).max(1);
-        let run = Kind::Run { across, down, stride, horizon, order };
-        let (rounds, after) = compare(&mut r, &Call { board: board.clone(), kind: run }, seed);
-        let mut times = vec![NEVER; board.size()];
-        for k in 1..=u64::from(rounds) {
+        let run = Call { board: board.clone(), kind: Kind::Run { across, down, stride, horizon, order } };
+        let (times, work) = (generate::stored(&mut r, &board), generate::garbage(&mut r, 4 * board.size()));
+        let (reply, after, _) = engine_alone(play, &run, &times, &work);
+        assert!(reply.number == 0 && reply.count > 0, "seed {}: {:?} of {:?}", seed, reply, run);
+        let mut ledger = Ledger::new(&vec![NEVER; board.size()]);
+        for k in 1..=u64::from(reply.count) {
             let bound = bound_of(k, stride, horizon);
             let order = generate::order(&mut r, tile_count(board.width, board.height, across, down));
             let call = Call { board: board.clone(), kind: Kind::Round { across, down, bound, order } };
-            let work = generate::garbage(&mut r, 4 * board.size());
-            let (reply, next) = play_both(play, &call, &times, &work, seed);
-            if bound == horizon && k * u64::from(stride) >= u64::from(horizon) {
-                assert_eq!(reply.count == 0, k == u64::from(rounds), "seed {}, round {}: {:?}", seed, k, call);
+            let altered = ledger.play(play, &call, &work, seed).count;
+            if k * u64::from(stride) >= u64::from(horizon) {
+                assert_eq!(altered == 0, k == u64::from(reply.count), "seed {}, round {}: {:?}", seed, k, call);
             }
-            times = next;
         }
-        assert_eq!(times, after, "seed {}", seed);
+        assert_eq!(ledger.times(), after, "seed {}: {:?}", seed, run);
     }
 }
 
@@ -214,28 +214,35 @@ fn lowers_again(board: &Board, across: u32, down: u32, stride: u32, horizon: u32
     false
 }
 
-/// The order of the tiles shows in nothing.
+/// The order of the tiles shows in nothing that the engine answers or leaves. The engine is compared with
+/// itself: the second solver has no use for the order.
 #[test]
 fn every_order_of_the_tiles_gives_the_same() {
+    let mut several = 0;
     for seed in 9_000_000..9_000_400 {
         let mut r = Random::new(seed);
-        let board = generate::board(&mut r, 8);
+        let (width, height) = (r.within(4, 8), r.within(4, 8));
+        let board = board_of(&mut r, width, height);
         let (across, down) = (r.within(1, 3), r.within(1, 3));
         let bound = generate::horizon(&mut r, &board);
         let times = generate::stored(&mut r, &board);
+        let work = generate::garbage(&mut r, 4 * board.size() + 3);
         let stride = (bound / r.within(1, 40)).max(1);
         let tiles = tile_count(board.width, board.height, across, down);
-        let mut seen = Vec::new();
+        let (mut orders, mut seen) = (BTreeSet::new(), Vec::new());
         for _ in 0..4 {
             let order = generate::order(&mut r, tiles);
             let round = Kind::Round { across, down, bound, order: order.clone() };
-            let run = Kind::Run { across, down, stride, horizon: bound, order };
-            let work = generate::garbage(&mut r, 4 * board.size());
-            seen.push([round, run].map(|kind| {
-                let call = Call { board: board.clone(), kind };
-                play_both(play, &call, &times, &work, seed)
-            }));
+            let run = Kind::Run { across, down, stride, horizon: bound, order: order.clone() };
+            orders.insert(order);
+            let [round, run] = [round, run].map(|kind| Call { board: board.clone(), kind });
+            for engine in [play, engine_records::play] {
+                seen.push([&round, &run].map(|call| engine_alone(engine, call, &times, &work)));
+            }
         }
+        assert!(seen.iter().flatten().all(|(reply, _, _)| reply.number == 0), "seed {}: refused", seed);
         assert!(seen.windows(2).all(|pair| pair[0] == pair[1]), "seed {}: the order shows", seed);
+        several += u32::from(orders.len() > 1);
     }
+    assert!(several > 390, "{} boards with several orders only", several);
 }

@@ -1,13 +1,62 @@
-//! Lists of calls on one list of times: marches, rounds and runs, refused ones among them. After each
-//! call the times and the answer are the ledger's.
+//! Lists of calls on one list of times: marches, rounds and runs, over plain start lists and over records
+//! as it comes, refused ones among them. After each call the times and the answer are the ledger's.
 
 use second_solver::board::Board;
-use second_solver::calls::Call;
-use second_solver::compare::play_both;
+use second_solver::calls::{Call, Kind};
+use second_solver::compare::{Engine, Ledger, Tally};
 use second_solver::damage::{spoil_call, CALL_CAUSES};
-use second_solver::ffi::engine::play;
+use second_solver::ffi::{engine, engine_records};
 use second_solver::generate::{self, garbage};
 use second_solver::random::Random;
+use std::collections::BTreeMap;
+
+/// How starts are handed over.
+#[derive(Clone, Copy, Debug, PartialEq, Eq, PartialOrd, Ord)]
+enum Form {
+    Plain,
+    Records,
+}
+
+const FORMS: [Form; 2] = [Form::Plain, Form::Records];
+
+impl Form {
+    fn engine(self) -> Engine {
+        match self {
+            Form::Plain => engine::play,
+            Form::Records => engine_records::play,
+        }
+    }
+}
+
+/// What the lists were made of.
+#[derive(Default)]
+struct Seen {
+    /// Calls by form, kind and whether they were accepted.
+    calls: BTreeMap<(Form, &'static str, bool), u32>,
+    /// Numbers by form.
+    numbers: BTreeMap<Form, Tally>,
+    /// Calls with plain start lists that are not as long as each other.
+    unequal: u32,
+    /// Accepted calls that alter the times, the accepted one before them being of the other form.
+    turns: u32,
+}
+
+impl Seen {
+    fn note(&mut self, form: Form, call: &Call, number: u32) {
+        let kind = match call.kind {
+            Kind::March { .. } => "march",
+            Kind::Round { .. } => "round",
+            Kind::Run { .. } => "run",
+        };
+        *self.calls.entry((form, kind, number == 0)).or_default() += 1;
+        self.numbers.entry(form).or_default().note(number);
+        self.unequal += u32::from(are_unequal(&call.board));
+    }
+}
+
+fn are_unequal(board: &Board) -> bool {
+    board.cells.len() != board.begins.len()
+}
 
 /// Another board of the same size, seldom one of another.
 fn board_for(r: &mut Random, size: u32) -> Board {
@@ -37,41 +86,47 @@ fn next_call(r: &mut Random, before: Option<&Call>, size: u32) -> Call {
     }
 }
 
-/// Plays one list and answers how many calls were refused and how many accepted.
-fn play_list(seed: u64) -> (u32, u32) {
+/// Plays one list. The times stay as long as they are all along, so 13 is not put in: it comes with boards
+/// of another size.
+fn play_list(seed: u64, seen: &mut Seen) {
     let mut r = Random::new(seed);
     let size = r.pick(&[1, 6, 12, 16, 20, 24, 30, 36, 36, 48, 60, 100]);
-    let mut times = garbage(&mut r, size as usize);
-    let mut before: Option<Call> = None;
-    let (mut refused, mut accepted) = (0, 0);
+    let mut ledger = Ledger::new(&garbage(&mut r, size as usize));
+    let (mut before, mut last) = (None, None);
     for _ in 0..r.within(5, 30) {
         let mut call = next_call(&mut r, before.as_ref(), size);
         let good = call.clone();
-        let (mut times_length, mut work) = (times.len(), 4 * call.board.size() + r.below(5) as usize);
+        let (mut times_length, mut work) = (size as usize, 4 * call.board.size() + r.below(5) as usize);
         if r.once_in(4) {
             let cause = r.pick(&CALL_CAUSES);
-            // the list of times stays the same all along
             if cause != 13 {
                 spoil_call(&mut r, &mut call, &mut times_length, &mut work, cause);
             }
         }
-        let work = garbage(&mut r, work);
-        let (reply, after) = play_both(play, &call, &times, &work, seed);
-        refused += u32::from(reply.number != 0);
-        accepted += u32::from(reply.number == 0);
-        times = after;
+        // records have no lists of unequal length
+        let form = if are_unequal(&call.board) { Form::Plain } else { r.pick(&FORMS) };
+        let (held, work) = (ledger.times().to_vec(), garbage(&mut r, work));
+        let number = ledger.play(form.engine(), &call, &work, seed).number;
+        seen.note(form, &call, number);
+        if number == 0 {
+            let other = last.map_or(false, |last| last != form);
+            seen.turns += u32::from(other && ledger.times() != held);
+            last = Some(form);
+        }
         before = Some(good);
     }
-    (refused, accepted)
 }
 
 #[test]
-fn lists_of_calls_keep_the_ledger() {
-    let (mut refused, mut accepted) = (0, 0);
-    for seed in 40_000_000..40_000_800 {
-        let (no, yes) = play_list(seed);
-        refused += no;
-        accepted += yes;
+fn lists_that_mix_records_and_plain_calls_keep_the_ledger() {
+    let mut seen = Seen::default();
+    for seed in 40_000_000..40_004_000 {
+        play_list(seed, &mut seen);
     }
-    assert!(refused > 2_000 && accepted > 8_000, "{} refused, {} accepted", refused, accepted);
+    // three kinds in two forms, accepted and refused
+    assert!(seen.calls.len() == 12 && seen.calls.values().all(|&calls| calls > 1_200), "{:?}", seen.calls);
+    for form in FORMS {
+        seen.numbers[&form].assert_each(&CALL_CAUSES, 300);
+    }
+    assert!(seen.unequal > 500 && seen.turns > 10_000, "{} unequal, {} turns", seen.unequal, seen.turns);
 }

@@ -2,7 +2,7 @@
 
 use second_solver::board::Board;
 use second_solver::calls::{Call, Kind};
-use second_solver::compare::play_both;
+use second_solver::compare::{play_both, Tally};
 use second_solver::damage::{spoil_call, CALL_CAUSES};
 use second_solver::ffi::engine::play;
 use second_solver::generate::{self, garbage};
@@ -25,38 +25,42 @@ fn refused_by(causes: &[u32], seed: u64) -> u32 {
 
 #[test]
 fn every_cause_is_refused_by_its_number() {
-    let mut given = [0; 16];
+    let mut tally = Tally::default();
     for (i, &cause) in CALL_CAUSES.iter().enumerate() {
         for seed in 0..1_500 {
-            let number = refused_by(&[cause], 10_000_000 + 10_000 * i as u64 + seed);
-            given[number as usize] += 1;
+            tally.note(refused_by(&[cause], 10_000_000 + 10_000 * i as u64 + seed));
         }
     }
-    for cause in CALL_CAUSES {
-        assert!(given[cause as usize] > 700, "{} was given {} times only", cause, given[cause as usize]);
-    }
+    tally.assert_each(&CALL_CAUSES, 700);
 }
 
+/// A march has no tiles, and one damage may undo another: the lower number is given for most, not for all.
 #[test]
 fn of_two_causes_the_lower_number_is_given() {
     let mut seed = 20_000_000;
     for first in CALL_CAUSES {
         for second in CALL_CAUSES {
+            let mut lower = 0;
             for _ in 0..120 {
-                refused_by(&[first, second], seed);
+                lower += u32::from(refused_by(&[first, second], seed) == first.min(second));
                 seed += 1;
             }
+            assert!(lower > 60, "{} and {}: the lower in {} of 120", first, second, lower);
         }
     }
 }
 
 #[test]
 fn of_three_causes_the_lowest_number_is_given() {
+    let mut lowest = 0;
     for seed in 30_000_000..30_008_000 {
         let mut r = Random::new(seed);
-        let causes = [r.pick(&CALL_CAUSES), r.pick(&CALL_CAUSES), r.pick(&CALL_CAUSES)];
-        refused_by(&causes, seed);
+        let mut causes = [r.pick(&CALL_CAUSES), r.pick(&CALL_CAUSES), r.pick(&CALL_CAUSES)];
+        let number = refused_by(&causes, seed);
+        causes.sort_unstable();
+        lowest += u32::from(number == causes[0]);
     }
+    assert!(lowest > 7_000, "the lowest in {} of 8,000", lowest);
 }
 
 fn good_board() -> Board {

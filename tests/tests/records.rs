@@ -2,8 +2,8 @@
 
 use second_solver::board::Board;
 use second_solver::calls::{Call, Kind};
-use second_solver::compare::{assert_same, play_both, Engine};
-use second_solver::damage::{spoil_call, CALL_CAUSES};
+use second_solver::compare::{assert_same, engine_alone, play_both, Tally};
+use second_solver::damage::{spoil_call, CALL_CAUSES, WRITER_CAUSES};
 use second_solver::drafts::{spoil_byte, Draft, FILE_CAUSES};
 use second_solver::ffi::{engine, engine_records, scenario, scenario_records};
 use second_solver::generate::{self, garbage};
@@ -13,17 +13,10 @@ use second_solver::scenario::{Held, Scenario};
 use second_solver::tiles::tile_count;
 use second_solver::{Reply, Start, LARGEST};
 
-/// Answer, times and work of a call on lists that hold these.
-fn outcome(play: Engine, call: &Call, times: &[u32], work: &[u32]) -> (Reply, Vec<u32>, Vec<u32>) {
-    let (mut times, mut work) = (Lent::new(times), Lent::new(work));
-    let reply = play(call, times.lend(), work.lend());
-    (reply, times.back().to_vec(), work.back().to_vec())
-}
-
 /// Plays the call in both forms and answers what both answer.
 fn play_in_both_forms(call: &Call, times: &[u32], work: &[u32], seed: u64) -> Reply {
-    let plain = outcome(engine::play, call, times, work);
-    let records = outcome(engine_records::play, call, times, work);
+    let plain = engine_alone(engine::play, call, times, work);
+    let records = engine_alone(engine_records::play, call, times, work);
     let told = || format!("seed {}: {:?}", seed, call);
     assert_eq!(records.0, plain.0, "the answer, {}", told());
     assert_same("times", &records.1, &plain.1, told);
@@ -55,15 +48,13 @@ fn good_calls_give_the_same_in_both_forms() {
 
 #[test]
 fn spoilt_calls_give_the_same_in_both_forms() {
-    let mut given = [0; 16];
+    let mut tally = Tally::default();
     for seed in 51_000_000..51_012_000 {
         if let Some((call, times, work)) = random_call(seed, 8, 1 + seed as u32 % 3) {
-            given[play_in_both_forms(&call, &times, &work, seed).number as usize] += 1;
+            tally.note(play_in_both_forms(&call, &times, &work, seed).number);
         }
     }
-    for cause in CALL_CAUSES {
-        assert!(given[cause as usize] > 100, "{} was given {} times only", cause, given[cause as usize]);
-    }
+    tally.assert_each(&CALL_CAUSES, 100);
 }
 
 #[test]
@@ -192,7 +183,7 @@ fn about(r: &mut Random, need: usize) -> usize {
 
 #[test]
 fn files_are_read_the_same_in_both_forms() {
-    let mut given = [0; 16];
+    let mut tally = Tally::default();
     for seed in 54_000_000..54_012_000 {
         let mut r = Random::new(seed);
         let held = random_scenario(&mut r);
@@ -207,16 +198,14 @@ fn files_are_read_the_same_in_both_forms() {
             spoil_byte(&mut r, &mut file);
         }
         let (slow_len, starts_len) = (about(&mut r, size), about(&mut r, starts));
-        given[read_in_both_forms(&file, slow_len, starts_len, seed).number as usize] += 1;
+        tally.note(read_in_both_forms(&file, slow_len, starts_len, seed).number);
     }
-    for number in FILE_CAUSES.into_iter().chain([0, 14]) {
-        assert!(given[number as usize] > 100, "{} was given {} times only", number, given[number as usize]);
-    }
+    tally.assert_each(&[&FILE_CAUSES[..], &[14]].concat(), 100);
 }
 
 #[test]
 fn files_are_written_the_same_in_both_forms() {
-    let mut given = [0; 16];
+    let mut tally = Tally::default();
     for seed in 55_000_000..55_008_000 {
         let mut r = Random::new(seed);
         let Held { mut ticks, mut ground, mut board } = random_scenario(&mut r);
@@ -242,9 +231,7 @@ fn files_are_written_the_same_in_both_forms() {
         let told = || format!("seed {}: {:?}", seed, board);
         assert_eq!(got, want, "the answer, {}", told());
         assert_same("out", records.back(), plain.back(), told);
-        given[want.number as usize] += 1;
+        tally.note(want.number);
     }
-    for number in [0, 2, 3, 4, 5, 7, 8, 9, 14] {
-        assert!(given[number] > 100, "{} was given {} times only", number, given[number]);
-    }
+    tally.assert_each(&WRITER_CAUSES, 100);
 }

@@ -1,6 +1,7 @@
 //! The program `rings` beside the second solver, on the examples and on seeded files, damaged ones among them.
 
 use second_solver::board::Board;
+use second_solver::compare::Tally;
 use second_solver::declared::{files, repository};
 use second_solver::drafts::{spoil_byte, Draft, FILE_CAUSES};
 use second_solver::generate;
@@ -53,14 +54,15 @@ fn good_files_are_shown_as_the_second_solver_shows_them() {
     }
 }
 
+/// One file in four is whole.
 #[test]
 fn damaged_files_are_refused_as_the_second_solver_refuses_them() {
     let causes = [&FILE_CAUSES[..], &[15]].concat();
-    let mut given = [0; 16];
-    for seed in 66_000_000..66_003_000 {
+    let mut tally = Tally::default();
+    for seed in 66_000_000..66_004_000 {
         let mut r = Random::new(seed);
         let mut draft = Draft::of(&random_scenario(&mut r, 8));
-        for _ in 0..r.within(1, 3) {
+        for _ in 0..r.below(4) {
             let cause = r.pick(&causes);
             draft.spoil(&mut r, cause);
         }
@@ -69,13 +71,10 @@ fn damaged_files_are_refused_as_the_second_solver_refuses_them() {
             spoil_byte(&mut r, &mut file);
         }
         let lines = shown(&file, seed);
-        if let Some(number) = lines.strip_prefix("refused ") {
-            given[number.trim_end().parse::<usize>().expect("a number")] += 1;
-        }
+        let number = lines.strip_prefix("refused ").map(|number| number.trim_end().parse().expect("a number"));
+        tally.note(number.unwrap_or(0));
     }
-    for cause in causes {
-        assert!(given[cause as usize] > 50, "{} was given {} times only", cause, given[cause as usize]);
-    }
+    tally.assert_each(&causes, 50);
 }
 
 /// 32 by 32, each cell a run and a start of its own.

@@ -114,7 +114,8 @@ fn of_all_causes_the_lowest_number_is_given() {
     held.board.slow.pop();
     held.board.cells = vec![1, 6];
     held.board.begins[1] = 1_000_001;
-    let repairs: [(u32, fn(&mut Held, &Held)); 7] = [
+    type Repair = fn(&mut Held, &Held);
+    let repairs: [(u32, Repair); 7] = [
         (2, |held, good| held.board.width = good.board.width),
         (3, |held, good| held.ticks = good.ticks),
         (4, |held, good| held.board.slow = good.board.slow.clone()),

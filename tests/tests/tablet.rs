@@ -1,7 +1,7 @@
 //! The tablet's call beside the second solver, on seeded files, damaged ones among them.
 
 use second_solver::board::Board;
-use second_solver::compare::assert_same;
+use second_solver::compare::{assert_same, Tally};
 use second_solver::drafts::{spoil_byte, Draft};
 use second_solver::ffi::tablet::tablet_run;
 use second_solver::generate;
@@ -71,32 +71,33 @@ fn good_files_are_run_as_the_second_solver_runs_them() {
 
 #[test]
 fn every_cause_is_refused_by_its_number() {
-    let mut given = [0; 16];
-    for seed in 61_000_000..61_007_200 {
+    let mut tally = Tally::default();
+    for seed in 61_000_000..61_007_800 {
         let mut r = Random::new(seed);
-        let cause = CAUSES[seed as usize % 12];
-        let answer = handed(&mut r, 8, &[cause]).play(seed);
-        if answer < 256 {
-            given[answer as usize] += 1;
-        }
+        // every thirteenth is good
+        let cause = CAUSES.get(seed as usize % 13);
+        let answer = handed(&mut r, 8, cause.map_or(&[], std::slice::from_ref)).play(seed);
+        tally.note(if answer < 256 { answer as u32 } else { 0 });
     }
-    for cause in CAUSES {
-        assert!(given[cause as usize] > 200, "{} was given {} times only", cause, given[cause as usize]);
-    }
+    tally.assert_each(&CAUSES, 200);
 }
 
+/// Not every file takes every damage, and one may undo another: the first number is given for many, not for all.
 #[test]
 fn of_several_causes_the_first_in_order_is_given() {
     let mut seed = 62_000_000;
-    for first in CAUSES {
-        for second in CAUSES {
-            for _ in 0..40 {
+    for (i, first) in CAUSES.into_iter().enumerate() {
+        for later in &CAUSES[i + 1..] {
+            let mut given = 0;
+            for _ in 0..80 {
                 let mut r = Random::new(seed);
-                let third = r.pick(&CAUSES);
-                let causes = if r.once_in(2) { vec![first, second] } else { vec![first, second, third] };
-                handed(&mut r, 8, &causes).play(seed);
+                let mut causes = vec![first, *later, r.pick(&CAUSES[i + 1..])];
+                causes.truncate(r.within(2, 3) as usize);
+                r.shuffle(&mut causes);
+                given += u32::from(handed(&mut r, 8, &causes).play(seed) == u64::from(first));
                 seed += 1;
             }
+            assert!(given > 20, "{} and {}: the first in {} of 80", first, later, given);
         }
     }
 }

@@ -26,16 +26,16 @@ type Change = dyn Fn(&mut Board);
 fn boards_are_judged_by_the_library() {
     assert_eq!(refusals(&board()), [None; 4]);
     let cases: [(&Change, Refusal); 10] = [
-        (&|b| b.width = 0, Refusal::BoardSide),
-        (&|b| b.height = u32::MAX, Refusal::BoardSide),
-        (&|b| b.slow.clear(), Refusal::SlownessList),
-        (&|b| b.slow.push(10), Refusal::SlownessList),
+        (&|b| b.width = 0, Refusal::SidesOfBoard),
+        (&|b| b.height = u32::MAX, Refusal::SidesOfBoard),
+        (&|b| b.slow.clear(), Refusal::ListLength),
+        (&|b| b.slow.push(10), Refusal::ListLength),
         (&|b| b.slow[5] = 4_096, Refusal::Slowness),
         (&|b| b.starts[0].cell = 6, Refusal::StartCell),
         (&|b| b.starts.push(Start { cell: 0, time: 0 }), Refusal::StartCell),
         (&|b| b.starts[0].time = 1_000_001, Refusal::StartTime),
         (&|b| b.starts[0].cell = 2, Refusal::StartOnWall),
-        (&|b| *b = Board { width: 0, height: 0, slow: vec![], starts: vec![] }, Refusal::BoardSide),
+        (&|b| *b = Board { width: 0, height: 0, slow: vec![], starts: vec![] }, Refusal::SidesOfBoard),
     ];
     for (change, refusal) in cases {
         let mut changed = board();
@@ -51,11 +51,11 @@ fn numbers_and_tiles_are_judged_by_the_library() {
     assert_eq!(tile_run(&board, TILES, 0, 1), Err(Refusal::Range));
     for (across, down) in [(0, 1), (1, 0), (257, 1), (1, u32::MAX)] {
         let tiles = Tiles { across, down };
-        assert_eq!(tile_run(&board, tiles, 1, 1), Err(Refusal::TileSide));
-        assert_eq!(one_round(&board, tiles, 1, &mut [NEVER; 6]), Err(Refusal::TileSide));
+        assert_eq!(tile_run(&board, tiles, 1, 1), Err(Refusal::SidesOfTile));
+        assert_eq!(one_round(&board, tiles, 1, &mut [NEVER; 6]), Err(Refusal::SidesOfTile));
     }
-    assert_eq!(one_round(&board, TILES, 1, &mut []), Err(Refusal::TimesList));
-    assert_eq!(one_round(&board, TILES, 1, &mut [NEVER; 7]), Err(Refusal::TimesList));
+    assert_eq!(one_round(&board, TILES, 1, &mut []), Err(Refusal::TimesLength));
+    assert_eq!(one_round(&board, TILES, 1, &mut [NEVER; 7]), Err(Refusal::TimesLength));
 }
 
 #[test]
@@ -65,12 +65,19 @@ fn files_are_judged_by_the_library() {
         assert_eq!(read_scenario(&file[..length]), Err(Refusal::FileLength));
         assert_eq!(tablet_run(&file[..length], 1, TILES), Err(Refusal::FileLength));
     }
+    // ticks, the one run's slowness
+    for (place, byte, refusal) in [(4, 0, Refusal::Ticks), (24, 10, Refusal::Run)] {
+        let mut damaged = file.clone();
+        damaged[place] = byte;
+        assert_eq!(read_scenario(&damaged), Err(refusal));
+        assert_eq!(tablet_run(&damaged, 1, TILES), Err(refusal));
+    }
     assert_eq!(tablet_run(&file, 0, TILES), Err(Refusal::Range));
-    assert_eq!(tablet_run(&file, 1, Tiles { across: 0, down: 1 }), Err(Refusal::TileSide));
+    assert_eq!(tablet_run(&file, 1, Tiles { across: 0, down: 1 }), Err(Refusal::SidesOfTile));
     let wide = Board { width: 33, height: 1, slow: vec![10; 33], starts: vec![] };
     let file = write_scenario(&Scenario { ticks: 10, ground: 10, board: wide }).expect("a good board");
     assert!(read_scenario(&file).is_ok());
-    assert_eq!(tablet_run(&file, 1, TILES), Err(Refusal::SideAbove32));
+    assert_eq!(tablet_run(&file, 1, TILES), Err(Refusal::SmallBoard));
 }
 
 /// The largest board, each cell a run and a start of its own, through its file and back.
@@ -84,12 +91,65 @@ fn the_largest_scenario_goes_through_its_file() {
     assert_eq!(read_scenario(&file), Ok(scenario));
 }
 
+/// A file of the board of [`board`] with these starts behind it.
+fn file_with(starts: &[Start]) -> Vec<u8> {
+    let held = Scenario { ticks: 10, ground: 10, board: Board { starts: vec![], ..board() } };
+    let mut file = write_scenario(&held).expect("a good board");
+    file[12..16].copy_from_slice(&(starts.len() as u32).to_le_bytes());
+    file.extend(starts.iter().flat_map(|start| [start.cell, start.time]).flat_map(u32::to_le_bytes));
+    file
+}
+
+/// More starts than there is room made for: the cause is their cells, not the room.
+#[test]
+fn more_starts_than_cells_are_refused_for_their_cells() {
+    for count in [7, 65_536, 65_537, 200_000] {
+        let starts: Vec<Start> = (0..count).map(|cell| Start { cell, time: 0 }).collect();
+        assert_eq!(read_scenario(&file_with(&starts)), Err(Refusal::StartCell), "{} starts", count);
+        let scenario = Scenario { ticks: 10, ground: 10, board: Board { starts, ..board() } };
+        assert_eq!(write_scenario(&scenario), Err(Refusal::StartCell), "{} starts", count);
+    }
+}
+
+/// The refusals in the order of the table.
+const TABLE: [Refusal; 15] = [
+    Refusal::FileLength,
+    Refusal::SidesOfBoard,
+    Refusal::Ticks,
+    Refusal::ListLength,
+    Refusal::Slowness,
+    Refusal::Run,
+    Refusal::StartCell,
+    Refusal::StartTime,
+    Refusal::StartOnWall,
+    Refusal::Range,
+    Refusal::SidesOfTile,
+    Refusal::Order,
+    Refusal::TimesLength,
+    Refusal::Room,
+    Refusal::SmallBoard,
+];
+
 #[test]
 fn every_number_has_its_words() {
-    let file = write_scenario(&Scenario { ticks: 10, ground: 10, board: board() }).expect("a good board");
-    let refusal = read_scenario(&file[1..]).unwrap_err();
-    assert_eq!(refusal.number(), 1);
-    assert!(refusal.to_string().starts_with("refused by 1: a file under 16 bytes"));
-    assert_eq!(Refusal::SideAbove32.number(), 15);
-    assert_eq!(Refusal::SideAbove32.to_string(), "refused by 15: a side above 32");
+    let unknown = Refusal::of(u32::MAX).expect("a refusal").words();
+    for (number, refusal) in (1..).zip(TABLE) {
+        let words = refusal.words();
+        assert_eq!((refusal.number(), Refusal::of(number)), (number, Some(refusal)), "{}", words);
+        assert_eq!(refusal.to_string(), format!("refused by {}: {}", number, words));
+        assert!(words.len() > 10 && words != unknown, "{}", words);
+        assert!(TABLE.iter().all(|other| *other == refusal || other.words() != words), "{} is said twice", words);
+    }
+    assert_eq!(Refusal::of(0), None);
+}
+
+/// Numbers that the table does not have yet.
+#[test]
+fn a_number_to_come_is_a_refusal_too() {
+    let cause = "a cause that this version of the wrapper does not know";
+    for number in [16, 24, 255, u32::MAX] {
+        let refusal = Refusal::of(number).expect("a refusal");
+        assert_eq!(refusal.number(), number);
+        assert_eq!(refusal.to_string(), format!("refused by {}: {}", number, cause));
+    }
 }

@@ -62,6 +62,7 @@ pub fn one_round(
 
 #[inline]
 #[rustfmt::skip]
+#[allow(clippy::too_many_arguments)]
 pub fn tile_run(
     b: &Board, across: u32, down: u32, stride: u32, horizon: u32, order: &[u32],
     times: &mut [u32], work: &mut [u32],

@@ -1,0 +1,208 @@
+//! March, single round and tile run.
+
+use crate::{answer, sys, Board, Refusal, Tiles, NEVER};
+
+/// What a march gives. Later versions may give more.
+#[derive(Clone, Debug, PartialEq, Eq, Hash)]
+#[non_exhaustive]
+pub struct March {
+    /// When the front reaches each cell, [`NEVER`] past the horizon and where no front comes.
+    pub times: Vec<u32>,
+    /// The number of cells reached.
+    pub reached: u32,
+}
+
+/// What a tile run gives. Later versions may give more.
+#[derive(Clone, Debug, PartialEq, Eq, Hash)]
+#[non_exhaustive]
+pub struct Run {
+    /// The times that a march gives.
+    pub times: Vec<u32>,
+    /// The number of rounds, the last, which alters nothing, among them.
+    pub rounds: u32,
+}
+
+/// The lists that marches, rounds and runs work in, for callers that make many: they grow to what the largest
+/// board needs, at most 1.25 MiB, and are used again, so that a loop allocates once. Nothing is carried over from
+/// call to call but the caller's own `times`.
+///
+/// The functions [`march`], [`one_round`] and [`tile_run`] are these calls with lists made for each.
+///
+/// ```
+/// use murgolab::{Board, Start, Tiles, Work, NEVER};
+///
+/// let mut board = Board { width: 3, height: 3, slow: vec![10; 9], starts: vec![Start { cell: 0, time: 0 }] };
+/// let (mut work, mut times) = (Work::new(), vec![NEVER; board.size()]);
+/// for cell in 0..9 {
+///     board.starts[0].cell = cell;
+///     assert_eq!(work.march(&board, 300_000_000, &mut times), Ok(9));
+///     assert_eq!(times[cell as usize], 0);
+/// }
+///
+/// // rounds by hand, until one alters nothing
+/// times.fill(NEVER);
+/// let tiles = Tiles { across: 2, down: 2 };
+/// while work.one_round(&board, tiles, 34, &mut times)? > 0 {}
+/// assert_eq!(times, [34, 26, 20, 26, 18, 10, 20, 10, 0]);
+/// # Ok::<(), murgolab::Refusal>(())
+/// ```
+#[derive(Clone, Debug, Default)]
+pub struct Work {
+    /// Four entries a cell; it may hold anything between calls.
+    list: Vec<u32>,
+    /// The numbers from 0 on: the rising order of as many tiles as are asked for.
+    rising: Vec<u32>,
+}
+
+impl Work {
+    /// Lists that are empty yet.
+    pub fn new() -> Work {
+        Work::default()
+    }
+
+    /// The work list for the board, and the order of so many tiles.
+    fn lists(&mut self, board: &Board, tiles: usize) -> (&mut [u32], &[u32]) {
+        let room = 4 * board.size();
+        if self.list.len() < room {
+            self.list = vec![0; room];
+        }
+        if self.rising.len() < tiles {
+            self.rising = (0..tiles as u32).collect();
+        }
+        (&mut self.list[..room], &self.rising[..tiles])
+    }
+
+    /// As the function [`march`]: fills `times`, which may hold anything, and answers how many cells are reached.
+    ///
+    /// # Errors
+    ///
+    /// Those of [`march`], and [`TimesLength`](Refusal::TimesLength). The times are then as they were.
+    pub fn march(&mut self, board: &Board, horizon: u32, times: &mut [u32]) -> Result<u32, Refusal> {
+        let (work, _) = self.lists(board, 0);
+        // SAFETY: the lists are as long as said, and those lent for writing are borrowed alone
+        #[rustfmt::skip]
+        let reply = unsafe {
+            sys::murgolab_march(
+                board.width, board.height, board.slow.as_ptr(), board.slow.len(),
+                board.starts.as_ptr(), board.starts.len(),
+                horizon,
+                times.as_mut_ptr(), times.len(), work.as_mut_ptr(), work.len(),
+            )
+        };
+        answer(reply)
+    }
+
+    /// As the function [`one_round`]: answers how many entries of `times` it alters.
+    ///
+    /// # Errors
+    ///
+    /// Those of [`one_round`]. The times are then as they were.
+    pub fn one_round(&mut self, board: &Board, tiles: Tiles, bound: u32, times: &mut [u32]) -> Result<u32, Refusal> {
+        let (work, order) = self.lists(board, board.tiles(tiles));
+        // SAFETY: the lists are as long as said, and those lent for writing are borrowed alone
+        #[rustfmt::skip]
+        let reply = unsafe {
+            sys::murgolab_one_round(
+                board.width, board.height, board.slow.as_ptr(), board.slow.len(),
+                board.starts.as_ptr(), board.starts.len(),
+                tiles.across, tiles.down, bound, order.as_ptr(), order.len(),
+                times.as_mut_ptr(), times.len(), work.as_mut_ptr(), work.len(),
+            )
+        };
+        answer(reply)
+    }
+
+    /// As the function [`tile_run`]: fills `times`, which may hold anything, and answers how many rounds there are.
+    ///
+    /// # Errors
+    ///
+    /// Those of [`tile_run`], and [`TimesLength`](Refusal::TimesLength). The times are then as they were.
+    pub fn tile_run(
+        &mut self,
+        board: &Board,
+        tiles: Tiles,
+        stride: u32,
+        horizon: u32,
+        times: &mut [u32],
+    ) -> Result<u32, Refusal> {
+        let (work, order) = self.lists(board, board.tiles(tiles));
+        // SAFETY: the lists are as long as said, and those lent for writing are borrowed alone
+        #[rustfmt::skip]
+        let reply = unsafe {
+            sys::murgolab_tile_run(
+                board.width, board.height, board.slow.as_ptr(), board.slow.len(),
+                board.starts.as_ptr(), board.starts.len(),
+                tiles.across, tiles.down, stride, horizon, order.as_ptr(), order.len(),
+                times.as_mut_ptr(), times.len(), work.as_mut_ptr(), work.len(),
+            )
+        };
+        answer(reply)
+    }
+}
+
+/// The time at which the front reaches each cell, up to the horizon, 0 to 300,000,000.
+///
+/// ```
+/// use murgolab::{march, Board, Refusal, Start, NEVER};
+/// let mut board = Board { width: 4, height: 1, slow: vec![10, 10, 0, 10], starts: vec![Start { cell: 0, time: 5 }] };
+/// let front = march(&board, 1_000)?;
+/// assert_eq!((front.times, front.reached), (vec![5, 15, NEVER, NEVER], 2));
+/// board.starts[0].cell = 2;
+/// assert_eq!(march(&board, 1_000), Err(Refusal::StartOnWall));
+/// # Ok::<(), Refusal>(())
+/// ```
+///
+/// # Errors
+///
+/// For the board [`SidesOfBoard`](Refusal::SidesOfBoard), [`ListLength`](Refusal::ListLength),
+/// [`Slowness`](Refusal::Slowness), [`StartCell`](Refusal::StartCell), [`StartTime`](Refusal::StartTime) and
+/// [`StartOnWall`](Refusal::StartOnWall); for the horizon [`Range`](Refusal::Range).
+pub fn march(board: &Board, horizon: u32) -> Result<March, Refusal> {
+    let mut times = vec![NEVER; board.size()];
+    let reached = Work::new().march(board, horizon, &mut times)?;
+    Ok(March { times, reached })
+}
+
+/// One round: every tile is solved up to the bound, 0 to 300,000,000, with the times that its neighbours held
+/// before; what it held itself is not used. `times` may hold any numbers: one above 300,000,000, and one at a
+/// wall, counts as never. Answers how many entries of `times` it alters.
+///
+/// ```
+/// use murgolab::{one_round, Board, Start, Tiles, NEVER};
+/// let board = Board { width: 3, height: 3, slow: vec![10; 9], starts: vec![Start { cell: 0, time: 0 }] };
+/// let mut times = [NEVER; 9];
+/// assert_eq!(one_round(&board, Tiles { across: 2, down: 2 }, 20, &mut times), Ok(4));
+/// assert_eq!(times, [0, 10, NEVER, 10, 18, NEVER, NEVER, NEVER, NEVER]);
+/// ```
+///
+/// # Errors
+///
+/// For the board those of [`march`], for the bound [`Range`](Refusal::Range), for the tiles
+/// [`SidesOfTile`](Refusal::SidesOfTile), for the times [`TimesLength`](Refusal::TimesLength). The times are then
+/// as they were.
+pub fn one_round(board: &Board, tiles: Tiles, bound: u32, times: &mut [u32]) -> Result<u32, Refusal> {
+    Work::new().one_round(board, tiles, bound, times)
+}
+
+/// Rounds from all never, the j-th with the bound j × stride or the horizon, the lesser, until one at
+/// the horizon alters nothing. The stride is 1 to 300,000,000.
+///
+/// ```
+/// use murgolab::{march, tile_run, Board, Start, Tiles};
+/// let starts = vec![Start { cell: 0, time: 0 }, Start { cell: 99, time: 40 }];
+/// let board = Board { width: 10, height: 10, slow: (1..=100).collect(), starts };
+/// let run = tile_run(&board, Tiles { across: 3, down: 4 }, 25, 5_000)?;
+/// assert_eq!(run.times, march(&board, 5_000)?.times);
+/// assert!(run.rounds >= 200 && run.rounds <= 300);
+/// # Ok::<(), murgolab::Refusal>(())
+/// ```
+///
+/// # Errors
+///
+/// For the board those of [`march`], for stride and horizon [`Range`](Refusal::Range), for the tiles
+/// [`SidesOfTile`](Refusal::SidesOfTile).
+pub fn tile_run(board: &Board, tiles: Tiles, stride: u32, horizon: u32) -> Result<Run, Refusal> {
+    let mut times = vec![NEVER; board.size()];
+    let rounds = Work::new().tile_run(board, tiles, stride, horizon, &mut times)?;
+    Ok(Run { times, rounds })
+}

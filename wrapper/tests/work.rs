@@ -1,0 +1,133 @@
+//! Lists that are kept from call to call, and what is allocated.
+
+use murgolab::*;
+use std::alloc::{GlobalAlloc, Layout, System};
+use std::cell::Cell;
+
+thread_local! {
+    /// Bytes that this thread has asked for.
+    static ASKED: Cell<usize> = const { Cell::new(0) };
+}
+
+struct Counting;
+
+// SAFETY: the system's allocator does all of the work
+unsafe impl GlobalAlloc for Counting {
+    unsafe fn alloc(&self, layout: Layout) -> *mut u8 {
+        ASKED.with(|asked| asked.set(asked.get() + layout.size()));
+        System.alloc(layout)
+    }
+
+    unsafe fn dealloc(&self, pointer: *mut u8, layout: Layout) {
+        System.dealloc(pointer, layout)
+    }
+}
+
+#[global_allocator]
+static COUNTING: Counting = Counting;
+
+/// How many bytes are asked for while the work is done.
+fn asked_for(work: impl FnOnce()) -> usize {
+    let before = ASKED.with(Cell::get);
+    work();
+    ASKED.with(Cell::get) - before
+}
+
+/// Slownesses 1 to 40 with walls in between, and a start in the first cell.
+fn board(width: u32, height: u32) -> Board {
+    let slow = (0..width * height).map(|c| if c % 7 == 3 { 0 } else { 1 + c * 31 % 40 }).collect();
+    Board { width, height, slow, starts: vec![Start { cell: 0, time: 3 }] }
+}
+
+const SIDES: [(u32, u32); 8] = [(5, 4), (1, 1), (40, 30), (3, 256), (40, 30), (256, 1), (2, 2), (5, 4)];
+const TILES: Tiles = Tiles { across: 3, down: 2 };
+
+/// Large boards behind small ones and small ones behind large ones.
+#[test]
+fn lists_that_are_kept_give_what_new_ones_give() {
+    let mut work = Work::new();
+    for (width, height) in SIDES {
+        let board = board(width, height);
+        let (marched, ran) = (march(&board, 900), tile_run(&board, TILES, 50, 900));
+        let (marched, ran) = (marched.expect("a good board"), ran.expect("a good board"));
+        let mut times = vec![7; board.size()];
+        assert_eq!(work.march(&board, 900, &mut times), Ok(marched.reached));
+        assert_eq!(times, marched.times);
+        times.fill(8);
+        assert_eq!(work.tile_run(&board, TILES, 50, 900, &mut times), Ok(ran.rounds));
+        assert_eq!(times, ran.times);
+        let mut others = vec![400; board.size()];
+        times.fill(400);
+        let altered = one_round(&board, TILES, 500, &mut others);
+        assert_eq!(work.one_round(&board, TILES, 500, &mut times), altered);
+        assert!(times == others && altered.expect("a good board") > 0);
+    }
+}
+
+#[test]
+fn a_refused_call_leaves_the_times_and_the_lists_can_be_used_again() {
+    let (mut work, board) = (Work::new(), board(5, 4));
+    for length in [0, 1, 19, 21, 400] {
+        let mut times = vec![7; length];
+        let refused = Err(Refusal::TimesLength);
+        assert_eq!(work.march(&board, 900, &mut times), refused);
+        assert_eq!(work.tile_run(&board, TILES, 50, 900, &mut times), refused);
+        assert_eq!(work.one_round(&board, TILES, 900, &mut times), refused);
+        assert_eq!(times, vec![7; length]);
+    }
+    let (mut times, no_board) = (vec![7; 20], Board { width: 0, ..board.clone() });
+    let no_tiles = Tiles { across: 0, ..TILES };
+    assert_eq!(work.march(&no_board, 900, &mut times), Err(Refusal::SidesOfBoard));
+    assert_eq!(work.tile_run(&no_board, TILES, 50, 900, &mut times), Err(Refusal::SidesOfBoard));
+    assert_eq!(work.one_round(&board, no_tiles, 900, &mut times), Err(Refusal::SidesOfTile));
+    assert_eq!(times, vec![7; 20]);
+    let reached = march(&board, 900).expect("a good board").reached;
+    assert_eq!(work.march(&board, 900, &mut times), Ok(reached));
+}
+
+#[test]
+fn a_loop_allocates_once() {
+    let boards = SIDES.map(|(width, height)| board(width, height));
+    let (largest, most) = (board(256, 256), 65_536);
+    let (mut work, mut times) = (Work::new(), vec![NEVER; most]);
+    let single = Tiles { across: 1, down: 1 };
+    let first = asked_for(|| assert!(work.one_round(&largest, single, 9, &mut times).is_ok()));
+    assert_eq!(first, 4 * most * 4 + most * 4);
+    let later = asked_for(|| {
+        for board in boards.iter().chain([&largest]) {
+            let times = &mut times[..board.size()];
+            assert!(work.march(board, 900, times).is_ok());
+            assert!(work.one_round(board, TILES, 900, times).is_ok());
+            assert!(work.tile_run(board, TILES, 50, 900, times).is_ok());
+        }
+    });
+    assert_eq!(later, 0);
+}
+
+/// A file of a million starts, and lists that are far too long for their board.
+#[test]
+fn what_is_allocated_is_bounded_by_the_largest_board() {
+    let mut file = vec![1, 0, 1, 0, 1, 0, 1, 0, 0, 0, 0, 0];
+    file.extend(1_000_000u32.to_le_bytes());
+    file.resize(16 + 8 * 1_000_000, 0);
+    let reading = asked_for(|| assert_eq!(read_scenario(&file), Err(Refusal::StartCell)));
+    assert_eq!(reading, 65_536 * (4 + 8));
+
+    let starts = vec![Start { cell: 0, time: 0 }; 1_000_000];
+    let long = Board { starts, slow: vec![1; 1_000_000], ..board(2, 2) };
+    let marching = asked_for(|| assert_eq!(march(&long, 9), Err(Refusal::ListLength)));
+    assert_eq!(marching, 4 * (1 + 4) * 4);
+    let scenario = Scenario { ticks: 1, ground: 1, board: long };
+    let writing = asked_for(|| assert_eq!(write_scenario(&scenario), Err(Refusal::ListLength)));
+    assert_eq!(writing, 16 + 18 * 4);
+}
+
+/// What is read or written takes no more room than it needs.
+#[test]
+fn what_is_read_and_written_is_as_small_as_it_can_be() {
+    let scenario = Scenario { ticks: 10, ground: 1, board: board(3, 2) };
+    let file = write_scenario(&scenario).expect("a good board");
+    let board = read_scenario(&file).expect("a good file").board;
+    assert_eq!(file.capacity(), file.len());
+    assert_eq!((board.slow.capacity(), board.starts.capacity()), (6, 1));
+}
