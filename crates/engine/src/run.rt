@@ -81,8 +81,8 @@ fn round(
     m
 }
 
-// Works rounds out, or leaps over them, until a round at the horizon alters nothing or the limit of rounds is reached: for every limit
-// the times are those after so many rounds. Answers how many there are.
+// Works rounds out, or leaps over them, until a round at the horizon alters nothing or the limit of rounds is reached. Answers how many there are:
+// whatever the limit, the times are those after so many.
 pub fn run(
     slow: &[u32],
     times: &mut [u32],

@@ -10,8 +10,8 @@ ghost use Rattle.engine.specs.Calls.{Seated, Marches, Runs-through, Goes
 use eikonal::arrival::NEVER;
 use front::Shape;
 
-// A limit that stops no tile run: none has more than 300,000,000 + 65,536 rounds (`rounds-short` of proofs/Theory/Running.antt).
-const MOST_ROUNDS: u32 = 1000000000;
+// A limit of rounds that never binds: no tile run has more than 300,000,000 + 65,536 (`few-rounds` of crates/eikonal/proofs/Rounds.antt).
+const NO_LIMIT: u32 = 1000000000;
 
 fn wide(x: u32) -> usize
     ensures { λ r. ⌜ r ≡ x ⌝ }
@@ -70,7 +70,7 @@ pub fn tile_run(
         shape,
         stride,
         horizon,
-        MOST_ROUNDS,
+        NO_LIMIT,
     );
     rows::whole::fill(work, 0, 4 * n, 0);
     count

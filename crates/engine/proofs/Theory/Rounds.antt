@@ -23,7 +23,7 @@ use Rattle.eikonal.proofs.Rounds.{round-time, after-length}
 use Rattle.eikonal.proofs.CutRule.{round-by-rule}
 use Rattle.front.specs.Front.{ghosted, gives, Tied, Settled, Upheld, total, fallen, Taken, Drift, Written}
 use Rattle.front.specs.Board.{rule-by}
-use Rattle.engine.specs.Run.{starts, Between}
+use Rattle.engine.specs.Run.{starts, Between, Leapt}
 use Rattle.front.proofs.Theory.Front.{ended}
 use Rattle.front.proofs.Theory.Drift.{unwritten}
 use Rattle.front.proofs.Theory.Sight.{gives-lawful}
@@ -131,6 +131,12 @@ module _ {n : ℕ} {stored y k now : ℕ → ℕ} {t m : ℕ} {note : ℕ → �
       none : (n' : ℕ) → ((c : ℕ) → c < n' → min 1 (now c - y c) - min 1 (never - k c) ≡ 0) → fallen n' now y k ≡ 0
       none zero h = refl
       none (suc n') h = omega (arith, h n' (omega arith), none n' (λ c l. h c (omega arith)))
+
+-- a leap that stops at a limit
+pub leap-cut : {least done s h far limit r : ℕ} → Leapt least done s h far → done ≤ limit → r ≡ min far limit → Leapt least done s h r
+leap-cut {s = s} {far} {r = r} lp within e =
+    let less : r ≤ far = omega arith in
+    record { up = omega (arith, lp .up); short = λ l. omega (arith, lp .short (omega arith), mul-le-mul-right s less) }
 
 module _ {b : Board} (good : Good b) (tw th s h : ℕ) (stride : 1 ≤ s) (horizon : h ≤ largest) where
   abbrev bound-of : ℕ → ℕ

@@ -183,7 +183,7 @@ module _ (s : Shape) (slow : List ℕ) (xs : List Start) (good : Good (whole s s
   solved-long = ap length (solved-plain (whole s slow xs)) ∙ solved-length (whole s slow xs) plain
 
   -- the rounds are fewer than a thousand million
-  pub rounds-short : total-rounds ≤ 1000000000
+  rounds-short : total-rounds ≤ 1000000000
   rounds-short =
       omega (
         arith,
@@ -196,7 +196,7 @@ module _ (s : Shape) (slow : List ℕ) (xs : List Start) (good : Good (whole s s
 
   module _ {done : ℕ} {ts₀ ts v₀ v : List ℕ} (md : Mid-run s slow xs S H done ts₀ ts v₀ v) where
     -- there is a round more
-    pub rounds-left : done < total-rounds
+    rounds-left : done < total-rounds
     rounds-left = go (order done total-rounds)
       where
         go : (done < total-rounds) ⊎ (total-rounds ≤ done) → done < total-rounds
@@ -273,7 +273,7 @@ module _ (s : Shape) (slow : List ℕ) (xs : List Start) (good : Good (whole s s
   pub run-begins : {ts v : List ℕ} → At-round s slow xs S H 0 ts v → Mid-run s slow xs S H 0 ts ts v v
   run-begins at = record { long = refl; kept = refl; past = λ i l. refl; at = at; more = λ k a b. absurd (omega arith) }
 
-  -- a limit that no board's rounds pass: all rounds, and the march's times
+  -- a limit that no board's rounds pass never binds: all rounds, and the march's times
   module _ {limit r : ℕ} {ts ts' v v' : List ℕ} (ran : Ran s slow xs S H limit r ts ts' v v') (beyond : 1000000000 ≤ limit) where
     pub run-counts : r ≡ total-rounds
     run-counts = omega (arith, ran .counted, rounds-short)
@@ -282,9 +282,3 @@ module _ (s : Shape) (slow : List ℕ) (xs : List Start) (good : Good (whole s s
     run-marches =
         ran .holds ∙ ap (λ (k : ℕ). after-rounds k (whole s slow xs) (s .across) (s .down) S H) run-counts
         ∙ rounds-march (whole s slow xs) good (s .across) (s .down) S H stride horizon
-
--- a leap that stops at the limit
-pub leap-cut : {least done S H r limit to : ℕ} → Leapt least done S H r → done ≤ limit → to ≡ min r limit → Leapt least done S H to
-leap-cut {S = S} {r} {to = to} lp within e =
-    let short : to ≤ r = omega arith in
-    record { up = omega (arith, lp .up); short = λ h. omega (arith, lp .short (omega arith), mul-le-mul-right S short) }

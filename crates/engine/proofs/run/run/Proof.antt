@@ -1,4 +1,5 @@
--- `engine::run::run` meets its contract: what holds after some rounds is Mid-run, of whatever starts the board began with. Assumes nothing.
+-- `engine::run::run` meets its contract: what holds after some rounds, no more than the limit, is Mid-run, of whatever starts the board
+-- began with. Assumes nothing.
 use Prim.Native.Nat.{ℕ, suc, _+_, _*_, _-_, _≤_, _<_}
 use native.Mathlib.Omega.{arith}
 use native.Mathlib.Numerals.{add-one}
@@ -13,14 +14,16 @@ use Rattle.eikonal.specs.Board.{Start}
 use Rattle.eikonal.specs.Inner.Good.{Good}
 use Rattle.front.proofs.Theory.Reading.{cells-most}
 use Rattle.engine.specs.Run.{whole, At-round, Leapt}
-use Rattle.engine.proofs.Theory.Running.{ground-kept, size-whole, Mid-run, run-short, run-begins, run-stops, run-ends, leap-cut, run-goes-on, run-early, run-busy}
+use Rattle.engine.proofs.Theory.Rounds.{leap-cut}
+use Rattle.engine.proofs.Theory.Running.{ground-kept, size-whole, Mid-run, run-short, run-begins, run-stops, run-ends, run-goes-on, run-early, run-busy}
 use Rattle.engine.proofs.run.run.Statement.{statement}
 use Rattle.engine.proofs.run.run.Tie as tie
 
 abbrev Inv-loop : tie.InvT-loop
 Inv-loop slow times₀ work₀ cols rows shape stride horizon limit n done₀ times work done =
     (done ≤ limit)
-    × ((xs : List Start) → Good (whole shape slow xs) → At-round shape slow xs stride horizon 0 times₀ work₀ → Mid-run shape slow xs stride horizon done times₀ times work₀ work)
+    × ((xs : List Start) → Good (whole shape slow xs) → At-round shape slow xs stride horizon 0 times₀ work₀
+    → Mid-run shape slow xs stride horizon done times₀ times work₀ work)
 
 abbrev μ-loop : tie.MeasureT-loop
 μ-loop slow times₀ work₀ cols rows shape stride horizon limit n done₀ times work done = limit - done
@@ -36,22 +39,30 @@ round-requires c κs =
     let p = c .before .before .before .before .before .before .before in
     let a = p .args in
     let o = p .pre .1 in
-    let md = c .before .before .before .loop .inv .1 (o .starts) (o .good) (o .at) in
-    (ground-kept (a .shape) (a .slow .now) (o .starts) (md .long) (p .pre .0), record { starts = o .starts; good = o .good; at = md .at }, omega (arith, run-short (a .shape) (a .slow .now) (o .starts) (o .good) (a .stride) (a .horizon) (p .pre .2) (p .pre .3) (p .pre .4) md), p .pre .2, p .pre .3, p .pre .4)
+    let md = c .before .before .before .loop .inv .1 (o .starts) (o .good) (o .at) in (
+      ground-kept (a .shape) (a .slow .now) (o .starts) (md .long) (p .pre .0),
+      record { starts = o .starts; good = o .good; at = md .at },
+      omega (arith, run-short (a .shape) (a .slow .now) (o .starts) (o .good) (a .stride) (a .horizon) (p .pre .2) (p .pre .3) (p .pre .4) md),
+      p .pre .2,
+      p .pre .3,
+      p .pre .4,
+    )
 
 add-done : tie.Need-add-done Inv-loop μ-loop
 add-done c =
     let p = c .before .before .before .before .before .before .before .before .before .before .before .before in
     let a = p .args in
     let o = p .pre .1 in
-    omega (arith, run-short (a .shape) (a .slow .now) (o .starts) (o .good) (a .stride) (a .horizon) (p .pre .2) (p .pre .3) (p .pre .4) (c .before .before .before .before .before .before .before .before .loop .inv .1 (o .starts) (o .good) (o .at)))
+    let md = c .before .before .before .before .before .before .before .before .loop .inv .1 (o .starts) (o .good) (o .at) in
+    omega (arith, run-short (a .shape) (a .slow .now) (o .starts) (o .good) (a .stride) (a .horizon) (p .pre .2) (p .pre .3) (p .pre .4) md)
 
 at-horizon-requires : tie.Need-at-horizon-requires Inv-loop μ-loop
 at-horizon-requires c κs =
     let p = c .before .before .before .before .before .before .before .before .before .before .before .before .before in
     let a = p .args in
     let o = p .pre .1 in
-    (omega (arith, run-short (a .shape) (a .slow .now) (o .starts) (o .good) (a .stride) (a .horizon) (p .pre .2) (p .pre .3) (p .pre .4) (c .before .before .before .before .before .before .before .before .before .loop .inv .1 (o .starts) (o .good) (o .at))), p .pre .3)
+    let md = c .before .before .before .before .before .before .before .before .before .loop .inv .1 (o .starts) (o .good) (o .at) in
+    (omega (arith, run-short (a .shape) (a .slow .now) (o .starts) (o .good) (a .stride) (a .horizon) (p .pre .2) (p .pre .3) (p .pre .4) md), p .pre .3)
 
 same-length : tie.Need-same-length Inv-loop μ-loop
 same-length c =
@@ -71,7 +82,11 @@ returns c xs good at =
     let a = p .args in
     let md = c .before .before .before .before .before .before .before .before .before .before .before .loop .inv .1 xs good at in
     let done = c .before .before .before .before .before .before .before .before .before .before .before .loop .done in
-    rw (add-one done) (run-ends (a .shape) (a .slow .now) xs good (a .stride) (a .horizon) (p .pre .2) (p .pre .3) (p .pre .4) md (c .before .before .before .before .before .before .before .round .ensures xs good (md .at)) (c .before .before .if1 .taken) (subst (λ u. leb (a .horizon) (u * a .stride) ≡ true) (add-one done) (sym (c .before .at-horizon .ensures) ∙ c .if2 .taken)) (omega (arith, c .before .before .before .before .before .before .before .before .before .before .loop-test)))
+    let one = c .before .before .before .before .before .before .before .round .ensures xs good (md .at) in
+    rw (add-one done)
+    (run-ends (a .shape) (a .slow .now) xs good (a .stride) (a .horizon) (p .pre .2) (p .pre .3) (p .pre .4) md one (c .before .before .if1 .taken)
+    (subst (λ u. leb (a .horizon) (u * a .stride) ≡ true) (add-one done) (sym (c .before .at-horizon .ensures) ∙ c .if2 .taken))
+    (omega (arith, c .before .before .before .before .before .before .before .before .before .before .loop-test)))
 
 least-key-requires : tie.Need-least-key-requires Inv-loop μ-loop
 least-key-requires c κs =
@@ -79,8 +94,12 @@ least-key-requires c κs =
     let a = p .args in
     let o = p .pre .1 in
     let md = c .before .before .before .before .before .before .before .before .before .before .loop .inv .1 (o .starts) (o .good) (o .at) in
-    let he = c .before .before .before .before .before .before .round .ensures (o .starts) (o .good) (md .at) .next .held in
-    (omega (arith, p .pre .0 .cells, mul-le-mul (p .pre .0 .good .wide-low) (p .pre .0 .good .high-low)), cells-most (a .shape) (a .slow .now) (a .times .now) (a .cols .now) (a .rows .now) (p .pre .0), omega (arith, he .room), he .tree)
+    let he = c .before .before .before .before .before .before .round .ensures (o .starts) (o .good) (md .at) .next .held in (
+      omega (arith, p .pre .0 .cells, mul-le-mul (p .pre .0 .good .wide-low) (p .pre .0 .good .high-low)),
+      cells-most (a .shape) (a .slow .now) (a .times .now) (a .cols .now) (a .rows .now) (p .pre .0),
+      omega (arith, he .room),
+      he .tree,
+    )
 
 leap-requires : tie.Need-leap-requires Inv-loop μ-loop
 leap-requires c κs = c .before .before .before .before .before .before .before .before .before .before .before .before .before .before .before .pre .2
@@ -97,16 +116,28 @@ loop-again c =
       λ xs good at.
           let md = c .before .before .before .before .before .before .before .before .before .before .before .before .before .loop .inv .1 xs good at in
           let one = c .before .before .before .before .before .before .before .before .before .round .ensures xs good (md .at) in
-          run-goes-on (a .shape) (a .slow .now) xs good (a .stride) (a .horizon) (p .pre .2) (p .pre .3) (p .pre .4) md one (size-whole (a .shape) (a .slow .now) xs (p .pre .0 .cells)) (c .before .before .least-key .ensures)
-          (leap-cut (subst (λ u. Leapt (c .before .before .least-key .result) u (a .stride) (a .horizon) (c .before .leap .result)) (add-one done) (c .before .leap .ensures)) (omega (arith, c .before .before .before .before .before .before .before .before .before .before .before .before .loop-test)) (c .lesser .ensures))
+          run-goes-on (a .shape) (a .slow .now) xs good (a .stride) (a .horizon) (p .pre .2) (p .pre .3) (p .pre .4) md one
+          (size-whole (a .shape) (a .slow .now) xs (p .pre .0 .cells)) (c .before .before .least-key .ensures)
+          (leap-cut
+          (subst (λ u. Leapt (c .before .before .least-key .result) u (a .stride) (a .horizon) (c .before .leap .result)) (add-one done)
+          (c .before .leap .ensures))
+          (omega (arith, c .before .before .before .before .before .before .before .before .before .before .before .before .loop-test))
+          (c .lesser .ensures))
           (⊎-elim
-          (λ w. run-early (a .shape) (a .slow .now) xs good (a .stride) (a .horizon) (p .pre .2) (p .pre .3) (p .pre .4) md one (subst (λ u. leb (a .horizon) (u * a .stride) ≡ false) (add-one done) (sym (w .1 .ensures) ∙ w .2 .left)))
+          (λ w. run-early (a .shape) (a .slow .now) xs good (a .stride) (a .horizon) (p .pre .2) (p .pre .3) (p .pre .4) md one
+          (subst (λ u. leb (a .horizon) (u * a .stride) ≡ false) (add-one done) (sym (w .1 .ensures) ∙ w .2 .left)))
           (λ w. run-busy (a .shape) (a .slow .now) xs good (a .stride) (a .horizon) (p .pre .2) (p .pre .3) (p .pre .4) md one (w .left))
           (c .before .before .before .before .if1 .came)),
     )
 
 loop-less : tie.Need-loop-less Inv-loop μ-loop
-loop-less c = omega (arith, c .before .before .before .before .before .before .before .before .before .before .before .before .loop-test, c .before .leap .ensures .up, c .lesser .ensures)
+loop-less c =
+    omega (
+      arith,
+      c .before .before .before .before .before .before .before .before .before .before .before .before .loop-test,
+      c .before .leap .ensures .up,
+      c .lesser .ensures,
+    )
 
 same-length-3 : tie.Need-same-length-3 Inv-loop μ-loop
 same-length-3 c =
@@ -122,7 +153,8 @@ returns-2 : tie.Need-returns-2 Inv-loop μ-loop
 returns-2 c xs good at =
     let p = c .before .before .before .before .before in
     let a = p .args in
-    run-stops (a .shape) (a .slow .now) xs good (a .stride) (a .horizon) (p .pre .2) (p .pre .3) (p .pre .4) (c .before .loop .inv .1 xs good at) (omega (arith, c .loop-test))
+    run-stops (a .shape) (a .slow .now) xs good (a .stride) (a .horizon) (p .pre .2) (p .pre .3) (p .pre .4) (c .before .loop .inv .1 xs good at)
+    (omega (arith, c .loop-test))
 
 pub run-spec : {M : Type 1} → statement M
 run-spec =
