@@ -1,21 +1,40 @@
 #!/bin/sh
-# `./install.sh PREFIX`: header, archive and pkg-config file below PREFIX, after `rt staticlib murgolab`.
+# Installs what `rt staticlib murgolab` has built; `./install.sh --help` says how.
 set -eu
+export LC_ALL=C
 
-if [ $# -ne 1 ]; then
-    echo "usage: $0 PREFIX" >&2
-    exit 2
-fi
+say_usage() {
+    cat <<USAGE
+usage: [DESTDIR=FOLDER] $0 PREFIX
+Installs include/murgolab.h, lib/libmurgolab.a and lib/pkgconfig/murgolab.pc below PREFIX, which may be relative to the
+folder you are in. With DESTDIR they go below DESTDIR/PREFIX, to be moved later; the pkg-config file names PREFIX.
+Build the archive first: rt staticlib murgolab
+USAGE
+}
+
+refuse() {
+    printf '%s: %s\n' "$0" "$1" >&2
+    exit 1
+}
+
+case "$#:${1-}" in
+1:--help) say_usage; exit ;;
+1:-* | 1:) say_usage >&2; exit 2 ;;
+1:/*) prefix=$1 ;;
+1:*) prefix=$(pwd)/$1 ;;
+*) say_usage >&2; exit 2 ;;
+esac
+
+# What `cc $(pkg-config --cflags murgolab)` hands to cc unaltered; other signs pkg-config drops or puts a `\` before.
+case $prefix in
+*[!A-Za-z0-9/._+,=@~-]*) refuse "only a to z, A to Z, 0 to 9 and / . _ - + , = @ ~ may stand in a prefix, not: $prefix" ;;
+esac
 home=$(cd "$(dirname "$0")" && pwd)
 archive=$home/target/staticlib/libmurgolab.a
-if [ ! -f "$archive" ]; then
-    echo "$0: there is no archive: run \`rt staticlib murgolab\` first" >&2
-    exit 1
-fi
+[ -f "$archive" ] || refuse "there is no archive: run \`rt staticlib murgolab\` first"
 
-mkdir -p "$1"
-prefix=$(cd "$1" && pwd)
-install -d "$prefix/include" "$prefix/lib/pkgconfig"
-install -m 644 "$home/include/murgolab.h" "$prefix/include/"
-install -m 644 "$archive" "$prefix/lib/"
-sed "s|@PREFIX@|$prefix|" "$home/murgolab.pc.in" >"$prefix/lib/pkgconfig/murgolab.pc"
+folder=${DESTDIR-}$prefix
+install -d "$folder/include" "$folder/lib/pkgconfig"
+install -m 644 "$home/include/murgolab.h" "$folder/include/"
+install -m 644 "$archive" "$folder/lib/"
+sed "s|@PREFIX@|$prefix|" "$home/murgolab.pc.in" >"$folder/lib/pkgconfig/murgolab.pc"
