@@ -27,7 +27,7 @@ esac
 
 # What `cc $(pkg-config --cflags murgolab)` hands to cc unaltered; other signs pkg-config drops or puts a `\` before.
 case $prefix in
-*[!A-Za-z0-9/._+,=@~-]*) refuse "only a to z, A to Z, 0 to 9 and / . _ - + , = @ ~ may stand in a prefix, not: $prefix" ;;
+*[!A-Za-z0-9/._+,=@~-]*) refuse "a prefix has plain letters, digits and / . _ - + , = @ ~ only, not: $prefix" ;;
 esac
 home=$(cd "$(dirname "$0")" && pwd)
 archive=$home/target/staticlib/libmurgolab.a
