@@ -14,7 +14,8 @@ use std::process::{Command, Output};
 
 fn python() -> Command {
     let mut python = Command::new("python3");
-    python.env("PYTHONDONTWRITEBYTECODE", "1").current_dir(repository().join("examples"));
+    python.env("PYTHONDONTWRITEBYTECODE", "1").env_remove("PYTHONUNBUFFERED");
+    python.current_dir(repository().join("examples"));
     python
 }
 
@@ -209,7 +210,7 @@ fn remarks_spaces_line_ends_and_a_byte_order_mark_do_no_harm() {
         plain.replace('\n', " // a remark = 4\n"),
         plain.replace('\n', " \t\n\n"),
         plain.lines().map(|line| format!("  {}\n//\n", line)).collect(),
-        plain.replace("ticks 10", "  ticks\t0010"),
+        plain.replace("ticks 10", &format!("  ticks\t{}10", "0".repeat(5_000))),
         plain.trim_end().to_string(),
     ] {
         assert_eq!(made("file", drawn.as_bytes()), want, "{:?}", drawn);
