@@ -1,5 +1,5 @@
 #!/bin/sh
-# Installs what `rt staticlib murgolab` has built; `./install.sh --help` says how.
+# Installs header, archive and pkg-config file; `./install.sh --help` says how.
 set -eu
 export LC_ALL=C
 
@@ -8,7 +8,7 @@ say_usage() {
 usage: [DESTDIR=FOLDER] $0 PREFIX
 Installs include/murgolab.h, lib/libmurgolab.a and lib/pkgconfig/murgolab.pc below PREFIX, which may be relative to the
 folder you are in. With DESTDIR they go below DESTDIR/PREFIX, to be moved later; the pkg-config file names PREFIX.
-Build the archive first: rt staticlib murgolab
+Where the archive is missing or older than the sources, \`rt staticlib murgolab\` makes it first.
 USAGE
 }
 
@@ -31,7 +31,13 @@ case $prefix in
 esac
 home=$(cd "$(dirname "$0")" && pwd)
 archive=$home/target/staticlib/libmurgolab.a
-[ -f "$archive" ] || refuse "there is no archive: run \`rt staticlib murgolab\` first"
+# An archive that came from elsewhere is installed without the kit, whatever its age.
+if [ ! -f "$archive" ] || [ -n "$(find "$home/crates" -name '*.rt' -newer "$archive")" ]; then
+    if command -v rt >/dev/null; then
+        (cd "$home" && rt staticlib murgolab) >&2
+    fi
+    [ -f "$archive" ] || refuse "there is no archive, and no \`rt\` that makes it"
+fi
 
 folder=${DESTDIR-}$prefix
 install -d "$folder/include" "$folder/lib/pkgconfig"

@@ -11,8 +11,8 @@ static const char *const refusals[] = {
     [MURGOLAB_TICKS] = "ticks per turn not 1 to 65,535",
     [MURGOLAB_LIST_LENGTH] = "slowness list not N long, or plain start lists of unequal length",
     [MURGOLAB_SLOWNESS] = "a slowness, the ground's too, above 4,095",
-    [MURGOLAB_RUN] = "a run of the file not sorted, overlapping, empty, past the board, of the ground's slowness, "
-                     "or of the slowness of one it touches",
+    [MURGOLAB_RUN] = "a run not sorted, overlapping, empty, past the board, or as slow as the ground or as "
+                     "a run it touches",
     [MURGOLAB_START_CELL] = "start cell off the board, or not above the one before",
     [MURGOLAB_START_TIME] = "start time above 1,000,000",
     [MURGOLAB_START_ON_WALL] = "start on a wall",

@@ -58,8 +58,8 @@ enum murgolab_refusal {
     MURGOLAB_TICKS = 3,          /* ticks per turn not 1 to 65,535 */
     MURGOLAB_LIST_LENGTH = 4,    /* slowness list not N long, or plain start lists of unequal length */
     MURGOLAB_SLOWNESS = 5,       /* a slowness, the ground's too, above 4,095 */
-    MURGOLAB_RUN = 6,            /* a run of the file not sorted, overlapping, empty, past the board, of the ground's
-                                  * slowness, or of the slowness of one it touches */
+    MURGOLAB_RUN = 6,            /* a run not sorted, overlapping, empty, past the board, or as slow as the ground or as
+                                  * a run it touches */
     MURGOLAB_START_CELL = 7,     /* start cell off the board, or not above the one before */
     MURGOLAB_START_TIME = 8,     /* start time above 1,000,000 */
     MURGOLAB_START_ON_WALL = 9,  /* start on a wall */

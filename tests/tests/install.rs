@@ -8,12 +8,13 @@ use std::process::{Command, Output};
 
 const FILES: [&str; 3] = ["include/murgolab.h", "lib/libmurgolab.a", "lib/pkgconfig/murgolab.pc"];
 
-/// The README's C example: the indented lines from the header's include to the end of `main`.
+/// The README's C example: from the header's include to the end of `main`.
 fn readme_example() -> String {
     let readme = read("README.md");
-    let lines = readme.lines().skip_while(|line| line.trim() != "#include \"murgolab.h\"");
-    let example = lines.take_while(|line| *line != "    }").chain(["    }"]);
-    example.map(|line| format!("{}\n", line.trim_start_matches("    "))).collect()
+    let is_include = |line: &str| line.trim_start().starts_with("#include") && line.contains("murgolab.h");
+    let lines: Vec<&str> = readme.lines().skip_while(|line| !is_include(line)).collect();
+    let end = lines.iter().position(|line| line.trim_end() == "}" || *line == "    }").expect("an example's end");
+    lines[..=end].iter().map(|line| format!("{}\n", line)).collect()
 }
 
 fn folder(test: &str) -> PathBuf {
@@ -82,6 +83,41 @@ fn prefixes_with_other_signs_are_refused_and_nothing_is_written() {
         assert!(told(&output).contains(&format!("a{}b\n", sign)), "{}", told(&output));
     }
     assert_eq!(fs::read_dir(&folder).expect("the folder").count(), 0);
+}
+
+/// A copy of what the script needs, with a kit whose `rt` notes that it was called and makes an archive of nothing.
+#[test]
+fn the_archive_is_made_where_it_is_missing_or_old_and_a_kit_is_there() {
+    let folder = folder("install_archive");
+    let make = format!(
+        "mkdir -p tools kit crates/murgolab/src include
+        for tool in cat dirname find install mkdir sed; do ln -s \"$(command -v $tool)\" tools/; done
+        cp '{0}/install.sh' '{0}/murgolab.pc.in' .; cp '{0}/include/murgolab.h' include/
+        printf '#!/bin/sh\\necho $* >>calls\\nmkdir -p target/staticlib\\n>target/staticlib/libmurgolab.a\\n' >kit/rt
+        chmod +x kit/rt; touch crates/murgolab/src/lib.rt",
+        repository().display()
+    );
+    let sh = |command: &str| printed(Command::new("sh").args(["-euc", command]).current_dir(&folder), &[]);
+    sh(&make);
+    let install = |path: &str| {
+        let path = path.split(':').map(|name| folder.join(name).display().to_string()).collect::<Vec<_>>().join(":");
+        let mut install = Command::new(folder.join("install.sh"));
+        run(install.arg("prefix").current_dir(&folder).env_remove("DESTDIR").env("PATH", path), &[])
+    };
+    let calls = || read(folder.join("calls")).lines().map(String::from).collect::<Vec<_>>();
+    assert_refused(&install("tools"), 1, "there is no archive");
+    for (touched, path, made) in [
+        ("", "tools:kit", 1),
+        ("", "tools:kit", 1),
+        ("touch -d '2 seconds' crates/murgolab/src/lib.rt", "tools", 1),
+        ("", "tools:kit", 2),
+    ] {
+        sh(touched);
+        let output = install(path);
+        assert!(output.status.success() && output.stdout.is_empty(), "{}", told(&output));
+        assert_eq!(calls(), vec!["staticlib murgolab"; made], "{}", path);
+        assert_eq!(is_installed(&folder.join("prefix")), [true; 3]);
+    }
 }
 
 #[test]

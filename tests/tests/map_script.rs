@@ -358,8 +358,8 @@ fn the_scripts_say_how_they_are_called() {
 /// A full device is a complaint of one line; a reader who has had enough is none.
 #[test]
 fn output_that_cannot_be_written_ends_the_scripts_badly_and_without_a_traceback() {
-    let mut numbers = Random::new(72);
-    let board = generate::board(&mut numbers, 256);
+    let slow = (0..65_536).map(|cell| cell % 4_096).collect();
+    let board = Board { width: 256, height: 256, slow, cells: vec![1], begins: vec![0] };
     let held = Held { ticks: 10, ground: 1, board };
     let drawn = made("text", &written(&held));
     let shown = rings(&fs::read(repository().join("examples/maze.scenario")).expect("a scenario")).into_bytes();
