@@ -41,31 +41,26 @@ fn variant(line: &Refusal) -> String {
     words.map(|word| format!("{}{}", &word[..1], word[1..].to_lowercase())).collect()
 }
 
-/// The string literals of code, put together where they stand side by side, each with the name before it. A `\` at a
-/// line's end and a literal's end go on in the next line.
+/// The string literals of code, each with the name before it. Those that stand side by side are one literal, as in C.
 fn named_literals(code: &str) -> Vec<(String, String)> {
-    let code: String = code.lines().filter(|line| !line.trim_start().starts_with("//")).collect::<Vec<_>>().join("\n");
+    let code: Vec<&str> = code.lines().filter(|line| !line.trim_start().starts_with("//")).collect();
     let mut found: Vec<(String, String)> = Vec::new();
-    for (place, part) in code.split('"').enumerate() {
+    for (place, part) in code.join("\n").split('"').enumerate() {
         if place % 2 == 1 {
-            found.last_mut().expect("a name before a literal").1 += &part.replace("\\\n", " ");
+            found.last_mut().expect("a name before a literal").1 += part;
         } else if !part.trim().is_empty() {
-            let names = part.split(|sign: char| !sign.is_alphanumeric() && sign != '_');
-            let name = names.filter(|name| name.starts_with(char::is_alphabetic)).last().unwrap_or("");
+            let mut names = part.split(|sign: char| !sign.is_alphanumeric() && sign != '_');
+            let name = names.rfind(|name| name.starts_with(char::is_alphabetic)).unwrap_or("");
             found.push((name.to_string(), String::new()));
         }
     }
     found
-        .into_iter()
-        .map(|(name, literal)| (name, folded(&literal)))
-        .filter(|(_, literal)| !literal.is_empty())
-        .collect()
 }
 
 /// Each name is followed by its words, in the table's order; other literals may stand between.
 fn assert_named(path: &str, table: &[(String, String)]) {
     let mut literals = named_literals(&read(path));
-    literals.retain(|(name, _)| table.iter().any(|(known, _)| known == name));
+    literals.retain(|(name, literal)| !literal.is_empty() && table.iter().any(|(known, _)| known == name));
     assert_eq!(literals, table, "{}", path);
 }
 
