@@ -30,7 +30,8 @@
  * Any numbers and any contents of lists may be handed in.
  *
  * The library has no variables of its own and allocates nothing: a call writes the lists lent to it and at most 64 KiB
- * of stack. So calls may run in several threads at once where none writes a list that another one is lent.
+ * of stack. So calls may run in several threads at once where none writes a list that another one is lent. These three
+ * are tested on the archive, and not proved.
  *
  * A call that is refused answers a number of the table below, the lowest that has a cause, save that 15 comes directly
  * after 2. What it answers beside the number is 0, and every list stays as it was. "Refused by" names the numbers that
