@@ -21,10 +21,23 @@ fn folder(test: &str) -> PathBuf {
     empty_folder(env!("CARGO_TARGET_TMPDIR"), test)
 }
 
-/// `install.sh`, called in `folder`; the environment has no DESTDIR of its own.
+/// What a shell does in a folder; it must end well.
+fn sh(folder: &Path, command: &str) {
+    printed(Command::new("sh").args(["-euc", command]).current_dir(folder), &[]);
+}
+
+/// A folder beside `folder` with the programs that the script calls, and no kit among them.
+fn tools(folder: &Path) -> PathBuf {
+    let tools = folder.with_extension("tools");
+    fs::create_dir_all(&tools).expect("a folder");
+    sh(&tools, "for tool in cat dirname find install mkdir sed; do ln -sf \"$(command -v $tool)\" .; done");
+    tools
+}
+
+/// `install.sh`, called in `folder`. Without a kit it takes the archive as it is: the tests do not prove it anew.
 fn install(folder: &Path) -> Command {
     let mut install = Command::new(repository().join("install.sh"));
-    install.current_dir(folder).env_remove("DESTDIR");
+    install.current_dir(folder).env_remove("DESTDIR").env("PATH", tools(folder));
     install
 }
 
@@ -90,32 +103,26 @@ fn prefixes_with_other_signs_are_refused_and_nothing_is_written() {
 fn the_archive_is_made_where_it_is_missing_or_old_and_a_kit_is_there() {
     let folder = folder("install_archive");
     let make = format!(
-        "mkdir -p tools kit crates/murgolab/src include
-        for tool in cat dirname find install mkdir sed; do ln -s \"$(command -v $tool)\" tools/; done
+        "mkdir -p kit crates/murgolab/src include; touch crates/murgolab/src/lib.rt
         cp '{0}/install.sh' '{0}/murgolab.pc.in' .; cp '{0}/include/murgolab.h' include/
         printf '#!/bin/sh\\necho $* >>calls\\nmkdir -p target/staticlib\\n>target/staticlib/libmurgolab.a\\n' >kit/rt
-        chmod +x kit/rt; touch crates/murgolab/src/lib.rt",
+        chmod +x kit/rt",
         repository().display()
     );
-    let sh = |command: &str| printed(Command::new("sh").args(["-euc", command]).current_dir(&folder), &[]);
-    sh(&make);
-    let install = |path: &str| {
-        let path = path.split(':').map(|name| folder.join(name).display().to_string()).collect::<Vec<_>>().join(":");
+    sh(&folder, &make);
+    let (tools, kit) = (tools(&folder), folder.join("kit"));
+    let install = |with_kit: bool| {
+        let path = std::env::join_paths([&tools, &kit].iter().take(1 + usize::from(with_kit))).expect("two folders");
         let mut install = Command::new(folder.join("install.sh"));
         run(install.arg("prefix").current_dir(&folder).env_remove("DESTDIR").env("PATH", path), &[])
     };
-    let calls = || read(folder.join("calls")).lines().map(String::from).collect::<Vec<_>>();
-    assert_refused(&install("tools"), 1, "there is no archive");
-    for (touched, path, made) in [
-        ("", "tools:kit", 1),
-        ("", "tools:kit", 1),
-        ("touch -d '2 seconds' crates/murgolab/src/lib.rt", "tools", 1),
-        ("", "tools:kit", 2),
-    ] {
-        sh(touched);
-        let output = install(path);
+    assert_refused(&install(false), 1, "there is no archive");
+    let old = "touch -d '2 seconds' crates/murgolab/src/lib.rt";
+    for (before, with_kit, made) in [("", true, 1), ("", true, 1), (old, false, 1), (old, true, 2)] {
+        sh(&folder, before);
+        let output = install(with_kit);
         assert!(output.status.success() && output.stdout.is_empty(), "{}", told(&output));
-        assert_eq!(calls(), vec!["staticlib murgolab"; made], "{}", path);
+        assert_eq!(read(folder.join("calls")), "staticlib murgolab\n".repeat(made), "{} {}", before, with_kit);
         assert_eq!(is_installed(&folder.join("prefix")), [true; 3]);
     }
 }
