@@ -3,26 +3,36 @@
 
     python3 map.py file < maze.map > maze.scenario
     python3 map.py text < maze.scenario > maze.map
+    python3 map.py --help
 
 A map is text: a head, the line `map`, and the rows. Lines of the head, in any order:
 
-    ticks 10             ticks per turn
+    ticks 10             ticks per turn, 1 to 65,535
     ground 10            the slowness that the file stores once; best the one that most cells have
-    . = 10               in rows this letter is a cell of slowness 10
+    . = 10               in rows this letter is a cell of slowness 10; slownesses are 0 to 4,095
     # = 0                .. a wall
-    S = 10 start 0       .. a cell of slowness 10 where a front starts at time 0
+    S = 10 start 0       .. a cell of slowness 10 where a front starts at time 0; times are 0 to 1,000,000
     start 4 2 500        a front starts in column 4 of row 2, counted from 0, at time 500
-    // anything          a remark
 
-Each row then has one letter a cell. After `map numbers` in place of `map` it has one slowness a cell, with spaces between.
+Each row then has one letter a cell: any sign but a space and `/`. After `map numbers` in place of `map` it has one
+slowness a cell, with spaces between. There are 1 to 256 rows of 1 to 256 cells.
 
-Whether the board is a good one is for the library to say: `rings` prints the number of what it has against a file. The
-script itself complains of what it cannot read, draw or put into a file's bytes.
+In every line `//` and what stands behind it is a remark. Empty lines, spaces before and behind a line's text, and a
+byte order mark do no harm; a space between the letters of a row is refused.
+
+What the script refuses it shows with its line. Whether the board is a good one is for the library to say: a start may
+stand on a wall, and `rings` then prints the number that it has against the file. refusal.py has the numbers in words.
 """
 
+import contextlib
+import io
 import struct
 import sys
 
+RANGES = {
+    "ticks": (1, 65535), "ground": (0, 4095), "slowness": (0, 4095), "start time": (0, 1000000),
+    "width": (1, 256), "height": (1, 256), "column": (0, 255), "row": (0, 255),
+}
 LETTERS = "abcdefghijklmnopqrstuvwxyzABCDEFGHIJKLMNOPQRSTUVWXYZ"
 HEAD, RUN, START = struct.Struct("<HHHHII"), struct.Struct("<IIH"), struct.Struct("<II")
 
@@ -39,74 +49,114 @@ class Board:
         self.slow, self.starts = slow, starts
 
 
-def number(word):
-    if not (word.isascii() and word.isdigit()):
-        raise Problem(f"`{word}` is not a number")
-    return int(word)
+@contextlib.contextmanager
+def shown(place, line):
+    """Says in which line of a map a problem is."""
+    try:
+        yield
+    except Problem as problem:
+        raise Problem(f"line {place}: {problem}: {line.strip()[:60]}") from None
 
 
-def letter_line(words):
-    """Slowness and start time, or none, of a line `LETTER = SLOWNESS [start TIME]`."""
-    if len(words) == 3:
-        return number(words[2]), None
-    if len(words) == 5 and words[3] == "start":
-        return number(words[2]), number(words[4])
+def number(name, word):
+    """The number that a word stands for; as a float first, which takes a word of any length."""
+    least, most = RANGES[name]
+    if not (word.isascii() and word.isdigit() and least <= float(word) <= most):
+        raise Problem(f"{name} `{word[:20]}` is not a number from {least} to {most:,}")
+    return int(float(word))
+
+
+def in_range(name, value):
+    return number(name, str(value))
+
+
+def head_line(words):
+    """The name in a line of the head, and what the line gives it: a letter's slowness and start time, or none."""
+    name, *rest = words
+    if name in ("ticks", "ground"):
+        if len(rest) != 1:
+            raise Problem(f"`{name}` has one number behind it")
+        return name, number(name, rest[0])
+    if len(name) != 1 or rest[:1] != ["="]:
+        raise Problem("not a line of a map's head; rows stand behind a line `map`")
+    if name == "/":
+        raise Problem("`/` is no letter: two of them begin a remark")
+    if len(rest) == 2:
+        return name, (number("slowness", rest[1]), None)
+    if len(rest) == 4 and rest[2] == "start":
+        return name, (number("slowness", rest[1]), number("start time", rest[3]))
     raise Problem("a letter is `LETTER = SLOWNESS` or `LETTER = SLOWNESS start TIME`")
+
+
+def start_line(words):
+    """Column, row and time."""
+    if len(words) != 4:
+        raise Problem("a start is `start COLUMN ROW TIME`")
+    return [number(name, word) for name, word in zip(("column", "row", "start time"), words[1:])]
 
 
 def cells_of(row, letters):
     """Slowness and start time of each cell of a row; `letters` is none where rows are numbers."""
     if letters is None:
-        return [(number(word), None) for word in row.split()]
-    unknown = sorted(set(row) - set(letters))
-    if unknown:
-        raise Problem(f"the head has no line for `{unknown[0]}`")
+        return [(number("slowness", word), None) for word in row.split()]
+    for letter in row:
+        if letter.isspace():
+            raise Problem("a space between the letters of a row")
+        if letter not in letters:
+            raise Problem(f"the head has no line for `{letter}`")
     return [letters[letter] for letter in row]
 
 
+def add_row(rows, cells):
+    if rows and len(cells) != len(rows[0]):
+        raise Problem(f"a row of {len(cells)} cells, the first has {len(rows[0])}")
+    in_range("width", len(cells))
+    in_range("height", len(rows) + 1)
+    rows.append(cells)
+
+
 def from_text(text):
-    head, letters, placed, rows, drawn = {}, {}, [], None, None
-    for place, line in enumerate(text.splitlines(), 1):
-        words = line.split()
-        try:
-            if rows is not None:
-                if words:
-                    rows.append(cells_of(line.strip(), drawn))
-            elif not words or line.startswith("//"):
+    head, placed, rows, letters = {}, [], None, None
+    for place, line in enumerate(io.StringIO(text, newline=None), 1):
+        bare = line.partition("//")[0].strip()
+        words = bare.split()
+        with shown(place, line):
+            if not words:
                 continue
+            if rows is not None:
+                add_row(rows, cells_of(bare, letters))
             elif words in (["map"], ["map", "numbers"]):
-                rows, drawn = [], letters if len(words) == 1 else None
-            elif len(words) > 1 and words[1] == "=" and len(words[0]) == 1:
-                letters[words[0]] = letter_line(words)
-            elif words[0] in ("ticks", "ground") and len(words) == 2:
-                head[words[0]] = number(words[1])
-            elif words[0] == "start" and len(words) == 4:
-                placed.append([number(word) for word in words[1:]])
+                rows, letters = [], head if len(words) == 1 else None
+            elif words[0] == "start":
+                placed.append((place, line, start_line(words)))
             else:
-                raise Problem("not a line of a map's head")
-        except Problem as problem:
-            raise Problem(f"line {place}: {problem}") from None
-    return board_of(head, rows or [], placed)
-
-
-def board_of(head, rows, placed):
+                name, given = head_line(words)
+                if name in head:
+                    raise Problem(f"`{name}` is given twice")
+                head[name] = given
     for name in ("ticks", "ground"):
         if name not in head:
             raise Problem(f"the head has no line `{name}`")
+    if rows is None:
+        raise Problem("there is no line `map`")
     if not rows:
-        raise Problem("there are no rows behind a line `map`")
-    width = len(rows[0])
-    for place, row in enumerate(rows):
-        if len(row) != width:
-            raise Problem(f"row {place} has {len(row)} cells, the first {width}")
-    cells = [cell for row in rows for cell in row]
+        raise Problem("there are no rows behind the line `map`")
+    return board_of(head["ticks"], head["ground"], rows, placed)
+
+
+def board_of(ticks, ground, rows, placed):
+    width, height, cells = len(rows[0]), len(rows), [cell for row in rows for cell in row]
     starts = {cell: time for cell, (_, time) in enumerate(cells) if time is not None}
-    for column, row, time in placed:
-        cell = row * width + column
-        if column >= width or row >= len(rows) or cell in starts:
-            raise Problem(f"start {column} {row}: not on the board, or there is one already")
-        starts[cell] = time
-    return Board(width, len(rows), head["ticks"], head["ground"], [slow for slow, _ in cells], starts)
+    for place, line, (column, row, time) in placed:
+        with shown(place, line):
+            if column >= width:
+                raise Problem(f"column {column} is off the board, which is {width} wide")
+            if row >= height:
+                raise Problem(f"row {row} is off the board, which is {height} high")
+            if row * width + column in starts:
+                raise Problem("the cell has a start already")
+            starts[row * width + column] = time
+    return Board(width, height, ticks, ground, [slow for slow, _ in cells], starts)
 
 
 def runs_of(board):
@@ -122,32 +172,34 @@ def runs_of(board):
 
 
 def to_file(board):
-    runs = runs_of(board)
-    try:
-        head = HEAD.pack(board.width, board.height, board.ticks, board.ground, len(runs), len(board.starts))
-        starts = [START.pack(*start) for start in sorted(board.starts.items())]
-        return head + b"".join([RUN.pack(*run) for run in runs] + starts)
-    except struct.error as problem:
-        raise Problem(f"a number has no room in the file: {problem}") from None
+    runs, starts = runs_of(board), sorted(board.starts.items())
+    head = HEAD.pack(board.width, board.height, board.ticks, board.ground, len(runs), len(starts))
+    return head + b"".join([RUN.pack(*run) for run in runs] + [START.pack(*start) for start in starts])
 
 
 def from_file(file):
     if len(file) < HEAD.size:
-        raise Problem("the file is too short for a head")
-    width, height, ticks, ground, runs, starts = HEAD.unpack_from(file)
-    if width == 0 or height == 0:
-        raise Problem("the board has no cells")
+        raise Problem(f"a file of {len(file)} bytes is too short for a head")
+    *numbers, runs, starts = HEAD.unpack_from(file)
+    width, height, ticks, ground = map(in_range, ("width", "height", "ticks", "ground"), numbers)
     behind_runs = HEAD.size + RUN.size * runs
     if len(file) != behind_runs + START.size * starts:
         raise Problem("the file is not as long as its head says")
-    slow = [ground] * (width * height)
-    for offset, length, slowness in RUN.iter_unpack(file[HEAD.size:behind_runs]):
-        if offset + length > len(slow):
-            raise Problem("a run passes the board's end")
-        slow[offset:offset + length] = [slowness] * length
-    begins = dict(START.iter_unpack(file[behind_runs:]))
-    if len(begins) < starts or any(cell >= len(slow) for cell in begins):
-        raise Problem("two starts in one cell, or one that is not on the board")
+    slow, end = [ground] * (width * height), 0
+    for place, (offset, length, slowness) in enumerate(RUN.iter_unpack(file[HEAD.size:behind_runs])):
+        if offset < end:
+            raise Problem(f"run {place}, counted from 0, begins before the end of the one before")
+        end = offset + length
+        if end > len(slow):
+            raise Problem(f"run {place}, counted from 0, passes the board's end")
+        slow[offset:end] = [in_range("slowness", slowness)] * length
+    begins = {}
+    for place, (cell, time) in enumerate(START.iter_unpack(file[behind_runs:])):
+        if cell >= len(slow):
+            raise Problem(f"start {place}, counted from 0, is off the board")
+        if cell in begins:
+            raise Problem(f"start {place}, counted from 0, is in a cell that has one already")
+        begins[cell] = in_range("start time", time)
     return Board(width, height, ticks, ground, slow, begins)
 
 
@@ -177,15 +229,26 @@ def to_text(board):
     return "\n".join(lines) + "\n"
 
 
+def made(arguments):
+    """The bytes that the script prints."""
+    if arguments == ["--help"]:
+        return __doc__.encode()
+    if arguments not in (["file"], ["text"]):
+        raise Problem("say `file` for a file from a map, `text` for a map from a file, or `--help`")
+    with open(0, "rb", closefd=False) as given:
+        data = given.read()
+    if arguments == ["text"]:
+        return to_text(from_file(data)).encode()
+    return to_file(from_text(data.decode("utf-8-sig", "replace")))
+
+
 def main(arguments):
     try:
-        if arguments == ["file"]:
-            sys.stdout.buffer.write(to_file(from_text(sys.stdin.buffer.read().decode(errors="replace"))))
-        elif arguments == ["text"]:
-            sys.stdout.write(to_text(from_file(sys.stdin.buffer.read())))
-        else:
-            raise Problem("say `file` for a file from a map, or `text` for a map from a file")
-    except Problem as problem:
+        with open(1, "wb", closefd=False) as out:
+            out.write(made(arguments))
+    except BrokenPipeError:
+        sys.exit(1)  # whoever reads has had enough
+    except (Problem, OSError) as problem:
         sys.exit(f"map.py: {problem}")
 
 

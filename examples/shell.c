@@ -1,16 +1,21 @@
-/* Plays a scenario file: prints its width, height and ticks per turn, then the turn in which the front reaches each cell,
- * row by row, `-` for never, as `rings` does; then how many rounds the tile run took.
+/* Plays a scenario file: prints its width, height and ticks per turn, then the turn in which the front reaches each
+ * cell, row by row, `-` for never, as `rings` does; then how many rounds the tile run took. `usage` has its words.
+ * Boards may have any size that the library takes. The starts go from the reader to the run as one list of records.
  *
- *     shell FILE [STRIDE [ACROSS DOWN [HORIZON]]]
- *
- * Left out, these are those of `rings`: 65,536, 8 by 8, 6,000,000. Boards may have any size that the library takes. The
- * starts go from the reader to the run as one list of records. */
-#include "murgolab.h"
+ * Rounds are counted up to the horizon: with the stride 100 and the horizon 6,000,000 the bounds are 100, 200, 300 and
+ * so on, which makes 60,000 rounds, however early the last cell is reached. Those that end before the front's next step
+ * are counted without being worked out. */
+#include "refusals.h"
 
 #include <errno.h>
 #include <stdio.h>
 #include <stdlib.h>
 #include <string.h>
+
+static const char usage[] =
+    "usage: shell FILE [STRIDE [ACROSS DOWN [HORIZON]]]\n"
+    "Prints the turns in which a front reaches the cells of the scenario FILE, and how many rounds its tile run takes\n"
+    "in tiles of ACROSS by DOWN cells. Left out, STRIDE is 65536, the tiles are 8 by 8, and HORIZON is 6000000.\n";
 
 enum { MOST_CELLS = 256 * 256 };
 
@@ -19,30 +24,19 @@ typedef struct { uint32_t stride, across, down, horizon; } options;
 /* Lists that are long enough for every board. */
 typedef struct { uint32_t *slow, *order, *times, *work; murgolab_start *starts; } lists;
 
-/* What each refusal number says of the file or of the options. */
-static const char *const causes[] = {
-    "nothing is wrong",
-    "the file's length does not fit its counts of runs and starts",
-    "a side of the board is not 1 to 256",
-    "the ticks per turn are not 1 to 65,535",
-    "the list of slownesses does not fit the board",
-    "a slowness is above 4,095",
-    "a run is empty, out of place, past the board or not needed",
-    "a start is off the board, or starts do not rise by cell",
-    "a start is later than 1,000,000",
-    "a start stands on a wall",
-    "the stride is not 1 to 300,000,000, or the horizon is above it",
-    "a side of the tiles is not 1 to 256",
-    "the order does not name every tile once",
-    "the list of times does not fit the board",
-    "a list is too short",
-    "a side is above 32",
-};
-
 static int refused(const char *name, uint32_t number)
 {
-    const char *cause = number < sizeof causes / sizeof *causes ? causes[number] : "unknown";
-    fprintf(stderr, "shell: %s: refused by %u: %s\n", name, (unsigned)number, cause);
+    fprintf(stderr, "shell: %s: refused by %u: %s\n", name, (unsigned)number, refusals[number]);
+    return 1;
+}
+
+/* The status for what was printed: 1, with a message, where it could not all be written. */
+static int written(void)
+{
+    int failed = ferror(stdout);
+    if (fclose(stdout) == 0 && !failed)
+        return 0;
+    fprintf(stderr, "shell: cannot write what it prints: %s\n", strerror(errno));
     return 1;
 }
 
@@ -71,7 +65,7 @@ static int play(const char *name, const uint8_t *file, size_t length, options o,
     uint32_t cells, tiles, i;
     murgolab_reply run;
     murgolab_scenario s = murgolab_read_scenario(file, length, l.slow, MOST_CELLS, l.starts, MOST_CELLS);
-    if (s.number != 0)
+    if (s.number != MURGOLAB_ACCEPTED)
         return refused(name, s.number);
     cells = s.width * s.height;
     tiles = tiles_along(s.width, o.across) * tiles_along(s.height, o.down);
@@ -79,11 +73,11 @@ static int play(const char *name, const uint8_t *file, size_t length, options o,
         l.order[i] = i;
     run = murgolab_tile_run(s.width, s.height, l.slow, cells, l.starts, s.starts, o.across, o.down, o.stride, o.horizon,
         l.order, tiles, l.times, cells, l.work, 4 * (size_t)cells);
-    if (run.number != 0)
+    if (run.number != MURGOLAB_ACCEPTED)
         return refused(name, run.number);
     print_turns(&s, l.times);
     printf("%u rounds\n", (unsigned)run.count);
-    return 0;
+    return written();
 }
 
 /* The whole file; null, with a message, where it cannot be read. */
@@ -148,8 +142,12 @@ int main(int count, char **words)
     size_t length;
     uint8_t *file;
     int status = 1;
+    if (count == 2 && strcmp(words[1], "--help") == 0) {
+        fputs(usage, stdout);
+        return written();
+    }
     if (!read_options(count, words, &o)) {
-        fprintf(stderr, "usage: shell FILE [STRIDE [ACROSS DOWN [HORIZON]]]\n");
+        fputs(usage, stderr);
         return 2;
     }
     l.slow = malloc(MOST_CELLS * sizeof *l.slow);

@@ -1,12 +1,41 @@
-/* Fronts on a tiled board: the calls of libmurgolab.a (`rt staticlib murgolab`).
+/* Fronts on a tiled board: when does a fire front reach each cell? The calls of libmurgolab.a, for x86-64 Linux.
  *
- * Each call is proved to meet the contract that its comment gives in plain words; docs/CLAIMS.md names the theorems.
+ * Each call is proved to meet the contract that its comment gives in plain words; in the repository docs/CLAIMS.md goes
+ * from each promise to its theorem.
+ *
+ * Words
+ *
+ *   board     width by height square cells, each side 1 to 256; N is width * height. Cells are numbered from 0, row by
+ *             row from the top left: row * width + column.
+ *   slowness  of a cell, 0 to 4,095: the ticks in which a front crosses it straight; 0 is a wall.
+ *   time      in ticks, 32 bits. Never is MURGOLAB_NEVER. A time handed in, other than a start's, counts as never
+ *             where it is above 300,000,000 and where it stands at a wall. A board's own times are below 269,369,920.
+ *   start     a cell and the time, 0 to 1,000,000, at which a front begins there. A list of starts is strictly rising
+ *             by cell, has none on a wall, and may be empty.
+ *   march     works out the times of the whole board at once.
+ *   tile      a part of the board, across by down cells, each side 1 to 256. Tiles are laid from the top left, cut at
+ *             the board's edge and numbered from 0, row by row. An order is a list of every tile's number once.
+ *   round     works out the times of each tile once, apart from the other tiles.
+ *   bound     of a round, 0 to 300,000,000: times past it are left out, as never.
+ *   tile run  makes rounds with rising bounds until the times are those of the march.
+ *   stride    of a tile run, 1 to 300,000,000: by how much the bound rises from one round to the next.
+ *   horizon   of a march or a tile run, 0 to 300,000,000: times past it are left out, as never. A cell is reached if
+ *             its time is at most the horizon.
+ *   turn      so many ticks of play, 1 to 65,535 ("ticks per turn"), counted from turn 0.
+ *   scenario  a file that stores a board, its ticks per turn and its starts. A run of the file is a first cell, a
+ *             length and the slowness of so many cells from there on; the ground is the slowness of all other cells.
+ *
  * Assumed of the caller: a pointer and a length describe a list that is there and aligned for its type; a list that is
  * lent for writing overlaps no other list of the call. The pointer of an empty list may be anything that is not null.
+ * Any numbers and any contents of lists may be handed in.
  *
- * Never is MURGOLAB_NEVER. A call that is refused answers the lowest number that has a cause (README.md has the table),
- * save that 15 comes directly after 2; it counts 0 beside it, and leaves every list as it was. "Refused by" names the
- * numbers that a call can answer, in the order in which they are looked for.
+ * The library has no variables of its own and allocates nothing: a call writes the lists lent to it and at most 64 KiB
+ * of stack. So calls may run in several threads at once where none writes a list that another one is lent. These three
+ * are tested on the archive, and not proved.
+ *
+ * A call that is refused answers a number of the table below, the lowest that has a cause, save that 15 comes directly
+ * after 2. What it answers beside the number is 0, and every list stays as it was. "Refused by" names the numbers that
+ * a call can answer, in the order in which they are looked for.
  */
 #ifndef MURGOLAB_H
 #define MURGOLAB_H
@@ -18,9 +47,32 @@
 extern "C" {
 #endif
 
+#define MURGOLAB_VERSION "0.1.0"
+
 #define MURGOLAB_NEVER UINT32_C(4294967295)
 
-/* a start: a cell, numbered row by row from 0, and a time of 0 to 1,000,000 */
+/* what the field `number` of an answer says */
+enum murgolab_refusal {
+    MURGOLAB_ACCEPTED = 0,       /* accepted */
+    MURGOLAB_FILE_LENGTH = 1,    /* file under 16 bytes, or not as long as its counts of runs and starts say */
+    MURGOLAB_SIDES_OF_BOARD = 2, /* width or height not 1 to 256 */
+    MURGOLAB_TICKS = 3,          /* ticks per turn not 1 to 65,535 */
+    MURGOLAB_LIST_LENGTH = 4,    /* slowness list not N long, or plain start lists of unequal length */
+    MURGOLAB_SLOWNESS = 5,       /* a slowness, the ground's too, above 4,095 */
+    MURGOLAB_RUN = 6,            /* a run not sorted, overlapping, empty, past the board, or as slow as the ground or as
+                                  * a run it touches */
+    MURGOLAB_START_CELL = 7,     /* start cell off the board, or not above the one before */
+    MURGOLAB_START_TIME = 8,     /* start time above 1,000,000 */
+    MURGOLAB_START_ON_WALL = 9,  /* start on a wall */
+    MURGOLAB_RANGE = 10,         /* horizon or bound above 300,000,000, or stride not 1 to 300,000,000 */
+    MURGOLAB_SIDES_OF_TILE = 11, /* tile width or height not 1 to 256 */
+    MURGOLAB_ORDER = 12,         /* order does not name every tile once */
+    MURGOLAB_TIMES_LENGTH = 13,  /* times list not N long */
+    MURGOLAB_ROOM = 14,          /* work list under 4N long, or a list to be filled too short */
+    MURGOLAB_SMALL_BOARD = 15    /* tablet or rings: a side above 32, or for rings a file above 18,448 bytes */
+};
+
+/* a start: a cell and a time of 0 to 1,000,000 */
 typedef struct { uint32_t cell, time; } murgolab_start;
 
 /* number 0: accepted, and count is the answer; else number is the refusal, and count is 0 */
@@ -29,86 +81,105 @@ typedef struct { uint32_t number, count; } murgolab_reply;
 /* number 0: accepted, and the rest is what the file says; else number is the refusal, and the rest is 0 */
 typedef struct { uint32_t number, width, height, ticks, ground, starts; } murgolab_scenario;
 
-/* The local rule: the least whole t, not below the earlier of a and b, with p*p + q*q >= slowness*slowness, where a is the
- * earlier of left and right, b the earlier of above and below, p = t - a if a is earlier than t, else 0, and q likewise
- * from b. Never where both are never or the slowness is 0. A time above 300,000,000 counts as never.
- * Refused by 5 only: slowness above 4,095. The count is the time. */
+/* The local rule: the least whole t, not below the earlier of a and b, with p*p + q*q >= slowness*slowness, where a is
+ * the earlier of left and right, b the earlier of above and below, p = t - a if a is earlier than t, else 0, and q
+ * likewise from b. Never where both are never or the slowness is 0. The count is that time.
+ * Refused by 5 only. */
 murgolab_reply murgolab_local_rule(uint32_t slowness, uint32_t left, uint32_t right, uint32_t above, uint32_t below);
 
-/* D: the least d with 2*d*d >= slowness*slowness. Refused by 5 only: slowness above 4,095. The count is d. */
+/* D: the least d with 2*d*d >= slowness*slowness, which the local rule adds where a and b are equal. The count is d.
+ * Refused by 5 only. */
 murgolab_reply murgolab_diagonal(uint32_t slowness);
 
-/* The turn of a time: time / ticks, the fraction dropped; never for never, and for a time above 300,000,000.
- * Refused by 3 only: ticks not 1 to 65,535. The count is the turn. */
+/* The turn of a time: time / ticks, the fraction dropped, where ticks is the ticks per turn; never for never, and for a
+ * time above 300,000,000. The count is the turn.
+ * Refused by 3 only. */
 murgolab_reply murgolab_turn(uint32_t time, uint32_t ticks);
 
-/* The calls below take a board: width and height 1 to 256, N = width * height; slow: N slownesses of 0 to 4,095, 0 being a
- * wall; starts: the start records, strictly rising by cell, none on a wall, possibly empty. times is N long. work is at
- * least 4N long, and may hold anything; after an accepted call its first 4N entries are 0 and later ones as they were. */
+/* The next calls take a board and its starts: slow has N slownesses. times is N long. work is at least 4N long, and may
+ * hold anything; after an accepted call its first 4N entries are 0 and later ones as they were. */
 
-/* The time at which the front reaches each cell; never where that is past the horizon, 0 to 300,000,000, or no front
- * comes. times may hold anything at first. The count is the number of cells reached. Refused by 2 4 5 7 8 9 10 13 14. */
+/* The march: the time at which the front reaches each cell, up to the horizon; never where that is later, or no front
+ * comes. times may hold anything at first. The count is the number of cells reached.
+ * Refused by 2 4 5 7 8 9 10 13 14. */
 murgolab_reply murgolab_march(uint32_t width, uint32_t height, const uint32_t *slow, size_t slow_len,
     const murgolab_start *starts, size_t starts_len,
     uint32_t horizon, uint32_t *times, size_t times_len, uint32_t *work, size_t work_len);
 
-/* One round: every tile, across by down cells, each side 1 to 256, is solved up to the bound, 0 to 300,000,000, with the
- * times that times holds beyond its edges; what it holds within them is not used. times may hold any numbers: one above
- * 300,000,000, and one at a wall, counts as never. Tiles are laid from the top left, cut at the board's edge and numbered
- * row by row from 0; order names every tile once, and never shows. The count is the number of entries altered.
+/* One round: every tile is solved with the times that times holds beyond its edges before the round; what it holds
+ * within them is not used. Then times holds each cell's time up to the bound, and never elsewhere. The order of tiles
+ * never shows. The count is the number of entries of times that differ from what they were, as bare numbers.
  * Refused by 2 4 5 7 8 9 10 11 12 13 14. */
 murgolab_reply murgolab_one_round(uint32_t width, uint32_t height, const uint32_t *slow, size_t slow_len,
     const murgolab_start *starts, size_t starts_len,
     uint32_t across, uint32_t down, uint32_t bound, const uint32_t *order, size_t order_len,
     uint32_t *times, size_t times_len, uint32_t *work, size_t work_len);
 
-/* Rounds from all never, the j-th with the bound j * stride or the horizon, the lesser, until one at the horizon alters
- * nothing; stride is 1 to 300,000,000. times is then what the march gives. The count is the number of rounds, the last
- * among them. Refused by 2 4 5 7 8 9 10 11 12 13 14. */
+/* The tile run: rounds from all never, the j-th, from 1, with the bound j * stride or the horizon, the lesser, until
+ * one at the horizon alters nothing. times, which may hold anything at first, is then what the march gives. The count
+ * is the number of rounds, the last among them: at least horizon / stride, rounded up, however early the last cell is
+ * reached. Rounds that end before the front's next step are counted without being worked out.
+ * Refused by 2 4 5 7 8 9 10 11 12 13 14. */
 murgolab_reply murgolab_tile_run(uint32_t width, uint32_t height, const uint32_t *slow, size_t slow_len,
     const murgolab_start *starts, size_t starts_len,
     uint32_t across, uint32_t down, uint32_t stride, uint32_t horizon, const uint32_t *order, size_t order_len,
     uint32_t *times, size_t times_len, uint32_t *work, size_t work_len);
 
-/* Reads a scenario file: fills the first N entries of slow and the first `starts` records of starts; later ones stay. Any
- * bytes may be handed in. Refused by 1 2 3 5 6 7 8 9, and by 14 where a list is too short. */
+/* Reads a scenario file: fills the first N entries of slow and as many records of starts as the answer's `starts` says;
+ * later ones stay. 65,536 of each are enough for every file. A file has, lowest byte first: width, height, ticks per
+ * turn and ground, 2 bytes each; the counts r of runs and q of starts, 4 each; r runs of first cell (4), length (4) and
+ * slowness (2); q starts of cell (4) and time (4): 16 + 10r + 8q bytes.
+ * Refused by 1 2 3 5 6 7 8 9 14. */
 murgolab_scenario murgolab_read_scenario(const uint8_t *file, size_t file_len, uint32_t *slow, size_t slow_len,
     murgolab_start *starts, size_t starts_len);
 
-/* Writes the one scenario file of a board, its ticks per turn, 1 to 65,535, ground slowness and starts; later bytes of out
- * stay. A file that was read and is written again with its own ground has the same bytes. The count is the file's length,
- * at most 16 + 18N. Refused by 2 3 4 5 7 8 9, and by 14 where out is too short. */
+/* Writes the one scenario file of a board, its ticks per turn, its ground, 0 to 4,095, and its starts into out; later
+ * bytes stay. A file that was read and is written again with its own ground has the same bytes. The count is the file's
+ * length, at most 16 + 18N.
+ * Refused by 2 3 4 5 7 8 9 14. */
 murgolab_reply murgolab_write_scenario(uint32_t width, uint32_t height, uint32_t ticks, uint32_t ground,
-    const uint32_t *slow, size_t slow_len, const murgolab_start *starts, size_t starts_len, uint8_t *out, size_t out_len);
+    const uint32_t *slow, size_t slow_len, const murgolab_start *starts, size_t starts_len,
+    uint8_t *out, size_t out_len);
 
-/* The tablet's call: reads a scenario file of at most 32 by 32 cells and makes its tile run with the horizon 6,000,000 and
- * tiles of across by down cells. The first 4N bytes of out are then the N times, 4 bytes each, the lowest first; later
- * bytes stay. The answer is the number of rounds times 256; where the call is refused, the bare number, 1 to 15.
- * Refused by 1 2 15 3 5 6 7 8 9, by 10 for the stride, by 11 for a tile's side, and by 14 where out is under 4N long. */
+/* The tablet's call: makes the tile run of a scenario file of at most 32 by 32 cells, with the horizon 6,000,000, and
+ * fills the first 4N bytes of out with its N times, 4 bytes each, the lowest first; later bytes stay. The tiles are
+ * across by down cells. The answer is the number of rounds times 256; where the call is refused, the bare number, 1 to
+ * 15.
+ * Refused by 1 2 15 3 5 6 7 8 9 10 11 14: by 10 for the stride, by 14 where out is under 4N long. */
 uint64_t murgolab_tablet_run(const uint8_t *file, size_t file_len, uint32_t stride, uint32_t across, uint32_t down,
     uint8_t *out, size_t out_len);
 
-/* The same calls with the starts in two lists, for callers that have them so: cells holds the starts' cells, begins their
- * times. They give the same answers. Where both lists are not as long as each other they are refused by 4. */
+/* The calls with the starts in two plain lists of equal length, for callers that have them so: cells holds the starts'
+ * cells, begins their times. They give the same answers. */
 
+/* The march with plain start lists.
+ * Refused by 2 4 5 7 8 9 10 13 14. */
 murgolab_reply murgolab_march_plain(uint32_t width, uint32_t height, const uint32_t *slow, size_t slow_len,
     const uint32_t *cells, size_t cells_len, const uint32_t *begins, size_t begins_len,
     uint32_t horizon, uint32_t *times, size_t times_len, uint32_t *work, size_t work_len);
 
+/* One round with plain start lists.
+ * Refused by 2 4 5 7 8 9 10 11 12 13 14. */
 murgolab_reply murgolab_one_round_plain(uint32_t width, uint32_t height, const uint32_t *slow, size_t slow_len,
     const uint32_t *cells, size_t cells_len, const uint32_t *begins, size_t begins_len,
     uint32_t across, uint32_t down, uint32_t bound, const uint32_t *order, size_t order_len,
     uint32_t *times, size_t times_len, uint32_t *work, size_t work_len);
 
+/* The tile run with plain start lists.
+ * Refused by 2 4 5 7 8 9 10 11 12 13 14. */
 murgolab_reply murgolab_tile_run_plain(uint32_t width, uint32_t height, const uint32_t *slow, size_t slow_len,
     const uint32_t *cells, size_t cells_len, const uint32_t *begins, size_t begins_len,
     uint32_t across, uint32_t down, uint32_t stride, uint32_t horizon, const uint32_t *order, size_t order_len,
     uint32_t *times, size_t times_len, uint32_t *work, size_t work_len);
 
-/* cells and begins need not be as long as each other here: each must hold the file's starts, else 14. */
+/* Reads a scenario file into plain start lists. Here cells and begins need not be as long as each other: each must hold
+ * the file's starts, else 14.
+ * Refused by 1 2 3 5 6 7 8 9 14. */
 murgolab_scenario murgolab_read_scenario_plain(const uint8_t *file, size_t file_len, uint32_t *slow, size_t slow_len,
     uint32_t *cells, size_t cells_len, uint32_t *begins, size_t begins_len);
 
+/* Writes the scenario file from plain start lists.
+ * Refused by 2 3 4 5 7 8 9 14. */
 murgolab_reply murgolab_write_scenario_plain(uint32_t width, uint32_t height, uint32_t ticks, uint32_t ground,
     const uint32_t *slow, size_t slow_len, const uint32_t *cells, size_t cells_len,
     const uint32_t *begins, size_t begins_len, uint8_t *out, size_t out_len);

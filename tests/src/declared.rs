@@ -58,6 +58,11 @@ pub fn header() -> Interface {
             let name = words.word();
             words.expect(&[";"]);
             assert_eq!(interface.structs.insert(name.clone(), fields), None, "{} is declared twice", name);
+        } else if word == "enum" {
+            // the refusal table: see `refusals`
+            while !words.take(&["}", ";"]) {
+                words.next().expect("an enum's end");
+            }
         } else {
             let name = words.word();
             let parameters = c_parameters(&mut words);
@@ -66,6 +71,37 @@ pub fn header() -> Interface {
         }
     }
     interface
+}
+
+/// A line of the refusal table.
+#[derive(Clone, Debug, PartialEq, Eq)]
+pub struct Refusal {
+    pub number: u32,
+    pub name: String,
+    pub words: String,
+}
+
+/// The refusal table: the header's enum, each name with the words of its comment.
+pub fn refusals() -> Vec<Refusal> {
+    let header = read("include/murgolab.h");
+    let behind = header.split("enum murgolab_refusal {").nth(1).expect("the refusal table");
+    let table = behind.split("};").next().expect("its lines");
+    let lines = table.split("*/").filter(|line| !line.trim().is_empty());
+    lines.map(|line| refusal_of(line).unwrap_or_else(|| panic!("{} is no line of the table", line))).collect()
+}
+
+/// `NAME = number, /* words`
+fn refusal_of(line: &str) -> Option<Refusal> {
+    let (entry, words) = line.split_once("/*")?;
+    let (name, number) = entry.split_once('=')?;
+    let number = number.trim().trim_end_matches(',').parse().ok()?;
+    Some(Refusal { number, name: name.trim().to_string(), words: folded(words) })
+}
+
+/// Words with one space between, without backticks and what begins a comment's line.
+pub fn folded(text: &str) -> String {
+    let words = text.split_whitespace().filter(|word| *word != "*");
+    words.collect::<Vec<_>>().join(" ").replace('`', "")
 }
 
 /// What the crate murgolab exports, with the structs that its functions name.

@@ -1,10 +1,16 @@
 //! The header's calls from C, in a program that is compiled with every warning an error.
 
-use second_solver::declared::{header, read};
-use second_solver::programs::{compiled, printed, valgrind};
+use second_solver::declared::{header, read, repository};
+use second_solver::programs::{compiled, empty_folder, printed, valgrind};
+use std::path::PathBuf;
 use std::process::Command;
 
 const SOURCE: &str = "tests/c/calls.c";
+
+/// The program in a folder of the test's own.
+fn calls(test: &str) -> PathBuf {
+    compiled(SOURCE, &empty_folder(env!("CARGO_TARGET_TMPDIR"), test))
+}
 
 fn assert_nothing_wrong(told: &str) {
     assert!(told.ends_with(" checks, 0 wrong\n") && !told.starts_with("0 "), "{}", told);
@@ -12,17 +18,13 @@ fn assert_nothing_wrong(told: &str) {
 
 #[test]
 fn calls_from_c_answer_and_leave_what_they_should_and_write_beside_no_list() {
-    let program = compiled(SOURCE, env!("CARGO_TARGET_TMPDIR"));
-    assert_nothing_wrong(&printed(Command::new(program).arg("8"), &[]));
+    assert_nothing_wrong(&printed(Command::new(calls("calls")).arg("8"), &[]));
 }
 
 /// Lists that end where their memory ends. The gate installs valgrind; without it this fails.
 #[test]
 fn calls_from_c_touch_nothing_but_their_lists() {
-    let folder = concat!(env!("CARGO_TARGET_TMPDIR"), "/valgrind");
-    std::fs::create_dir_all(folder).expect("a folder for the program");
-    let program = compiled(SOURCE, folder);
-    assert_nothing_wrong(&printed(valgrind(&program).arg("0"), &[]));
+    assert_nothing_wrong(&printed(valgrind(&calls("calls_valgrind")).arg("0"), &[]));
 }
 
 #[test]
@@ -30,5 +32,28 @@ fn every_call_of_the_header_is_called_from_c() {
     let source = read(SOURCE);
     for name in header().functions.keys() {
         assert!(source.contains(&format!("{}(", name)), "{} is not called", name);
+    }
+}
+
+/// So no call can allocate, keep anything between two calls or meet another thread's: the archive has code and
+/// constants alone, and calls nobody but the two that copy and fill memory.
+#[test]
+fn the_archive_has_no_variables_and_calls_no_allocator() {
+    let mut nm = Command::new("nm");
+    let lines = printed(nm.arg("--format=posix").arg(repository().join("target/staticlib/libmurgolab.a")), &[]);
+    // `libmurgolab.a[murgolab.o]:`, then a name and a kind a line
+    let symbols: Vec<[&str; 2]> = lines
+        .lines()
+        .filter(|line| !line.ends_with(':'))
+        .map(|line| [0, 1].map(|word| line.split_whitespace().nth(word).unwrap_or_else(|| panic!("{}", line))))
+        .collect();
+    assert!(symbols.contains(&["murgolab_march", "T"]), "{}", lines);
+    for [name, kind] in symbols {
+        let fine = match kind {
+            "T" | "t" | "R" | "r" => true,
+            "U" => ["memcpy", "memset"].contains(&name),
+            _ => false,
+        };
+        assert!(fine, "{} of kind {}", name, kind);
     }
 }

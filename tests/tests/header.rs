@@ -1,9 +1,13 @@
 //! The header beside the proved source: the same functions, parameters and structs, in the same order.
 //! What compiles against a header that differs would call the archive with the wrong words.
+//! And the header alone: it compiles as C and as C++, and says by which numbers each call is refused.
 
-use second_solver::declared::{declared_in, exported, header, read, structs_in};
+use second_solver::declared::{declared_in, exported, header, read, refusals, structs_in};
+use second_solver::programs::{compile, empty_folder, printed};
 use std::collections::BTreeSet;
 use std::fmt::Debug;
+use std::fs;
+use std::process::Command;
 
 /// Both have the same names, and under each name the same.
 fn assert_same<'a, T: PartialEq + Debug + 'a>(
@@ -52,13 +56,90 @@ fn the_structs_of_rust_code_are_those_of_the_header() {
 }
 
 #[test]
-fn the_readme_has_every_call_in_its_table_and_no_other() {
+fn the_readme_names_every_call_and_no_other() {
     let header = header();
     let readme = read("README.md");
-    let table = readme.lines().filter(|line| line.starts_with('|'));
-    let words = table.flat_map(|line| line.split(|sign: char| !sign.is_alphanumeric() && sign != '_'));
+    let words = readme.split(|sign: char| !sign.is_alphanumeric() && sign != '_');
     let named: BTreeSet<&str> = words.filter(|word| word.starts_with("murgolab_")).collect();
     let calls: BTreeSet<&str> = header.functions.keys().map(String::as_str).collect();
     let structs: BTreeSet<&str> = header.structs.keys().map(String::as_str).collect();
     assert_eq!(&named - &structs, calls);
+}
+
+/// Included twice and linked, so that C++ finds the names that C gave them.
+#[test]
+fn the_header_compiles_alone_as_c_and_as_cpp() {
+    let folder = empty_folder(env!("CARGO_TARGET_TMPDIR"), "header");
+    let include = "#include \"murgolab.h\"\n".repeat(2);
+    let main = "int main(void) { return murgolab_diagonal(4096).number == MURGOLAB_SLOWNESS ? 0 : 1; }\n";
+    for (compiler, standard, ending) in
+        [("cc", "-std=c99", "c"), ("cc", "-std=c11", "c"), ("c++", "-std=c++11", "cpp"), ("c++", "-std=c++17", "cpp")]
+    {
+        let (source, program) = (folder.join("alone").with_extension(ending), folder.join("alone"));
+        fs::write(&source, format!("{}{}", include, main)).expect("a file");
+        compile([compiler, standard], &source, &program);
+        printed(&mut Command::new(program), &[]);
+    }
+}
+
+/// The numbers behind `Refused by` in the comment that stands directly before the call's declaration.
+fn refused_by(header: &str, call: &str) -> Vec<u32> {
+    let before = header.split(&format!(" {}(", call)).next().expect("the text before the call");
+    let (comments, answer) = before.rsplit_once("*/\n").expect("a comment");
+    assert!(!answer.contains(char::is_whitespace), "{} has no comment of its own", call);
+    let comment = comments.rsplit("/*").next().expect("the comment");
+    numbers(comment.split("Refused by ").nth(1).unwrap_or_else(|| panic!("{}: {}", call, comment)))
+}
+
+/// The numbers with which a text begins; `7 to 9` is 7 8 9.
+fn numbers(text: &str) -> Vec<u32> {
+    let mut found: Vec<u32> = Vec::new();
+    let mut up_to = false;
+    for word in text.split_whitespace() {
+        match word.trim_end_matches(&['.', ',', ';', ':'][..]).parse() {
+            Ok(number) if up_to => found.extend(found[found.len() - 1] + 1..=number),
+            Ok(number) => found.push(number),
+            Err(_) if word != "to" => break,
+            Err(_) => {}
+        }
+        up_to = word == "to";
+    }
+    found
+}
+
+#[test]
+fn the_header_says_by_which_numbers_each_call_is_refused() {
+    let text = read("include/murgolab.h");
+    for call in header().functions.keys() {
+        let numbers = refused_by(&text, call);
+        assert!(!numbers.is_empty(), "{} has no numbers", call);
+        assert!(numbers.iter().all(|number| (1..refusals().len()).contains(&(*number as usize))), "{}", call);
+        assert_eq!(numbers, refused_by(&text, call.trim_end_matches("_plain")), "{} with plain lists", call);
+    }
+}
+
+/// The table has a row of each call over records, which begins with its name and ends with its numbers.
+#[test]
+fn the_readme_says_the_same_numbers_of_each_call() {
+    let (text, readme) = (read("include/murgolab.h"), read("README.md"));
+    for call in header().functions.keys().filter(|call| !call.ends_with("_plain")) {
+        let is_row = |line: &&str| {
+            line.strip_prefix(&format!("| `{}", call)).map_or(false, |rest| rest.starts_with(&['`', '('][..]))
+        };
+        let row = readme.lines().find(is_row).unwrap_or_else(|| panic!("{} has no row", call));
+        let last = row.trim_end_matches(&['|', ' '][..]).rsplit('|').next().expect("a column");
+        assert_eq!(numbers(last), refused_by(&text, call), "{}", call);
+    }
+}
+
+#[test]
+fn header_pkg_config_file_and_wrapper_have_one_version() {
+    let version = |path: &str, before: &str, behind: &str| {
+        let text = read(path);
+        let line = text.lines().find_map(|line| line.strip_prefix(before)?.strip_suffix(behind));
+        line.unwrap_or_else(|| panic!("{} has no version", path)).to_string()
+    };
+    let header = version("include/murgolab.h", "#define MURGOLAB_VERSION \"", "\"");
+    assert_eq!(version("murgolab.pc.in", "Version: ", ""), header);
+    assert_eq!(version("wrapper/Cargo.toml", "version = \"", "\""), header);
 }

@@ -1,10 +1,10 @@
-//! The example boards, and the script that makes scenario files of drawn maps.
+//! The example boards, the script that makes scenario files of drawn maps, and the one that says refusals in words.
 
 use second_solver::board::Board;
-use second_solver::declared::{files, read, repository};
+use second_solver::declared::{files, read, refusals, repository};
 use second_solver::ffi::scenario;
 use second_solver::generate;
-use second_solver::programs::{run, told};
+use second_solver::programs::{printed, run, run_into_full, run_unread, told};
 use second_solver::random::Random;
 use second_solver::scenario::Held;
 use second_solver::shown::rings;
@@ -14,17 +14,26 @@ use std::process::{Command, Output};
 
 fn python() -> Command {
     let mut python = Command::new("python3");
-    python.env("PYTHONDONTWRITEBYTECODE", "1").current_dir(repository().join("examples"));
+    python.env("PYTHONDONTWRITEBYTECODE", "1").env_remove("PYTHONUNBUFFERED");
+    python.current_dir(repository().join("examples"));
     python
 }
 
-fn script(way: &str, input: &[u8]) -> Output {
-    run(python().args(["map.py", way]), input)
+fn map(way: &str) -> Command {
+    let mut map = python();
+    map.args(["map.py", way]);
+    map
+}
+
+fn refusal(words: &[&str]) -> Command {
+    let mut refusal = python();
+    refusal.arg("refusal.py").args(words);
+    refusal
 }
 
 /// What the script makes of good input, from the command line.
 fn made(way: &str, input: &[u8]) -> Vec<u8> {
-    let output = script(way, input);
+    let output = run(&mut map(way), input);
     assert!(output.status.success(), "map.py {}: {}", way, told(&output));
     output.stdout
 }
@@ -59,16 +68,23 @@ fn the_examples_show_what_stands_beside_them() {
 }
 
 /// Reads a list of parts, each behind its length in four bytes; runs the named functions of the script on each, one
-/// after another, and writes what every one of them gives in the same way.
+/// after another, and writes what every one of them gives, or its complaint, in the same way.
 const MANY: &str = "
 import sys, struct
 import map as script
+ways = {
+    'file': lambda part: script.to_file(script.from_text(part.decode())),
+    'text': lambda part: script.to_text(script.from_file(part)).encode(),
+}
 data, at, out = sys.stdin.buffer.read(), 0, []
 while at < len(data):
     length, = struct.unpack_from('<I', data, at)
     part, at = data[at + 4:at + 4 + length], at + 4 + length
     for way in sys.argv[1:]:
-        part = script.to_file(script.from_text(part.decode())) if way == 'file' else script.to_text(script.from_file(part)).encode()
+        try:
+            part = ways[way](part)
+        except script.Problem as problem:
+            part = str(problem).encode()
         out += [struct.pack('<I', len(part)), part]
 sys.stdout.buffer.write(b''.join(out))
 ";
@@ -180,28 +196,204 @@ fn the_library_reads_what_was_drawn() {
     }
 }
 
+/// A map's head; what a test draws comes behind it.
+const HEAD: &str = "ticks 10\nground 10\n. = 10\n";
+
 #[test]
-fn the_script_says_what_it_cannot_read() {
-    let head = "ticks 10\nground 10\n. = 10\n";
-    for (way, input, why) in [
-        ("file", "ticks 10\n. = 10\nmap\n.\n".to_string(), "no line `ground`"),
-        ("file", format!("{}turns 4\nmap\n.\n", head), "line 4: not a line"),
-        ("file", format!("{}# = zero\nmap\n.\n", head), "line 4: `zero` is not a number"),
-        ("file", format!("{}# = 0 at 4\nmap\n.\n", head), "line 4: a letter is"),
-        ("file", format!("{}map\n..\n.#\n", head), "line 6: the head has no line for `#`"),
-        ("file", format!("{}map\n..\n.\n", head), "row 1 has 1 cells"),
-        ("file", head.to_string(), "no rows"),
-        ("file", format!("{}start 2 0 0\nmap\n..\n", head), "not on the board"),
-        ("file", format!("{}start 0 0 0\nstart 0 0 0\nmap\n..\n", head), "one already"),
-        ("file", format!("{}# = 65536\nmap\n.#\n", head), "no room in the file"),
-        ("text", "short".to_string(), "too short"),
-        ("text", "\0".repeat(16), "no cells"),
-        ("text", "\u{1}\0\u{1}\0\u{1}\0\u{1}\0".to_string() + &"\0".repeat(9), "not as long"),
-        ("neither", String::new(), "say `file`"),
+fn remarks_spaces_line_ends_and_a_byte_order_mark_do_no_harm() {
+    let plain = format!("{}# = 0\nS = 10 start 3\nstart 1 1 7\nmap\nS.#\n...\n", HEAD);
+    let want = made("file", plain.as_bytes());
+    for drawn in [
+        format!("\u{FEFF}{}", plain),
+        plain.replace('\n', "\r\n"),
+        plain.replace('\n', "\r"),
+        plain.replace('\n', " // a remark = 4\n"),
+        plain.replace('\n', " \t\n\n"),
+        plain.lines().map(|line| format!("  {}\n//\n", line)).collect(),
+        plain.replace("ticks 10", &format!("  ticks\t{}10", "0".repeat(5_000))),
+        plain.trim_end().to_string(),
     ] {
-        let output = script(way, input.as_bytes());
-        assert!(!output.status.success() && output.stdout.is_empty(), "{:?} passes", input);
-        let told = told(&output);
-        assert!(told.starts_with("map.py: ") && told.contains(why), "{:?}: {}", input, told);
+        assert_eq!(made("file", drawn.as_bytes()), want, "{:?}", drawn);
+    }
+}
+
+/// The script's complaint of each input is one line, and begins with what stands beside it.
+fn assert_complaints(way: &str, cases: &[(Vec<u8>, &str)]) {
+    let inputs: Vec<Vec<u8>> = cases.iter().map(|(input, _)| input.clone()).collect();
+    for ((input, why), told) in cases.iter().zip(many(&[way], &inputs)) {
+        let (input, told) = (String::from_utf8_lossy(input), String::from_utf8_lossy(&told));
+        assert!(told.starts_with(why) && told.lines().count() == 1, "{}\n{}\nand not {}", input, told, why);
+    }
+    let (input, why) = &cases[0];
+    assert_complains(&run(&mut map(way), input), "map.py", why);
+}
+
+/// A script's complaint is one line that begins with its name; nothing is printed beside it.
+fn assert_complains(output: &Output, script: &str, why: &str) {
+    let told = told(output);
+    assert!(output.status.code() == Some(1) && output.stdout.is_empty(), "{}: {}", output.status, told);
+    assert!(told.starts_with(&format!("{}: ", script)) && told.contains(why), "{}\nand not {}", told, why);
+    assert_eq!(told.lines().count(), 1, "{}", told);
+}
+
+#[test]
+fn the_script_says_which_line_of_a_map_it_refuses_and_why() {
+    let digits = format!("# = {}", "9".repeat(5_000));
+    let wide = format!("map\n{}", ".".repeat(257));
+    let high = format!("map\n{}", ".\n".repeat(257));
+    let cases = [
+        ("turns 4", "line 4: not a line of a map's head; rows stand behind a line `map`: turns 4"),
+        ("turns // so", "line 4: not a line of a map's head; rows stand behind a line `map`: turns // so"),
+        ("map digits", "line 4: not a line"),
+        ("ticks", "line 4: `ticks` has one number behind it: ticks"),
+        ("ground 10 20", "line 4: `ground` has one number behind it: ground 10 20"),
+        ("ticks 10", "line 4: `ticks` is given twice: ticks 10"),
+        ("ground 20", "line 4: `ground` is given twice: ground 20"),
+        (". = 20", "line 4: `.` is given twice: . = 20"),
+        ("# = zero", "line 4: slowness `zero` is not a number from 0 to 4,095: # = zero"),
+        ("# = -1", "line 4: slowness `-1` is not a number from 0 to 4,095: # = -1"),
+        ("# = 4096", "line 4: slowness `4096` is not a number from 0 to 4,095: # = 4096"),
+        ("# = ٣", "line 4: slowness `٣` is not a number from 0 to 4,095: # = ٣"),
+        (&digits, "line 4: slowness `99999999999999999999` is not a number from 0 to 4,095: # = 999"),
+        ("# = 0 at 4", "line 4: a letter is `LETTER = SLOWNESS` or `LETTER = SLOWNESS start TIME`: # = 0 at 4"),
+        (
+            "S = 9 start 1000001",
+            "line 4: start time `1000001` is not a number from 0 to 1,000,000: S = 9 start 1000001",
+        ),
+        ("/ = 10", "line 4: `/` is no letter: two of them begin a remark: / = 10"),
+        ("start 0 0", "line 4: a start is `start COLUMN ROW TIME`: start 0 0"),
+        ("start 0 0 1000001\nmap\n.", "line 4: start time `1000001` is not a number from 0 to 1,000,000: start 0 0 1"),
+        ("start 256 0 0\nmap\n.", "line 4: column `256` is not a number from 0 to 255: start 256 0 0"),
+        ("start 2 0 0\nmap\n..", "line 4: column 2 is off the board, which is 2 wide: start 2 0 0"),
+        ("start 0 1 0\nmap\n..", "line 4: row 1 is off the board, which is 1 high: start 0 1 0"),
+        ("start 0 0 0\nstart 0 0 1\nmap\n..", "line 5: the cell has a start already: start 0 0 1"),
+        ("S = 10 start 0\nstart 1 0 1\nmap\n.S", "line 5: the cell has a start already: start 1 0 1"),
+        ("map\n..\n.#", "line 6: the head has no line for `#`: .#"),
+        ("map\n..\n. .", "line 6: a space between the letters of a row: . ."),
+        ("map\n..\n\n.", "line 7: a row of 1 cells, the first has 2: ."),
+        ("map numbers\n1 2\n3 4096", "line 6: slowness `4096` is not a number from 0 to 4,095: 3 4096"),
+        ("map numbers\n1 2\n3", "line 6: a row of 1 cells, the first has 2: 3"),
+        (&wide, "line 5: width `257` is not a number from 1 to 256: ...."),
+        (&high, "line 261: height `257` is not a number from 1 to 256: ."),
+        ("map", "there are no rows behind the line `map`"),
+        ("", "there is no line `map`"),
+    ];
+    assert_complaints("file", &cases.map(|(text, why)| (format!("{}{}\n", HEAD, text).into_bytes(), why)));
+}
+
+#[test]
+fn the_script_says_what_is_wrong_with_ticks_and_ground() {
+    let cases = [
+        ("ticks 0", "line 1: ticks `0` is not a number from 1 to 65,535: ticks 0"),
+        ("ticks 65536", "line 1: ticks `65536` is not a number from 1 to 65,535: ticks 65536"),
+        ("ground 4096", "line 1: ground `4096` is not a number from 0 to 4,095: ground 4096"),
+        ("ticks 10\n. = 1\nmap\n.", "the head has no line `ground`"),
+        ("ground 10\n. = 1\nmap\n.", "the head has no line `ticks`"),
+        ("", "the head has no line `ticks`"),
+    ];
+    assert_complaints("file", &cases.map(|(text, why)| (text.as_bytes().to_vec(), why)));
+}
+
+/// The ends of each range are fine.
+#[test]
+fn the_largest_and_the_least_of_everything_are_drawn() {
+    let wide = format!("ticks 65535\nground 4095\n. = 0\nS = 4095 start 1000000\nmap\n{}S\n", ".".repeat(255));
+    let high = format!("ticks 1\nground 0\n. = 0\nstart 0 255 0\nmap\n{}", ".\n".repeat(256));
+    for (drawn, sides) in [(wide, [0, 1, 1, 0]), (high, [1, 0, 0, 1])] {
+        let file = made("file", drawn.as_bytes());
+        assert_eq!(file[..4], sides);
+        assert_eq!(made("file", &made("text", &file)), file);
+    }
+}
+
+/// Width, height, ticks, ground, then the counts of runs and starts; a run is of a first cell, a length and a slowness.
+fn file(head: [u16; 4], runs: &[(u32, u32, u16)], starts: &[[u32; 2]]) -> Vec<u8> {
+    let mut file: Vec<u8> = head.iter().flat_map(|number| number.to_le_bytes()).collect();
+    file.extend([runs.len(), starts.len()].iter().flat_map(|&count| (count as u32).to_le_bytes()));
+    for (first, length, slowness) in runs {
+        file.extend([first, length].iter().flat_map(|number| number.to_le_bytes()));
+        file.extend(slowness.to_le_bytes());
+    }
+    file.extend(starts.iter().flatten().flat_map(|number| number.to_le_bytes()));
+    file
+}
+
+#[test]
+fn the_script_says_what_it_cannot_draw_of_a_file() {
+    let good = [2, 2, 10, 10];
+    made("text", &file(good, &[(1, 2, 5)], &[[0, 0], [3, 7]]));
+    let cases = [
+        (b"short".to_vec(), "a file of 5 bytes is too short for a head"),
+        (file([65_535; 4], &[], &[]), "width `65535` is not a number from 1 to 256"),
+        (file([1, 257, 10, 10], &[], &[]), "height `257` is not a number from 1 to 256"),
+        (file([0, 1, 10, 10], &[], &[]), "width `0` is not a number from 1 to 256"),
+        (file([2, 2, 0, 10], &[], &[]), "ticks `0` is not a number from 1 to 65,535"),
+        (file([2, 2, 10, 4_096], &[], &[]), "ground `4096` is not a number from 0 to 4,095"),
+        ([file(good, &[], &[]), vec![0]].concat(), "the file is not as long as its head says"),
+        (file(good, &[(0, 1, 4_096)], &[]), "slowness `4096` is not a number from 0 to 4,095"),
+        (file(good, &[(0, 1, 5), (3, 2, 5)], &[]), "run 1, counted from 0, passes the board's end"),
+        (file(good, &[(1, u32::MAX, 5)], &[]), "run 0, counted from 0, passes the board's end"),
+        (file(good, &[(1, 2, 5), (2, 1, 6)], &[]), "run 1, counted from 0, begins before the end of the one before"),
+        (file(good, &[], &[[4, 0]]), "start 0, counted from 0, is off the board"),
+        (file(good, &[], &[[1, 0], [1, 1]]), "start 1, counted from 0, is in a cell that has one already"),
+        (file(good, &[], &[[1, 1_000_001]]), "start time `1000001` is not a number from 0 to 1,000,000"),
+    ];
+    assert_complaints("text", &cases);
+}
+
+#[test]
+fn the_script_says_what_it_is_called_with() {
+    for words in ["neither", ""] {
+        assert_complains(&run(&mut map(words), &[]), "map.py", "say `file` for a file from a map, `text` for");
+    }
+}
+
+#[test]
+fn the_scripts_say_how_they_are_called() {
+    for (mut script, name) in [(map("--help"), "map.py file"), (refusal(&["--help"]), "refusal.py 9")] {
+        assert!(printed(&mut script, &[]).contains(&format!("\n    python3 {}", name)), "{:?}", script);
+    }
+}
+
+/// A full device is a complaint of one line; a reader who has had enough is none.
+#[test]
+fn output_that_cannot_be_written_ends_the_scripts_badly_and_without_a_traceback() {
+    let slow = (0..65_536).map(|cell| cell % 4_096).collect();
+    let board = Board { width: 256, height: 256, slow, cells: vec![1], begins: vec![0] };
+    let held = Held { ticks: 10, ground: 1, board };
+    let drawn = made("text", &written(&held));
+    let shown = rings(&fs::read(repository().join("examples/maze.scenario")).expect("a scenario")).into_bytes();
+    for (mut script, name, input) in [
+        (map("text"), "map.py", written(&held)),
+        (map("file"), "map.py", drawn),
+        (map("--help"), "map.py", Vec::new()),
+        (refusal(&[]), "refusal.py", shown),
+        (refusal(&["9"]), "refusal.py", Vec::new()),
+    ] {
+        assert_complains(&run_into_full(&mut script, &input), name, "No space left on device\n");
+        let unread = run_unread(&mut script, &input);
+        assert!(unread.status.code() == Some(1) && unread.stderr.is_empty(), "{:?}: {}", script, told(&unread));
+    }
+}
+
+#[test]
+fn the_lines_of_rings_are_passed_on_and_refusals_get_their_words() {
+    for path in examples(".rings") {
+        let lines = fs::read(&path).expect("the lines of rings");
+        let output = run(&mut refusal(&[]), &lines);
+        if lines.starts_with(b"refused") {
+            assert_eq!((told(&output).as_str(), output.status.code()), ("refused 9: start on a wall\n", Some(1)));
+        } else {
+            assert!(output.status.success() && output.stdout == lines, "{}: {}", path.display(), told(&output));
+        }
+    }
+    let all = refusals().len();
+    for (words, input, why) in [
+        (vec![], "", "nothing came in".to_string()),
+        (vec![], &format!("refused {}\n", all), format!("`{}` is not a number from 0 to {}", all, all - 1)),
+        (vec!["nine"], "", "`nine` is not a number".to_string()),
+        (vec!["9", "9"], "", "say one number".to_string()),
+    ] {
+        assert_complains(&run(&mut refusal(&words), input.as_bytes()), "refusal.py", &why);
     }
 }

@@ -1,24 +1,27 @@
-//! `examples/shell.c`: compiled with every warning an error, run on boards of all sizes beside the second solver, and
-//! under valgrind.
+//! `examples/shell.c` and `examples/tablet.c`: compiled with every warning an error, run beside the second solver on
+//! boards of all sizes, and under valgrind.
 
-use second_solver::board::Grid;
+use second_solver::board::{Board, Grid};
 use second_solver::calls::rounds;
-use second_solver::declared::{files, repository};
+use second_solver::declared::{files, refusals, repository};
 use second_solver::generate;
-use second_solver::programs::{compiled, printed, run, told, valgrind};
+use second_solver::programs::{compiled, empty_folder, printed, run, run_into_full, told, valgrind};
 use second_solver::random::Random;
 use second_solver::scenario::{file_of, judge, Held};
-use second_solver::shown::{turns, SHOWN_HORIZON};
+use second_solver::shown::{tablet, turns, SHOWN_HORIZON, SHOWN_SIDE};
 use second_solver::tiles::Tiling;
+use second_solver::NEVER;
 use std::fs;
 use std::path::{Path, PathBuf};
 use std::process::Command;
 
-/// The program in a folder of the test's own.
+/// The program of examples/ in a folder of the test's own.
+fn program(source: &str, test: &str) -> PathBuf {
+    compiled(source, &empty_folder(env!("CARGO_TARGET_TMPDIR"), test))
+}
+
 fn shell(test: &str) -> PathBuf {
-    let folder = Path::new(env!("CARGO_TARGET_TMPDIR")).join(test);
-    fs::create_dir_all(&folder).expect("a folder for the program");
-    compiled("examples/shell.c", folder.to_str().expect("a folder's name"))
+    program("examples/shell.c", test)
 }
 
 fn example(name: &str) -> PathBuf {
@@ -68,18 +71,23 @@ fn the_shell_plays_boards_of_all_sizes() {
     }
 }
 
+/// How both programs say a refusal.
+fn refused_by(number: u32) -> String {
+    format!("refused by {}: {}\n", number, refusals()[number as usize].words)
+}
+
 #[test]
 fn the_shell_says_what_is_wrong() {
     let shell = shell("shell_wrong");
     let (wall, maze) = (example("start-on-a-wall.scenario"), example("maze.scenario"));
     let (map, missing) = (example("maze.map"), example("nothing"));
     let cases: [(&Path, &[&str], i32, &str); 9] = [
-        (&wall, &[], 1, "refused by 9: a start stands on a wall\n"),
-        (&map, &[], 1, "refused by 1: the file's length does not fit"),
-        (&maze, &["0"], 1, "refused by 10: "),
-        (&maze, &["1", "8", "257"], 1, "refused by 11: "),
-        (&maze, &["1", "0", "8"], 1, "refused by 11: "),
-        (&maze, &["1", "8", "8", "300000001"], 1, "refused by 10: "),
+        (&wall, &[], 1, &refused_by(9)),
+        (&map, &[], 1, &refused_by(1)),
+        (&maze, &["0"], 1, &refused_by(10)),
+        (&maze, &["1", "8", "257"], 1, &refused_by(11)),
+        (&maze, &["1", "0", "8"], 1, &refused_by(11)),
+        (&maze, &["1", "8", "8", "300000001"], 1, &refused_by(10)),
         (&maze, &["1", "8"], 2, "usage: "),
         (&maze, &["4294967296"], 2, "usage: "),
         (&missing, &[], 1, "nothing: "),
@@ -90,6 +98,59 @@ fn the_shell_says_what_is_wrong() {
         assert_eq!(output.status.code(), Some(status), "{:?}: {}", words, told);
         assert!(output.stdout.is_empty() && told.contains(why), "{:?}: {}", words, told);
     }
+}
+
+#[test]
+fn the_shell_says_what_it_is_called_with() {
+    let shell = shell("shell_help");
+    assert!(printed(Command::new(shell).arg("--help"), &[]).starts_with("usage: shell FILE [STRIDE "));
+}
+
+#[test]
+fn what_cannot_be_written_ends_the_shell_badly() {
+    let shell = shell("shell_full");
+    for words in [vec![example("maze.scenario")], vec![PathBuf::from("--help")]] {
+        let output = run_into_full(Command::new(&shell).args(&words), &[]);
+        assert_eq!(output.status.code(), Some(1), "{:?}", words);
+        assert!(told(&output).starts_with("shell: cannot write what it prints: "), "{}", told(&output));
+    }
+}
+
+/// What the tablet's example must print of a file, and its status.
+fn tablet_line(file: &[u8]) -> (String, i32) {
+    let mut out = vec![0; 4 * 1_024];
+    let answer = tablet(file, 100, 4, 4, &mut out);
+    if answer < 256 {
+        return (refused_by(answer as u32), 1);
+    }
+    let held = judge(file, None).expect("a good file");
+    let end = 4 * held.board.size();
+    let time = u32::from_le_bytes([out[end - 4], out[end - 3], out[end - 2], out[end - 1]]);
+    let reached = if time == NEVER { "never reached".to_string() } else { format!("reached at {}", time) };
+    (format!("{} rounds; the last cell is {}\n", answer / 256, reached), 0)
+}
+
+#[test]
+fn the_tablets_example_says_rounds_and_the_last_time_or_the_refusal() {
+    let tablet = program("examples/tablet.c", "tablet_example");
+    let large = tablet.with_extension("scenario");
+    let side = SHOWN_SIDE + 1;
+    let board = Board { width: side, height: 1, slow: vec![10; side as usize], cells: vec![0], begins: vec![0] };
+    fs::write(&large, file_of(&board, 10, 10)).expect("a file");
+    let mut seen = [0; 2];
+    for path in files(&repository().join("examples"), ".scenario").into_iter().chain([large]) {
+        let output = run(Command::new(&tablet).arg(&path), &[]);
+        let (line, status) = tablet_line(&fs::read(&path).expect("a scenario"));
+        assert_eq!((told(&output), output.status.code()), (line, Some(status)), "{}", path.display());
+        seen[status as usize] += 1;
+    }
+    assert!(seen[0] >= 4 && seen[1] >= 2, "{:?}", seen);
+    for path in [example("nothing"), example("")] {
+        let output = run(Command::new(&tablet).arg(&path), &[]);
+        assert_eq!(output.status.code(), Some(2), "{}: {}", path.display(), told(&output));
+    }
+    let output = run_into_full(Command::new(&tablet).arg(example("maze.scenario")), &[]);
+    assert_eq!(output.status.code(), Some(1), "{}", told(&output));
 }
 
 /// The gate installs valgrind; without it this fails.

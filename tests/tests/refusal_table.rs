@@ -1,0 +1,87 @@
+//! The refusal table stands in the header, in the README, in the wrapper and in the words of the examples. The header's
+//! is the one that the others are held to: numbers, names where they are given, and words.
+
+use second_solver::declared::{folded, read, refusals, repository, Refusal};
+use second_solver::programs::printed;
+use std::process::Command;
+
+/// Numbers and words of the table's lines, without the first, which is no refusal.
+fn numbered() -> Vec<(u32, String)> {
+    refusals().into_iter().skip(1).map(|line| (line.number, line.words)).collect()
+}
+
+#[test]
+fn the_header_has_a_name_and_words_for_every_number_from_0() {
+    let table = refusals();
+    assert_eq!((table[0].name.as_str(), table[0].words.as_str()), ("MURGOLAB_ACCEPTED", "accepted"));
+    assert!(table.len() > 15, "{} numbers", table.len());
+    for (place, line) in table.iter().enumerate() {
+        assert_eq!(line.number as usize, place, "{:?}", line);
+        assert!(line.name.starts_with("MURGOLAB_") && !line.words.is_empty(), "{:?}", line);
+        assert!(table.iter().all(|other| other == line || (other.name != line.name && other.words != line.words)));
+    }
+}
+
+/// Rows `| number | words |`.
+#[test]
+fn the_readme_has_the_same_table() {
+    let readme = read("README.md");
+    let section = readme.split("\n## ").find(|section| section.starts_with("Refusal numbers")).expect("the section");
+    let cells = section.lines().map(|line| line.split('|').map(str::trim).collect::<Vec<_>>());
+    let rows = cells.filter_map(|row| match row[..] {
+        ["", number, words, ""] => Some((number.parse().ok()?, folded(words))),
+        _ => None,
+    });
+    assert_eq!(rows.collect::<Vec<(u32, String)>>(), numbered());
+}
+
+/// The name of a refusal in Rust: `FileLength` for `MURGOLAB_FILE_LENGTH`.
+fn variant(line: &Refusal) -> String {
+    let words = line.name.trim_start_matches("MURGOLAB_").split('_');
+    words.map(|word| format!("{}{}", &word[..1], word[1..].to_lowercase())).collect()
+}
+
+/// The string literals of code, each with the name before it. Those that stand side by side are one literal, as in C.
+fn named_literals(code: &str) -> Vec<(String, String)> {
+    let code: Vec<&str> = code.lines().filter(|line| !line.trim_start().starts_with("//")).collect();
+    let mut found: Vec<(String, String)> = Vec::new();
+    for (place, part) in code.join("\n").split('"').enumerate() {
+        if place % 2 == 1 {
+            found.last_mut().expect("a name before a literal").1 += part;
+        } else if !part.trim().is_empty() {
+            let mut names = part.split(|sign: char| !sign.is_alphanumeric() && sign != '_');
+            let name = names.rfind(|name| name.starts_with(char::is_alphabetic)).unwrap_or("");
+            found.push((name.to_string(), String::new()));
+        }
+    }
+    found
+}
+
+/// Each name is followed by its words, in the table's order; other literals may stand between.
+fn assert_named(path: &str, table: &[(String, String)]) {
+    let mut literals = named_literals(&read(path));
+    literals.retain(|(name, literal)| !literal.is_empty() && table.iter().any(|(known, _)| known == name));
+    assert_eq!(literals, table, "{}", path);
+}
+
+#[test]
+fn the_wrapper_has_the_same_names_and_words() {
+    let table: Vec<_> = refusals().iter().skip(1).map(|line| (variant(line), line.words.clone())).collect();
+    assert_named("wrapper/src/refusal.rs", &table);
+}
+
+/// What examples/shell.c and examples/tablet.c print.
+#[test]
+fn the_examples_have_the_same_names_and_words() {
+    let table: Vec<_> = refusals().into_iter().map(|line| (line.name, line.words)).collect();
+    assert_named("examples/refusals.h", &table);
+}
+
+#[test]
+fn the_script_says_the_same_words() {
+    for line in refusals() {
+        let mut script = Command::new("python3");
+        script.arg(repository().join("examples/refusal.py")).arg(line.number.to_string());
+        assert_eq!(printed(&mut script, &[]), format!("{}: {}\n", line.number, line.words));
+    }
+}
