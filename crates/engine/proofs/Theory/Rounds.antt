@@ -132,11 +132,9 @@ module _ {n : ℕ} {stored y k now : ℕ → ℕ} {t m : ℕ} {note : ℕ → �
       none zero h = refl
       none (suc n') h = omega (arith, h n' (omega arith), none n' (λ c l. h c (omega arith)))
 
--- a leap that stops at a limit
-pub leap-cut : {least done s h far limit r : ℕ} → Leapt least done s h far → done ≤ limit → r ≡ min far limit → Leapt least done s h r
-leap-cut {s = s} {far} {r = r} lp within e =
-    let less : r ≤ far = omega arith in
-    record { up = omega (arith, lp .up); short = λ l. omega (arith, lp .short (omega arith), mul-le-mul-right s less) }
+-- a shorter leap is one too
+pub leap-short : {least done s h far r : ℕ} → Leapt least done s h far → done ≤ r → r ≤ far → Leapt least done s h r
+leap-short {s = s} lp up less = record { up = up; short = λ l. omega (arith, lp .short (omega arith), mul-le-mul-right s less) }
 
 module _ {b : Board} (good : Good b) (tw th s h : ℕ) (stride : 1 ≤ s) (horizon : h ≤ largest) where
   abbrev bound-of : ℕ → ℕ

@@ -14,7 +14,7 @@ use Rattle.eikonal.specs.Board.{Start}
 use Rattle.eikonal.specs.Inner.Good.{Good}
 use Rattle.front.proofs.Theory.Reading.{cells-most}
 use Rattle.engine.specs.Run.{whole, At-round, Leapt}
-use Rattle.engine.proofs.Theory.Rounds.{leap-cut}
+use Rattle.engine.proofs.Theory.Rounds.{leap-short}
 use Rattle.engine.proofs.Theory.Running.{ground-kept, size-whole, Mid-run, run-short, run-begins, run-stops, run-ends, run-goes-on, run-early, run-busy}
 use Rattle.engine.proofs.run.run.Statement.{statement}
 use Rattle.engine.proofs.run.run.Tie as tie
@@ -80,13 +80,13 @@ returns : tie.Need-returns Inv-loop μ-loop
 returns c xs good at =
     let p = c .before .before .before .before .before .before .before .before .before .before .before .before .before .before .before in
     let a = p .args in
-    let md = c .before .before .before .before .before .before .before .before .before .before .before .loop .inv .1 xs good at in
-    let done = c .before .before .before .before .before .before .before .before .before .before .before .loop .done in
+    let turn = c .before .before .before .before .before .before .before .before .before .before .before .loop in
+    let md = turn .inv .1 xs good at in
     let one = c .before .before .before .before .before .before .before .round .ensures xs good (md .at) in
-    rw (add-one done)
+    rw (add-one (turn .done))
     (run-ends (a .shape) (a .slow .now) xs good (a .stride) (a .horizon) (p .pre .2) (p .pre .3) (p .pre .4) md one (c .before .before .if1 .taken)
-    (subst (λ u. leb (a .horizon) (u * a .stride) ≡ true) (add-one done) (sym (c .before .at-horizon .ensures) ∙ c .if2 .taken))
-    (omega (arith, c .before .before .before .before .before .before .before .before .before .before .loop-test)))
+    (subst (λ u. leb (a .horizon) (u * a .stride) ≡ true) (add-one (turn .done)) (sym (c .before .at-horizon .ensures) ∙ c .if2 .taken))
+    (omega (arith, turn .inv .0, c .before .before .before .before .before .before .before .before .before .before .loop-test)))
 
 least-key-requires : tie.Need-least-key-requires Inv-loop μ-loop
 least-key-requires c κs =
@@ -111,21 +111,22 @@ loop-again : tie.Need-loop-again Inv-loop μ-loop
 loop-again c =
     let p = c .before .before .before .before .before .before .before .before .before .before .before .before .before .before .before .before .before in
     let a = p .args in
-    let done = c .before .before .before .before .before .before .before .before .before .before .before .before .before .loop .done in (
+    let turn = c .before .before .before .before .before .before .before .before .before .before .before .before .before .loop in
+    let test = c .before .before .before .before .before .before .before .before .before .before .before .before .loop-test in (
       omega (arith, c .lesser .ensures),
       λ xs good at.
-          let md = c .before .before .before .before .before .before .before .before .before .before .before .before .before .loop .inv .1 xs good at in
+          let md = turn .inv .1 xs good at in
           let one = c .before .before .before .before .before .before .before .before .before .round .ensures xs good (md .at) in
           run-goes-on (a .shape) (a .slow .now) xs good (a .stride) (a .horizon) (p .pre .2) (p .pre .3) (p .pre .4) md one
           (size-whole (a .shape) (a .slow .now) xs (p .pre .0 .cells)) (c .before .before .least-key .ensures)
-          (leap-cut
-          (subst (λ u. Leapt (c .before .before .least-key .result) u (a .stride) (a .horizon) (c .before .leap .result)) (add-one done)
+          (leap-short
+          (subst (λ u. Leapt (c .before .before .least-key .result) u (a .stride) (a .horizon) (c .before .leap .result)) (add-one (turn .done))
           (c .before .leap .ensures))
-          (omega (arith, c .before .before .before .before .before .before .before .before .before .before .before .before .loop-test))
-          (c .lesser .ensures))
+          (omega (arith, turn .inv .0, test, c .before .leap .ensures .up, c .lesser .ensures))
+          (omega (arith, c .lesser .ensures)))
           (⊎-elim
           (λ w. run-early (a .shape) (a .slow .now) xs good (a .stride) (a .horizon) (p .pre .2) (p .pre .3) (p .pre .4) md one
-          (subst (λ u. leb (a .horizon) (u * a .stride) ≡ false) (add-one done) (sym (w .1 .ensures) ∙ w .2 .left)))
+          (subst (λ u. leb (a .horizon) (u * a .stride) ≡ false) (add-one (turn .done)) (sym (w .1 .ensures) ∙ w .2 .left)))
           (λ w. run-busy (a .shape) (a .slow .now) xs good (a .stride) (a .horizon) (p .pre .2) (p .pre .3) (p .pre .4) md one (w .left))
           (c .before .before .before .before .if1 .came)),
     )
@@ -134,6 +135,7 @@ loop-less : tie.Need-loop-less Inv-loop μ-loop
 loop-less c =
     omega (
       arith,
+      c .before .before .before .before .before .before .before .before .before .before .before .before .before .loop .inv .0,
       c .before .before .before .before .before .before .before .before .before .before .before .before .loop-test,
       c .before .leap .ensures .up,
       c .lesser .ensures,
