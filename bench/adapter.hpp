@@ -9,12 +9,12 @@ constexpr uint32_t horizon = 300000000, ticks = 10, ground = 4095;
 // commit is added with a body that says that it is not there, so that older adapters still fit.
 struct Lent {
     virtual ~Lent() = default;
-    virtual uint32_t march() = 0;                             // the cells reached
-    virtual uint32_t round(uint32_t side) = 0;                // to the horizon: the entries altered
-    virtual uint32_t run(uint32_t side, uint32_t stride) = 0; // the rounds
-    virtual uint32_t rule() = 0;                              // at each cell but the outer ones: the sum of the answers
-    virtual void write() = 0;                                 // the board's scenario file
-    virtual uint32_t read() = 0;                              // the file that was written last: its starts
+    virtual uint32_t march() = 0;                                // the cells reached
+    virtual uint32_t round(uint32_t side) = 0;                   // to the horizon: the entries altered
+    virtual uint32_t run(uint32_t side, uint32_t stride) = 0;    // the rounds
+    virtual uint32_t rule() = 0;                                 // in all rows but the outer two: the answers' sum
+    virtual void write() = 0;                                    // the board's scenario file
+    virtual uint32_t read() = 0;                                 // the file that was written last: its starts
     virtual uint32_t tablet(uint32_t side, uint32_t stride) = 0; // over that file: the rounds
     virtual const std::vector<uint32_t> &times() const = 0;
 };

@@ -1,18 +1,18 @@
-// This tree and another commit in one interleaved run: each row is timed on both sides, one directly after the other
-// and each of them first by turns. Both must give the same answers and the same times.
+// This tree and another commit in one interleaved run: each row is timed on both, one directly after the other and each
+// of them first by turns. Both must give the same answers and the same times.
 #include "adapter.hpp"
 #include <deque>
 #include <memory>
 
 namespace {
 
-// A board lent to both sides.
+// A board lent to both.
 struct Both {
     const yardstick::Board board;
-    const std::unique_ptr<Lent> sides[2];
+    const std::unique_ptr<Lent> lent[2];
 
     explicit Both(const yardstick::Board &b)
-        : board(b), sides{std::unique_ptr<Lent>(this_tree(board)), std::unique_ptr<Lent>(other_commit(board))} {}
+        : board(b), lent{std::unique_ptr<Lent>(this_tree(board)), std::unique_ptr<Lent>(other_commit(board))} {}
 };
 
 struct Line {
@@ -39,12 +39,12 @@ int main(int, char **argv) {
     for (int k = 0; k < runs; k++)
         for (Line &line : lines) {
             uint32_t answers[2];
-            for (int side : {k % 2, 1 - k % 2})
-                line.took[side].push_back(micros([&] { answers[side] = line.row.play(*line.on.sides[side]); }));
+            for (int i : {k % 2, 1 - k % 2})
+                line.took[i].push_back(micros([&] { answers[i] = line.row.play(*line.on.lent[i]); }));
             demand(answers[0] == answers[1], "the two commits answer differently");
         }
     for (const Both &b : boards)
-        demand(b.sides[0]->times() == b.sides[1]->times(), "the two commits name different times");
+        demand(b.lent[0]->times() == b.lent[1]->times(), "the two commits name different times");
 
     std::printf("%d interleaved runs, medians; 256 x 256 cells, horizon %u\n", runs, horizon);
     std::printf("%-20s %-10s %14s %14s %8s\n", "board", "call", "this tree (us)", argv[2], "ratio");

@@ -18,7 +18,7 @@ class Calls final : public Lent {
         demand(r.number == 0, "a call was refused");
         return r.count;
     }
-    // The rising order of a board's tiles begins as that of its cells.
+    // How many tiles there are; the first so many entries of `order` name them, rising.
     size_t tiles(uint32_t side) const { return size_t((w + side - 1) / side) * ((h + side - 1) / side); }
 
 public:
@@ -42,7 +42,7 @@ public:
     uint32_t rule() override {
         const uint32_t *t = times_.data();
         uint32_t sum = 0;
-        for (size_t c = w + 1; c + w + 1 < n; c++)
+        for (size_t c = w; c + w < n; c++)
             sum += murgolab_local_rule(b.slow[c], t[c - 1], t[c + 1], t[c - w], t[c + w]).count;
         return sum;
     }

@@ -13,7 +13,7 @@ check_runs() { # RUNS
     esac
 }
 
-cpp() { # WORDS
+compile() { # WORDS
     g++ -O3 -std=c++17 -Wall -Wextra "$@"
 }
 
@@ -21,13 +21,18 @@ cpp() { # WORDS
 # objects of two commits link into one program.
 library() { # NAME TREE CALLS
     local object=target/bench/$1.o
-    cpp -I "$2/include" -I bench -D LEND="$1" -D CALLS="\"$PWD/$3\"" -c bench/adapter.cpp -o "$object.part"
+    compile -I "$2/include" -I bench -D LEND="$1" -D CALLS="\"$PWD/$3\"" -c bench/adapter.cpp -o "$object.part"
     ld -r --force-group-allocation "$object.part" "$2/target/staticlib/libmurgolab.a" -o "$object"
     objcopy --keep-global-symbol="$1" "$object"
 }
 
-this_tree() {
+# What rt says is shown only where it fails.
+archive() { # TREE
     mkdir -p target/bench
-    rt staticlib murgolab >/dev/null
+    (cd "$1" && rt staticlib murgolab) >target/bench/rt.log 2>&1 || { cat target/bench/rt.log >&2; exit 1; }
+}
+
+this_tree() {
+    archive .
     library this_tree . bench/calls.hpp
 }

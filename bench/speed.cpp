@@ -45,7 +45,7 @@ int main(int, char **argv) {
         for (size_t m = 1; m < calls; m++) std::printf(" %9.2f", ratio(took[i][m], march));
         std::printf("\n");
     }
-    std::printf("local rule on b: %.1f ns a call\n\n", 1000 * median(rule) / (65536 - 2 * 257));
+    std::printf("local rule on b: %.1f ns a call\n\n", 1000 * median(rule) / (254 * 256));
 
     std::printf("far corner later than in real numbers; 256 x 256 cells of one slowness, start cell 0 at 0\n");
     std::printf("%-20s %12s\n", "slowness", "by (%)");
