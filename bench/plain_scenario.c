@@ -26,7 +26,8 @@ typedef struct {
 } parts;
 
 static parts parts_of(const uint8_t *file) {
-    parts f = {two(file), two(file + 2), two(file + 4), two(file + 6), four(file + 8), four(file + 12), 0, file + HEAD, NULL};
+    parts f = {two(file), two(file + 2), two(file + 4), two(file + 6), four(file + 8), four(file + 12), 0, file + HEAD,
+        NULL};
     f.size = f.width * f.height;
     f.starts = f.runs + RUN * (size_t)f.run_count;
     return f;
@@ -109,7 +110,8 @@ murgolab_scenario plain_read_scenario(const uint8_t *file, size_t file_len, uint
     const uint32_t number = file_refusal(file, file_len);
     if (number) return (murgolab_scenario){number, 0, 0, 0, 0, 0};
     const parts f = parts_of(file);
-    if (slow_len < f.size || cells_len < f.start_count || begins_len < f.start_count) return (murgolab_scenario){14, 0, 0, 0, 0, 0};
+    if (slow_len < f.size || cells_len < f.start_count || begins_len < f.start_count)
+        return (murgolab_scenario){14, 0, 0, 0, 0, 0};
     read_slow(&f, slow);
     for (uint32_t i = 0; i < f.start_count; i++) {
         cells[i] = four(f.starts + START * (size_t)i);
@@ -124,7 +126,8 @@ static bool any_above(const uint32_t *list, size_t length, uint32_t most) {
     return false;
 }
 
-static uint32_t starts_refusal(const uint32_t *slow, size_t size, const uint32_t *cells, const uint32_t *begins, size_t count) {
+static uint32_t starts_refusal(const uint32_t *slow, size_t size, const uint32_t *cells, const uint32_t *begins,
+    size_t count) {
     uint64_t least = 0;
     for (size_t i = 0; i < count; i++) {
         if (cells[i] < least || cells[i] >= size) return 7;

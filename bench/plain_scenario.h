@@ -1,4 +1,4 @@
-/* The yardstick for scenario files: a plain reader and writer in C that take, answer and refuse what the library does. */
+/* The yardstick for scenario files: a plain reader and writer in C that take, answer and refuse as the library does. */
 #ifndef PLAIN_SCENARIO_H
 #define PLAIN_SCENARIO_H
 

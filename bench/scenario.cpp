@@ -1,59 +1,42 @@
-// Reading and writing the longest scenario file beside the plain reader and writer: medians of interleaved runs. First both must give
-// the same on that file and on damaged ones, so that the same work is timed.
-#include "measure.hpp"
+// Reading and writing the longest scenario file beside the plain reader and writer: medians of interleaved runs. First
+// both must give the same on that file and on damaged ones, so that the same work is timed.
+#include "adapter.hpp"
 #include "plain_scenario.h"
-#include <cstdio>
-#include <cstdlib>
 #include <functional>
-#include <numeric>
 #include <set>
 #include <tuple>
 
 namespace {
 
+using List = std::vector<uint32_t>;
+
 struct Scenario {
     uint32_t width, height, ticks, ground;
-    std::vector<uint32_t> slow, cells, begins;
+    List slow, cells, begins;
 };
 
 using Bytes = std::vector<uint8_t>;
 const auto both_readers = {murgolab_read_scenario_plain, plain_read_scenario};
 const auto both_writers = {murgolab_write_scenario_plain, plain_write_scenario};
 
-// A run and a start to each cell: neighbours differ, and none is ground.
-Scenario longest() {
-    Scenario s{256, 256, 10, 4095, {}, std::vector<uint32_t>(65536), {}};
-    std::iota(s.cells.begin(), s.cells.end(), 0u);
-    for (uint32_t c = 0; c < 65536; c++) {
-        s.slow.push_back(1 + c % 4094);
-        s.begins.push_back(c * 40503u % 1000001);
-    }
-    return s;
-}
-
 murgolab_scenario read(decltype(&plain_read_scenario) reader, const Bytes &file, Scenario &into) {
-    return reader(file.data(), file.size(), into.slow.data(), into.slow.size(), into.cells.data(), into.cells.size(), into.begins.data(),
-        into.begins.size());
+    return reader(file.data(), file.size(), into.slow.data(), into.slow.size(), into.cells.data(), into.cells.size(),
+        into.begins.data(), into.begins.size());
 }
 
 murgolab_reply write(decltype(&plain_write_scenario) writer, const Scenario &s, Bytes &out) {
-    return writer(s.width, s.height, s.ticks, s.ground, s.slow.data(), s.slow.size(), s.cells.data(), s.cells.size(), s.begins.data(),
-        s.begins.size(), out.data(), out.size());
-}
-
-void demand(bool holds, const char *what) {
-    if (holds) return;
-    std::fprintf(stderr, "scenario: %s\n", what);
-    std::exit(1);
+    return writer(s.width, s.height, s.ticks, s.ground, s.slow.data(), s.slow.size(), s.cells.data(), s.cells.size(),
+        s.begins.data(), s.begins.size(), out.data(), out.size());
 }
 
 // The number that both readers give; answers and lists must be the same.
 uint32_t read_alike(const Bytes &file, size_t slow, size_t starts) {
-    std::vector<std::tuple<std::vector<uint32_t>, std::vector<uint32_t>, std::vector<uint32_t>, std::vector<uint32_t>>> seen;
+    std::vector<std::tuple<List, List, List, List>> seen;
     for (auto reader : both_readers) {
-        Scenario into{0, 0, 0, 0, std::vector<uint32_t>(slow, 7), std::vector<uint32_t>(starts, 8), std::vector<uint32_t>(starts, 9)};
+        Scenario into{0, 0, 0, 0, List(slow, 7), List(starts, 8), List(starts, 9)};
         auto a = read(reader, file, into);
-        seen.push_back({{a.number, a.width, a.height, a.ticks, a.ground, a.starts}, into.slow, into.cells, into.begins});
+        List answers{a.number, a.width, a.height, a.ticks, a.ground, a.starts};
+        seen.push_back({answers, into.slow, into.cells, into.begins});
     }
     demand(seen[0] == seen[1], "the readers differ");
     return std::get<0>(seen[0])[0];
@@ -74,8 +57,8 @@ uint32_t write_alike(const Scenario &s, size_t length) {
 // Every refusal of the reader, at the end of the file where it can be.
 void check_readers(const Bytes &file) {
     const size_t n = 65536, runs_end = 16 + 10 * n, end = file.size();
-    std::set<uint32_t> given = {read_alike(file, n, n), read_alike(file, n + 1, n + 1), read_alike(file, n - 1, n), read_alike(file, n, n - 1)};
-    given.insert(read_alike(Bytes(file.begin(), file.end() - 1), n, n));
+    std::set<uint32_t> given = {read_alike(file, n, n), read_alike(file, n + 1, n + 1), read_alike(file, n - 1, n),
+        read_alike(file, n, n - 1), read_alike(Bytes(file.begin(), file.end() - 1), n, n)};
     const std::pair<size_t, uint8_t> changes[] = {
         {2, 1},             // height 257
         {3, 0},             // height 0
@@ -116,24 +99,26 @@ void check_writers(const Scenario &s, size_t length) {
 
 } // namespace
 
-int main(int argc, char **argv) {
-    const int runs = argc > 1 ? std::atoi(argv[1]) : 21;
-    const Scenario s = longest();
+int main(int, char **argv) {
+    const int runs = std::atoi(argv[1]);
+    const yardstick::Board b = longest();
+    const Scenario s{256, 256, ticks, ground, b.slow, b.cells, b.begins};
     Bytes file(16 + 18 * 65536);
     demand(write(plain_write_scenario, s, file).count == file.size(), "that is not the longest file");
     check_readers(file);
     check_writers(s, file.size());
 
     Scenario into = s;
-    std::vector<double> reads[2], writes[2];
+    Took reads[2], writes[2];
+    const auto accepted = [](auto reply) { demand(reply.number == 0, "a file was refused"); };
     for (int k = 0; k < runs; k++) {
         auto took = reads;
-        for (auto reader : both_readers) (took++)->push_back(micros([&] { demand(read(reader, file, into).number == 0, "refused"); }));
+        for (auto reader : both_readers) (took++)->push_back(micros([&] { accepted(read(reader, file, into)); }));
         took = writes;
-        for (auto writer : both_writers) (took++)->push_back(micros([&] { demand(write(writer, s, file).number == 0, "refused"); }));
+        for (auto writer : both_writers) (took++)->push_back(micros([&] { accepted(write(writer, s, file)); }));
     }
     std::printf("%d interleaved runs, medians; the longest scenario file, %zu bytes\n", runs, file.size());
     std::printf("%-20s %12s %15s %15s\n", "call", "library (us)", "plain C (us)", "over plain C");
     for (auto &[name, took] : {std::pair{"read", reads}, {"write", writes}})
-        std::printf("%-20s %12.0f %15.0f %15.2f\n", name, median(took[0]), median(took[1]), median(took[0]) / median(took[1]));
+        std::printf("%-20s %12.0f %15.0f %15.2f\n", name, median(took[0]), median(took[1]), ratio(took[0], took[1]));
 }

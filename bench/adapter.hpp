@@ -1,0 +1,49 @@
+// What the bench asks of a commit's library. How its calls take the bench's board stands in that commit's calls.hpp.
+#pragma once
+#include "measure.hpp"
+#include "yardstick.hpp"
+
+constexpr uint32_t horizon = 300000000, ticks = 10, ground = 4095;
+
+// A board lent to a commit's calls, with lists of its own; tiles are squares of the given side. A call of a later
+// commit is added with a body that says that it is not there, so that older adapters still fit.
+struct Lent {
+    virtual ~Lent() = default;
+    virtual uint32_t march() = 0;                                // the cells reached
+    virtual uint32_t round(uint32_t side) = 0;                   // to the horizon: the entries altered
+    virtual uint32_t run(uint32_t side, uint32_t stride) = 0;    // the rounds
+    virtual uint32_t rule() = 0;                                 // in all rows but the outer two: the answers' sum
+    virtual void write() = 0;                                    // the board's scenario file
+    virtual uint32_t read() = 0;                                 // the file that was written last: its starts
+    virtual uint32_t tablet(uint32_t side, uint32_t stride) = 0; // over that file: the rounds
+    virtual const std::vector<uint32_t> &times() const = 0;
+};
+
+// adapter.cpp, compiled with a commit's calls.hpp and header. The board must outlive what is lent.
+using Lend = Lent *(const yardstick::Board &);
+extern "C" Lend this_tree, other_commit;
+
+// The calls that are measured on each board; 65,536 is the stride of `rings`.
+struct Row {
+    const char *name;
+    uint32_t (*play)(Lent &);
+};
+constexpr Row rows[] = {
+    {"march", [](Lent &l) { return l.march(); }},
+    {"one tile", [](Lent &l) { return l.run(256, 65536); }},
+    {"8x8", [](Lent &l) { return l.run(8, 65536); }},
+    {"8x8 by 1", [](Lent &l) { return l.run(8, 1); }},
+    {"1x1", [](Lent &l) { return l.run(1, 65536); }},
+    {"round", [](Lent &l) { return l.round(8); }},
+};
+
+// The board of the longest scenario file: a run and a start to each cell, as neighbours differ and none is ground.
+inline yardstick::Board longest() {
+    yardstick::Board b{"longest file", 256, 256, {}, {}, {}};
+    for (uint32_t c = 0; c < 65536; c++) {
+        b.slow.push_back(1 + c % 4094);
+        b.cells.push_back(c);
+        b.begins.push_back(c * 40503u % 1000001);
+    }
+    return b;
+}

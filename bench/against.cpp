@@ -1,0 +1,54 @@
+// This tree and another commit in one interleaved run: each row is timed on both, one directly after the other and each
+// of them first by turns. Both must give the same answers and the same times.
+#include "adapter.hpp"
+#include <deque>
+#include <memory>
+
+namespace {
+
+// A board lent to both.
+struct Both {
+    const yardstick::Board board;
+    const std::unique_ptr<Lent> lent[2];
+
+    explicit Both(const yardstick::Board &b)
+        : board(b), lent{std::unique_ptr<Lent>(this_tree(board)), std::unique_ptr<Lent>(other_commit(board))} {}
+};
+
+struct Line {
+    const Both &on;
+    const Row row;
+    Took took[2];
+};
+
+} // namespace
+
+int main(int, char **argv) {
+    const int runs = std::atoi(argv[1]);
+    std::deque<Both> boards;
+    std::deque<Line> lines;
+    for (const auto &b : yardstick::boards()) {
+        boards.emplace_back(b);
+        for (const Row &row : rows) lines.push_back({boards.back(), row, {}});
+    }
+    lines.push_back({boards[1], {"local rule", [](Lent &l) { return l.rule(); }}, {}});
+    boards.emplace_back(longest());
+    lines.push_back({boards.back(), {"write", [](Lent &l) { return l.write(), 0u; }}, {}});
+    lines.push_back({boards.back(), {"read", [](Lent &l) { return l.read(); }}, {}});
+
+    for (int k = 0; k < runs; k++)
+        for (Line &line : lines) {
+            uint32_t answers[2];
+            for (int i : {k % 2, 1 - k % 2})
+                line.took[i].push_back(micros([&] { answers[i] = line.row.play(*line.on.lent[i]); }));
+            demand(answers[0] == answers[1], "the two commits answer differently");
+        }
+    for (const Both &b : boards)
+        demand(b.lent[0]->times() == b.lent[1]->times(), "the two commits name different times");
+
+    std::printf("%d interleaved runs, medians; 256 x 256 cells, horizon %u\n", runs, horizon);
+    std::printf("%-20s %-10s %14s %14s %8s\n", "board", "call", "this tree (us)", argv[2], "ratio");
+    for (const auto &[on, row, took] : lines)
+        std::printf("%-20s %-10s %14.0f %14.0f %8.2f\n", on.board.name, row.name, median(took[0]), median(took[1]),
+            ratio(took[0], took[1]));
+}

@@ -1,0 +1,67 @@
+// The bench's board as the calls of this commit take it. Both includes are found by -I: murgolab.h is this commit's,
+// adapter.hpp is of the tree that measures.
+#include <adapter.hpp>
+#include <murgolab.h>
+#include <numeric>
+
+namespace {
+
+class Calls final : public Lent {
+    const yardstick::Board &b;
+    const uint32_t w = b.width, h = b.height;
+    const size_t n = b.slow.size(), starts = b.cells.size();
+    std::vector<uint32_t> order, times_, work, filled;
+    std::vector<uint8_t> file, out;
+    size_t written = 0;
+
+    static uint32_t accepted(murgolab_reply r) {
+        demand(r.number == 0, "a call was refused");
+        return r.count;
+    }
+    // How many tiles there are; the first so many entries of `order` name them, rising.
+    size_t tiles(uint32_t side) const { return size_t((w + side - 1) / side) * ((h + side - 1) / side); }
+
+public:
+    explicit Calls(const yardstick::Board &board)
+        : b(board), order(n), times_(n), work(4 * n), filled(3 * n), file(16 + 18 * n), out(4 * n) {
+        std::iota(order.begin(), order.end(), 0u);
+    }
+
+    uint32_t march() override {
+        return accepted(murgolab_march_plain(w, h, b.slow.data(), n, b.cells.data(), starts, b.begins.data(), starts,
+            horizon, times_.data(), n, work.data(), 4 * n));
+    }
+    uint32_t round(uint32_t side) override {
+        return accepted(murgolab_one_round_plain(w, h, b.slow.data(), n, b.cells.data(), starts, b.begins.data(),
+            starts, side, side, horizon, order.data(), tiles(side), times_.data(), n, work.data(), 4 * n));
+    }
+    uint32_t run(uint32_t side, uint32_t stride) override {
+        return accepted(murgolab_tile_run_plain(w, h, b.slow.data(), n, b.cells.data(), starts, b.begins.data(), starts,
+            side, side, stride, horizon, order.data(), tiles(side), times_.data(), n, work.data(), 4 * n));
+    }
+    uint32_t rule() override {
+        const uint32_t *t = times_.data();
+        uint32_t sum = 0;
+        for (size_t c = w; c + w < n; c++)
+            sum += murgolab_local_rule(b.slow[c], t[c - 1], t[c + 1], t[c - w], t[c + w]).count;
+        return sum;
+    }
+    void write() override {
+        written = accepted(murgolab_write_scenario_plain(w, h, ticks, ground, b.slow.data(), n, b.cells.data(), starts,
+            b.begins.data(), starts, file.data(), file.size()));
+    }
+    uint32_t read() override {
+        const auto r = murgolab_read_scenario_plain(file.data(), written, filled.data(), n, filled.data() + n, n,
+            filled.data() + 2 * n, n);
+        demand(r.number == 0, "a file was refused");
+        return r.starts;
+    }
+    uint32_t tablet(uint32_t side, uint32_t stride) override {
+        const uint64_t r = murgolab_tablet_run(file.data(), written, stride, side, side, out.data(), out.size());
+        demand(r >= 256, "a tablet's call was refused");
+        return r / 256;
+    }
+    const std::vector<uint32_t> &times() const override { return times_; }
+};
+
+} // namespace
