@@ -45,6 +45,16 @@ fn lesser(a: u32, b: u32) -> u32
     if a < b { a } else { b }
 }
 
+fn at_most(rounds: u32, limit: u64) -> u32
+    ensures { λ r. ⌜ r ≡ min rounds limit ⌝ }
+{
+    if limit < rounds as u64 {
+        limit as u32
+    } else {
+        rounds
+    }
+}
+
 // How many rounds may be taken for done: those whose bound is below the least key and the horizon alter nothing.
 fn leap(least: u32, done: u32, stride: u32, horizon: u32) -> u32
     requires { ⌜ 1 ≤ stride ⌝ }
@@ -92,14 +102,14 @@ pub fn run(
     shape: Shape,
     stride: u32,
     horizon: u32,
-    limit: u32,
+    limit: u64,
 ) -> u32
     requires { ⌜ Ground shape (now slow) (now times) (now cols) (now rows) × Amid shape (now slow) stride horizon 0 (now times) (now work) × (1 ≤ stride) × (stride ≤ largest) × (horizon ≤ largest) ⌝ }
     ensures { λ r. ⌜ Runs shape (now (slow .entry)) stride horizon limit r (now (times .entry)) (now (times .exit)) (now (work .entry)) (now (work .exit)) ⌝ }
 {
     let n = shape.cells;
     let mut done = 0;
-    while done < limit {
+    while (done as u64) < limit {
         let m = round(slow, times, work, cols, rows, shape, done, stride, horizon);
         done += 1;
         if m == 0 {
@@ -107,7 +117,7 @@ pub fn run(
                 return done;
             }
         }
-        done = lesser(leap(least_key(work, n), done, stride, horizon), limit);
+        done = at_most(leap(least_key(work, n), done, stride, horizon), limit);
     }
     done
 }

@@ -34,6 +34,9 @@ loop-holds c =
     let a = p .args in
     (omega arith, λ xs good at. run-begins (a .shape) (a .slow .now) xs good (a .stride) (a .horizon) (p .pre .2) (p .pre .3) (p .pre .4) at)
 
+cast-loop : tie.Need-cast-loop Inv-loop μ-loop
+cast-loop c = search needs
+
 round-requires : tie.Need-round-requires Inv-loop μ-loop
 round-requires c κs =
     let p = c .before .before .before .before .before .before .before in
@@ -104,8 +107,8 @@ least-key-requires c κs =
 leap-requires : tie.Need-leap-requires Inv-loop μ-loop
 leap-requires c κs = c .before .before .before .before .before .before .before .before .before .before .before .before .before .before .before .pre .2
 
-lesser-requires : tie.Need-lesser-requires Inv-loop μ-loop
-lesser-requires c κs = search needs
+at-most-requires : tie.Need-at-most-requires Inv-loop μ-loop
+at-most-requires c κs = search needs
 
 loop-again : tie.Need-loop-again Inv-loop μ-loop
 loop-again c =
@@ -113,7 +116,7 @@ loop-again c =
     let a = p .args in
     let turn = c .before .before .before .before .before .before .before .before .before .before .before .before .before .loop in
     let test = c .before .before .before .before .before .before .before .before .before .before .before .before .loop-test in (
-      omega (arith, c .lesser .ensures),
+      omega (arith, c .at-most .ensures),
       λ xs good at.
           let md = turn .inv .1 xs good at in
           let one = c .before .before .before .before .before .before .before .before .before .round .ensures xs good (md .at) in
@@ -122,8 +125,8 @@ loop-again c =
           (leap-short
           (subst (λ u. Leapt (c .before .before .least-key .result) u (a .stride) (a .horizon) (c .before .leap .result)) (add-one (turn .done))
           (c .before .leap .ensures))
-          (omega (arith, turn .inv .0, test, c .before .leap .ensures .up, c .lesser .ensures))
-          (omega (arith, c .lesser .ensures)))
+          (omega (arith, turn .inv .0, test, c .before .leap .ensures .up, c .at-most .ensures))
+          (omega (arith, c .at-most .ensures)))
           (⊎-elim
           (λ w. run-early (a .shape) (a .slow .now) xs good (a .stride) (a .horizon) (p .pre .2) (p .pre .3) (p .pre .4) md one
           (subst (λ u. leb (a .horizon) (u * a .stride) ≡ false) (add-one (turn .done)) (sym (w .1 .ensures) ∙ w .2 .left)))
@@ -138,7 +141,7 @@ loop-less c =
       c .before .before .before .before .before .before .before .before .before .before .before .before .before .loop .inv .0,
       c .before .before .before .before .before .before .before .before .before .before .before .before .loop-test,
       c .before .leap .ensures .up,
-      c .lesser .ensures,
+      c .at-most .ensures,
     )
 
 same-length-3 : tie.Need-same-length-3 Inv-loop μ-loop
@@ -165,6 +168,7 @@ run-spec =
     Inv-loop
     μ-loop
     loop-holds
+    cast-loop
     round-requires
     add-done
     at-horizon-requires
@@ -173,7 +177,7 @@ run-spec =
     returns
     least-key-requires
     leap-requires
-    lesser-requires
+    at-most-requires
     loop-less
     loop-again
     same-length-3
