@@ -1,4 +1,5 @@
 -- `scenario::turn` meets its contract. Assumes nothing.
+use native.Mathlib.Omega.{arith}
 use lib.Dec.{leb}
 use borrow.Author.Needs.{needs}
 use borrow.Author.Tests.{lt-ltb, le-ltb, leb-true}
@@ -24,7 +25,7 @@ returns-2 : tie.Need-returns-2
 unfolding Turn-says turn-refusal turn-of answered answer
 returns-2 c =
     let t = c .before .before .before .args .time in
-    rw (holds (c .before .before .ticks-good .ensures) (c .before .if1 .left), lt-ltb 300000000 t (c .if2 .taken))
+    rw (holds (c .before .before .ticks-good .ensures) (c .before .if1 .left), lt-ltb 300000000 t (omega arith))
 
 div-t5 : tie.Need-div-t5
 unfolding ticks-good
@@ -36,7 +37,7 @@ returns-3 : tie.Need-returns-3
 unfolding Turn-says turn-refusal turn-of answered answer
 returns-3 c =
     let t = c .before .before .before .args .time in
-    rw (holds (c .before .before .ticks-good .ensures) (c .before .if1 .left), le-ltb 300000000 t (c .if2 .left))
+    rw (holds (c .before .before .ticks-good .ensures) (c .before .if1 .left), le-ltb 300000000 t (omega arith))
 
 pub turn-spec : {M : Type 1} → statement M
 turn-spec = tie.close (tie.spec ticks-good-requires refused-requires returns returns-2 div-t5 returns-3)

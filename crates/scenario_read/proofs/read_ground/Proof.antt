@@ -1,4 +1,5 @@
 -- `scenario_read::read_ground` meets its contract. Assumes nothing.
+use native.Mathlib.Omega.{arith}
 use lib.ListN.{length}
 use borrow.Author.Needs.{needs}
 use Rattle.scenario.proofs.Answers.{kept}
@@ -12,13 +13,13 @@ judge-scenario-requires c κs = search needs
 returns : tie.Need-returns
 returns c =
     let j = c .before .before in
-    (j .judge-scenario .ensures, kept (j .judge-scenario .result .number) _ (j .before .before .before .args .slow .now) (c .if1 .taken))
+    (j .judge-scenario .ensures, kept (j .judge-scenario .result .number) _ (j .before .before .before .args .slow .now) (λ e. omega arith))
 
 fill-slow-requires : tie.Need-fill-slow-requires
 fill-slow-requires c κs =
     let j = c .before .before .before in
     let a = j .before .before .before .args in
-    let r = room (a .file .now) (length (a .slow .now)) (a .starts) (j .judge-scenario .result) (j .judge-scenario .ensures) (c .before .if1 .left) in
+    let r = room (a .file .now) (length (a .slow .now)) (a .starts) (j .judge-scenario .result) (j .judge-scenario .ensures) (omega arith) in
     (r .accepted, r .slows)
 
 same-length : tie.Need-same-length

@@ -5,6 +5,7 @@ use Rattle.eikonal.specs.Board.{largest}
 use Rattle.eikonal.specs.Ledger.{answer}
 use Rattle.front.specs.declared.Shape.{Shape}
 use Rattle.engine.specs.Calls.{Seated, Marches}
+use native.Mathlib.Omega.{arith}
 use borrow.Author.Needs.{needs}
 use Rattle.record_marches.proofs.begun.march_begun.Statement.{statement}
 use Rattle.record_marches.proofs.begun.march_begun.Tie as tie
@@ -18,14 +19,15 @@ returns c = record { turned-down = λ d. (c .refused .ensures, refl, refl); gone
 shape-of-requires : tie.Need-shape-of-requires
 shape-of-requires c κs =
     let r = c .before .before .before .before .pre (c .if1 .left) in
-    (r .0, r .1)
+    (omega (arith, r .0, r .1), omega (arith, r .0, r .1))
 
 march-requires : tie.Need-march-requires
 march-requires c κs =
     let p = c .before .before .before .before .before .before .before in
     let a = p .args in
     let r = p .pre (c .before .before .before .if1 .left) in
-    subst (λ (s : Shape). (Seated s (a .slow .now) (a .times .now) (a .work .now)) × (s .width ≤ s .across) × (s .height ≤ s .down) × (a .horizon ≤ largest)) (sym (c .before .before .shape-of .ensures)) (r .2, r .0, r .1, r .3)
+    let fit = subst (λ (s : Shape). (Seated s (a .slow .now) (a .times .now) (a .work .now)) × (s .width ≤ s .across) × (s .height ≤ s .down)) (sym (c .before .before .shape-of .ensures)) (r .2, r .0, r .1) in
+    (fit .0, fit .1, fit .2, omega (arith, r .3))
 
 same-length : tie.Need-same-length
 same-length c = search needs

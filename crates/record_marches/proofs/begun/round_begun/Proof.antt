@@ -9,6 +9,7 @@ use Rattle.front.specs.Board.{land}
 use Rattle.eikonal.specs.Ledger.{answer}
 use Rattle.front.specs.declared.Shape.{Shape}
 use Rattle.engine.specs.Calls.{Seated, Goes-round}
+use native.Mathlib.Omega.{arith}
 use borrow.Author.Needs.{needs}
 use Rattle.record_marches.proofs.begun.round_begun.Statement.{statement}
 use Rattle.record_marches.proofs.begun.round_begun.Tie as tie
@@ -22,14 +23,15 @@ returns c = record { turned-down = λ d. (c .refused .ensures, refl, refl); gone
 shape-of-requires : tie.Need-shape-of-requires
 shape-of-requires c κs =
     let r = c .before .before .before .before .before .pre (c .if1 .left) in
-    (r .0, r .1)
+    (omega (arith, r .0, r .1), omega (arith, r .0, r .1))
 
 one-round-requires : tie.Need-one-round-requires
 one-round-requires c κs =
     let p = c .before .before .before .before .before .before .before .before in
     let a = p .args in
     let r = p .pre (c .before .before .before .if1 .left) in
-    subst (λ (s : Shape). (Seated s (a .slow .now) (a .times .now) (a .work .now)) × (a .bound ≤ largest) × (order-good (land s []) (s .across) (s .down) (a .order .now) ≡ true)) (sym (c .before .before .shape-of .ensures)) (r .2, r .3, r .4)
+    let fit = subst (λ (s : Shape). (Seated s (a .slow .now) (a .times .now) (a .work .now)) × (order-good (land s []) (s .across) (s .down) (a .order .now) ≡ true)) (sym (c .before .before .shape-of .ensures)) (r .2, r .4) in
+    (fit .0, omega (arith, r .3), fit .1)
 
 same-length : tie.Need-same-length
 same-length c = search needs

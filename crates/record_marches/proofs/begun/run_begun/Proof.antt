@@ -5,6 +5,7 @@ use Rattle.eikonal.specs.Board.{largest}
 use Rattle.eikonal.specs.Ledger.{answer}
 use Rattle.front.specs.declared.Shape.{Shape}
 use Rattle.engine.specs.Calls.{Seated, Runs-through}
+use native.Mathlib.Omega.{arith}
 use borrow.Author.Needs.{needs}
 use Rattle.record_marches.proofs.begun.run_begun.Statement.{statement}
 use Rattle.record_marches.proofs.begun.run_begun.Tie as tie
@@ -18,14 +19,15 @@ returns c = record { turned-down = λ d. (c .refused .ensures, refl, refl); gone
 shape-of-requires : tie.Need-shape-of-requires
 shape-of-requires c κs =
     let r = c .before .before .before .before .pre (c .if1 .left) in
-    (r .0, r .1)
+    (omega (arith, r .0, r .1), omega (arith, r .0, r .1))
 
 tile-run-requires : tie.Need-tile-run-requires
 tile-run-requires c κs =
     let p = c .before .before .before .before .before .before .before in
     let a = p .args in
     let r = p .pre (c .before .before .before .if1 .left) in
-    subst (λ (s : Shape). (Seated s (a .slow .now) (a .times .now) (a .work .now)) × (1 ≤ a .stride) × (a .stride ≤ largest) × (a .horizon ≤ largest)) (sym (c .before .before .shape-of .ensures)) (r .2, r .3, r .4, r .5)
+    let fit = subst (λ (s : Shape). Seated s (a .slow .now) (a .times .now) (a .work .now)) (sym (c .before .before .shape-of .ensures)) (r .2) in
+    (fit, omega (arith, r .3), omega (arith, r .4), omega (arith, r .5))
 
 same-length : tie.Need-same-length
 same-length c = search needs

@@ -1,5 +1,5 @@
 -- `record_marches::seed::seed_part` meets its contract. Assumes nothing.
-use mathlib.Core.Path.{_≡_, sym, subst, _∙_}
+use mathlib.Core.Path.{sym}
 use Prim.Native.Nat.{ℕ, _<_}
 use native.Mathlib.Omega.{arith}
 use lib.ListN.{length, getD, take}
@@ -24,11 +24,12 @@ seed-requires : tie.Need-seed-requires
 seed-requires c κs =
     let p = c .before .before .before .before .before .before in
     let k = p .args .part .count in
-    let long = length-take-le k (p .args .part .cells) (p .pre .1) in (
+    let long = length-take-le k (p .args .part .cells) (p .pre .1) in
+    let paired = length-take-le k (p .args .part .begins) (p .pre .2) in (
       p .pre .0,
-      long ∙ sym (length-take-le k (p .args .part .begins) (p .pre .2)),
+      omega (arith, long, paired),
       p .pre .3,
-      λ i l. let l′ : i < k = omega (arith, l, long) in rw (getD-take k (p .args .part .cells) i 0 l′) (p .pre .4 i l′),
+      λ i l. let l′ : i < k = omega (arith, l, long, paired) in omega (arith, getD-take k (p .args .part .cells) i 0 l′, p .pre .4 i l′),
     )
 
 same-length : tie.Need-same-length

@@ -17,7 +17,7 @@ mul-result c =
     omega (arith, a .pre (c .before .if1 .left), a .good .0)
 
 sub-result : tie.Need-sub-result
-sub-result c = c .before .before .before .pre (c .before .if1 .left)
+sub-result c = omega (arith, c .before .before .before .pre (c .before .if1 .left))
 
 returns-2 : tie.Need-returns-2
 returns-2 c = rw (eq-eqb (c .before .before .before .args .reply .number) 0 (c .before .if1 .left))
