@@ -1,4 +1,5 @@
--- A round over tiles solves a board that is seen in part as stored, and rounds come to the march: Round-is-solution, Run-is-march, Rounds-least, Few-rounds. Assumes nothing.
+-- A round over tiles solves a board that is seen in part as stored, and rounds come to the march: Round-is-solution, Run-is-march, Rounds-least and
+-- Few-rounds. Assumes nothing.
 use mathlib.Core.Path.{_≡_, refl, sym, ap, _∙_}
 use mathlib.Core.Bool.{Bool, true, false, cond, true≢false}
 use mathlib.Core.List.{List}

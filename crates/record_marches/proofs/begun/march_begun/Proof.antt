@@ -1,7 +1,6 @@
 -- `record_marches::begun::march_begun` meets its contract. Assumes nothing.
 use mathlib.Core.Path.{_≡_, refl, sym, subst}
 use Prim.Native.Nat.{_≤_}
-use Rattle.eikonal.specs.Board.{largest}
 use Rattle.eikonal.specs.Ledger.{answer}
 use Rattle.front.specs.declared.Shape.{Shape}
 use Rattle.engine.specs.Calls.{Seated, Marches}
@@ -26,8 +25,12 @@ march-requires c κs =
     let p = c .before .before .before .before .before .before .before in
     let a = p .args in
     let r = p .pre (c .before .before .before .if1 .left) in
-    let fit = subst (λ (s : Shape). (Seated s (a .slow .now) (a .times .now) (a .work .now)) × (s .width ≤ s .across) × (s .height ≤ s .down)) (sym (c .before .before .shape-of .ensures)) (r .2, r .0, r .1) in
-    (fit .0, fit .1, fit .2, omega (arith, r .3))
+    let e = sym (c .before .before .shape-of .ensures) in (
+      subst (λ (s : Shape). Seated s (a .slow .now) (a .times .now) (a .work .now)) e (r .2),
+      subst (λ (s : Shape). s .width ≤ s .across) e (r .0),
+      subst (λ (s : Shape). s .height ≤ s .down) e (r .1),
+      omega (arith, r .3),
+    )
 
 same-length : tie.Need-same-length
 same-length c = search needs

@@ -2,8 +2,6 @@
 use mathlib.Core.Path.{_≡_, refl, sym, subst}
 use mathlib.Core.Bool.{true}
 use mathlib.Core.List.{[]}
-use Prim.Native.Nat.{_≤_}
-use Rattle.eikonal.specs.Board.{largest}
 use Rattle.eikonal.specs.Refusals.{order-good}
 use Rattle.front.specs.Board.{land}
 use Rattle.eikonal.specs.Ledger.{answer}
@@ -30,8 +28,11 @@ one-round-requires c κs =
     let p = c .before .before .before .before .before .before .before .before in
     let a = p .args in
     let r = p .pre (c .before .before .before .if1 .left) in
-    let fit = subst (λ (s : Shape). (Seated s (a .slow .now) (a .times .now) (a .work .now)) × (order-good (land s []) (s .across) (s .down) (a .order .now) ≡ true)) (sym (c .before .before .shape-of .ensures)) (r .2, r .4) in
-    (fit .0, omega (arith, r .3), fit .1)
+    let e = sym (c .before .before .shape-of .ensures) in (
+      subst (λ (s : Shape). Seated s (a .slow .now) (a .times .now) (a .work .now)) e (r .2),
+      omega (arith, r .3),
+      subst (λ (s : Shape). order-good (land s []) (s .across) (s .down) (a .order .now) ≡ true) e (r .4),
+    )
 
 same-length : tie.Need-same-length
 same-length c = search needs

@@ -1,7 +1,5 @@
 -- `record_marches::begun::run_begun` meets its contract. Assumes nothing.
 use mathlib.Core.Path.{_≡_, refl, sym, subst}
-use Prim.Native.Nat.{_≤_}
-use Rattle.eikonal.specs.Board.{largest}
 use Rattle.eikonal.specs.Ledger.{answer}
 use Rattle.front.specs.declared.Shape.{Shape}
 use Rattle.engine.specs.Calls.{Seated, Runs-through}
@@ -26,8 +24,12 @@ tile-run-requires c κs =
     let p = c .before .before .before .before .before .before .before in
     let a = p .args in
     let r = p .pre (c .before .before .before .if1 .left) in
-    let fit = subst (λ (s : Shape). Seated s (a .slow .now) (a .times .now) (a .work .now)) (sym (c .before .before .shape-of .ensures)) (r .2) in
-    (fit, omega (arith, r .3), omega (arith, r .4), omega (arith, r .5))
+    let e = sym (c .before .before .shape-of .ensures) in (
+      subst (λ (s : Shape). Seated s (a .slow .now) (a .times .now) (a .work .now)) e (r .2),
+      omega (arith, r .3),
+      omega (arith, r .4),
+      omega (arith, r .5),
+    )
 
 same-length : tie.Need-same-length
 same-length c = search needs
