@@ -12,7 +12,7 @@ use borrow.Author.Tests.{le-leb, leb-true, ltb-true}
 use Rattle.eikonal.specs.Board.{square, diagonal}
 use Rattle.eikonal.proofs.Good.{and-true}
 use Rattle.eikonal.proofs.Levels.{order}
-use Rattle.eikonal.proofs.Least.{Least, least, least-bound}
+use Rattle.eikonal.proofs.Least.{least, least-bound}
 
 -- x is the least with 2 x² at least s²: it passes, and x - 1, if there is one, does not
 unfoldable pub right : (s x : ℕ) → Bool

@@ -1,11 +1,11 @@
 -- The local rule over weighted axes: a time passes if the sum of (weight × (time − axis's time))² is at least m².
 -- The weights are w and ws, so that there is one axis at least; f has the axes' times by number. Its laws are proved here once, for any number of axes:
 -- the board's rule has two of weight 1 (Local.antt). Assumes nothing.
-use mathlib.Core.Path.{_≡_, refl, sym, _∙_}
+use mathlib.Core.Path.{_≡_, refl}
 use mathlib.Core.Bool.{Bool, true, false, cond, _||_}
 use mathlib.Core.List.{List, [], _∷_}
 use mathlib.Core.Logic.{_⊎_, inl, inr, _≢_}
-use Prim.Native.Nat.{ℕ, zero, suc, _+_, _*_, _-_, _≤_, _<_, min}
+use Prim.Native.Nat.{ℕ, suc, _+_, _*_, _-_, _≤_, _<_, min}
 use native.Mathlib.Omega.{arith}
 use native.Mathlib.Nat.{mul-le-mul, mul-le-mul-left}
 use lib.Dec.{leb, eqb}

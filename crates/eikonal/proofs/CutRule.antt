@@ -1,18 +1,18 @@
 -- What code cites: times in which every cell meets the rule cut at a bound are the march's, are the round's. Assumes nothing.
-use mathlib.Core.Path.{_≡_, refl, sym, ap, _∙_}
+use mathlib.Core.Path.{_≡_, sym, ap, _∙_}
 use mathlib.Core.List.{List}
 use mathlib.Core.Logic.{_⊎_, inl, inr}
 use Prim.Native.Nat.{ℕ, suc, _≤_, _<_, min}
 use native.Mathlib.Omega.{arith}
 use lib.ListN.{length}
 use lib.Seq.{ext-getD}
-use Rattle.eikonal.specs.Board.{Board, never, largest, size, met, time, solved, cut, marched}
+use Rattle.eikonal.specs.Board.{Board, never, largest, size, met, time, cut, marched}
 use Rattle.eikonal.specs.Tiles.{tiled, solved-in-tiles, round}
 use Rattle.eikonal.specs.Inner.Good.{Good}
 use Rattle.eikonal.specs.Inner.Clip.{clip}
-use Rattle.eikonal.proofs.Levels.{order, lower, Agree, Causal, one-fixed}
+use Rattle.eikonal.proofs.Levels.{order, Agree, Causal, one-fixed}
 use Rattle.eikonal.proofs.Clip.{clip-never, clip-agree, clip-low, clip-same, clip-most, cut-time, cut-length}
-use Rattle.eikonal.proofs.Passes.{Look, Sound, rule, rule-on, rule-off, rule-agree, rule-causal, solved-by, solved-length, solved-fixed, time-off}
+use Rattle.eikonal.proofs.Passes.{Look, Sound, rule, rule-on, rule-off, rule-causal, solved-by, solved-length, solved-fixed, time-off}
 use Rattle.eikonal.proofs.Solution.{plain, plain-sound, solved-plain}
 use Rattle.eikonal.proofs.Ghosts.{tiled-sound}
 

@@ -5,9 +5,9 @@ use mathlib.Core.Logic.{_⊎_, inl, inr, _≢_}
 use Prim.Native.Nat.{ℕ, zero, suc, _+_, _*_, _-_, _/_, _%_, _≤_, _<_, min}
 use native.Mathlib.Omega.{arith}
 use native.Mathlib.Nat.{suc-mod, mod-lt, mod-eq-of-lt, mod-self, zero-mod, div-add-mod', mul-le-mul-right}
-use lib.Dec.{ltb, eqb}
-use borrow.Author.Tests.{eqb-true, eqb-false, ne-eqb, ltb-true, ltb-false}
-use Rattle.eikonal.specs.Board.{Board, never, size, earlier}
+use lib.Dec.{eqb}
+use borrow.Author.Tests.{eqb-false, ne-eqb}
+use Rattle.eikonal.specs.Board.{Board, never, size}
 use Rattle.eikonal.specs.Promise.{Beside, Neighbour}
 use Rattle.eikonal.specs.Inner.Good.{Good}
 use Rattle.eikonal.proofs.Levels.{order}

@@ -1,20 +1,19 @@
 -- The ledger: Order-free, Run-order-free, Run-is-rounds, Every-list and Lists-keep. Assumes nothing.
-use mathlib.Core.Path.{_≡_, refl, sym, ap, ap₂, _∙_}
-use mathlib.Core.Bool.{Bool, true, false, cond}
+use mathlib.Core.Path.{_≡_, refl, sym, ap, _∙_}
+use mathlib.Core.Bool.{true}
 use mathlib.Core.List.{List, [], _∷_, _++_, append-assoc, append-nil}
 use Prim.Native.Nat.{ℕ, zero, suc, _*_, min}
 use native.Mathlib.Omega.{arith}
-use lib.Dec.{eqb}
 use lib.ListN.{length}
 use borrow.Author.Tests.{eq-eqb}
 use Rattle.eikonal.specs.Board.{size, all-never}
 use Rattle.eikonal.specs.Tiles.{round, after-rounds}
 use Rattle.eikonal.specs.Refusals.{Plain, board, order-good, round-refusal, run-refusal, tiles-refusal}
 use Rattle.eikonal.specs.Ledger.{Call, one-round, tile-run, refusal, entered, counted, ledger-answer, ledger-after, ledger, Book, book}
-use Rattle.eikonal.specs.Entry.{Keeps, March-says, Round-says, Run-says}
+use Rattle.eikonal.specs.Entry.{March-says, Round-says, Run-says}
 use Rattle.eikonal.specs.Promise.{Order-free, Run-order-free, Run-is-rounds, single-rounds, Step, by-march, by-run, by-round, Steps, done, then, Every-list, Done, played, Lists-keep}
 use Rattle.eikonal.specs.declared.Reply.{Reply}
-use Rattle.eikonal.proofs.Accepted.{Run-fits, run-fits, round-accepted}
+use Rattle.eikonal.proofs.Accepted.{run-fits, round-accepted}
 use Rattle.eikonal.proofs.Rounds.{after-length}
 
 -- ---- the order serves for number 12 alone

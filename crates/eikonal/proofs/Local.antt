@@ -1,14 +1,13 @@
 -- The local rule of a board: two axes of weight 1. Its laws are those of Axes.antt. Assumes nothing.
-use mathlib.Core.Path.{_≡_, refl, sym, ap, ap₂, _∙_, fun-ext}
+use mathlib.Core.Path.{_≡_, refl, sym, ap₂, _∙_, fun-ext}
 use mathlib.Core.Bool.{Bool, true, false, cond, _||_}
 use mathlib.Core.List.{List, [], _∷_}
-use mathlib.Core.Logic.{_⊎_, inl, inr, _≢_}
+use mathlib.Core.Logic.{_⊎_, _≢_}
 use Prim.Native.Nat.{ℕ, zero, suc, _+_, _*_, _-_, _≤_, _<_, min}
 use native.Mathlib.Omega.{arith}
-use lib.Dec.{ltb, leb, eqb}
+use lib.Dec.{ltb, eqb}
 use borrow.Author.Tests.{ltb-true, ltb-false}
-use Rattle.eikonal.specs.Board.{never, earlier, least-from, square, passes, local}
-use Rattle.eikonal.proofs.Levels.{Agree, Under}
+use Rattle.eikonal.specs.Board.{never, earlier, least-from, passes, local}
 use Rattle.eikonal.proofs.Least.{Least}
 use Rattle.eikonal.proofs.Axes.{earliest, pull, passes-axes, local-axes, Enough, axes-on, axes-late, axes-step, Answers-axes, axes-answers, axes-comes, axes-passes, passes-local-axes, axes-under, axes-agree}
 

@@ -1,14 +1,13 @@
 -- Local-least and Diagonal-step: what Promise.antt says of the local rule. Assumes nothing.
-use mathlib.Core.Path.{_≡_, refl, sym, ap, _∙_, subst}
+use mathlib.Core.Path.{_≡_, refl, ap, _∙_}
 use mathlib.Core.Bool.{Bool, true, false, cond}
-use mathlib.Core.Logic.{_⊎_, inl, inr, _≢_}
+use mathlib.Core.Logic.{inl, inr}
 use Prim.Native.Nat.{ℕ, zero, suc, _+_, _*_, _-_, _≤_, _<_, min}
 use native.Mathlib.Omega.{arith}
 use native.Mathlib.Nat.{add-suc}
 use lib.Dec.{leb}
-use Rattle.eikonal.specs.Board.{never, earlier, least-from, square, passes, local, diagonal}
+use Rattle.eikonal.specs.Board.{never, earlier, least-from, square, passes, diagonal}
 use Rattle.eikonal.specs.Promise.{Local-least, Diagonal-step}
-use Rattle.eikonal.proofs.Least.{Least}
 use Rattle.eikonal.proofs.Local.{Answers, stays, comes, earlier-min, local-of, local-is, local-answers, local-comes, step-passes}
 
 local-least-of : (s a b t : ℕ) → 1 ≤ s → min a b < never → Answers s a b

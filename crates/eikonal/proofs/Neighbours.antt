@@ -1,9 +1,8 @@
 -- What neighbours give a cell rests on them alone, level by level, and follows them. Assumes nothing.
-use mathlib.Core.Path.{_≡_, refl, ap, ap₂}
+use mathlib.Core.Path.{_≡_, refl, ap₂}
 use mathlib.Core.Bool.{Bool, true, false, cond}
 use Prim.Native.Nat.{ℕ, suc, _+_, _-_, _/_, _%_, _≤_, _<_, min}
 use native.Mathlib.Omega.{arith}
-use lib.Dec.{eqb}
 use borrow.Author.Tests.{eqb-false}
 use Rattle.eikonal.specs.Board.{Board, never, size, slowness, earlier, local, arrival, met, start-time}
 use Rattle.eikonal.specs.Promise.{Neighbour}

@@ -1,12 +1,11 @@
 -- Never, exactly: Never-past-horizon and Never-unjoined. Assumes nothing.
-use mathlib.Core.Path.{_≡_, refl, sym, ap, _∙_}
+use mathlib.Core.Path.{_≡_, _∙_}
 use mathlib.Core.Bool.{true}
 use mathlib.Core.Logic.{_⊎_, inl, inr, _≢_}
-use Prim.Native.Nat.{ℕ, zero, suc, _+_, _≤_, _<_, min}
+use Prim.Native.Nat.{ℕ, zero, suc, _≤_, _<_, min}
 use native.Mathlib.Omega.{arith}
-use Rattle.eikonal.specs.Board.{Board, never, largest, size, slowness, start-time, met, time, solved, marched, Meets}
+use Rattle.eikonal.specs.Board.{Board, never, size, slowness, start-time, time, solved, marched, Meets}
 use Rattle.eikonal.specs.Promise.{board-good, Never-past-horizon, Never-unjoined, One-solution, Times-below, Joined, begins, goes-on}
-use Rattle.eikonal.specs.Inner.Good.{Good}
 use Rattle.eikonal.specs.Inner.Clip.{clip}
 use Rattle.eikonal.proofs.Levels.{order}
 use Rattle.eikonal.proofs.Good.{good, start-most}

@@ -1,19 +1,18 @@
 -- Passes over lists are steps over states, and they come to the one solution. Assumes nothing.
-use mathlib.Core.Path.{_≡_, refl, sym, ap, _∙_, subst, fun-ext}
+use mathlib.Core.Path.{_≡_, refl, sym, ap, _∙_, fun-ext}
 use mathlib.Core.Bool.{Bool, true, false, cond}
-use mathlib.Core.List.{List, [], _∷_}
-use mathlib.Core.Logic.{_⊎_, inl, inr, _≢_}
-use Prim.Native.Nat.{ℕ, zero, suc, _+_, _*_, _-_, _≤_, _<_, min}
+use mathlib.Core.List.{List}
+use mathlib.Core.Logic.{_⊎_, inl, inr}
+use Prim.Native.Nat.{ℕ, zero, suc, _+_, _-_, _≤_, _<_, min}
 use native.Mathlib.Omega.{arith}
 use native.Mathlib.Nat.{add-zero, add-suc, zero-add, suc-add}
 use lib.Dec.{ltb}
-use lib.ListN.{length, getD, replicate, length-replicate, getD-replicate, List·getD-eq-default}
+use lib.ListN.{length, getD, replicate, length-replicate, List·getD-eq-default}
 use lib.Seq.{ext-getD}
 use borrow.Author.Tests.{lt-ltb, le-ltb}
-use Rattle.eikonal.specs.Board.{Board, never, size, met, time, one-pass, passes-of, all-never, solved, Meets}
-use Rattle.eikonal.specs.Promise.{One-solution}
+use Rattle.eikonal.specs.Board.{Board, never, size, met, time, one-pass, passes-of, all-never}
 use Rattle.eikonal.specs.Inner.Good.{Good}
-use Rattle.eikonal.proofs.Levels.{order, Agree, Under, Causal, Monotone, worked, count, count-most, one-fixed, limit, reached-limit}
+use Rattle.eikonal.proofs.Levels.{order, Agree, Under, Causal, Monotone, worked, count-most, one-fixed, reached-limit}
 use Rattle.eikonal.proofs.Rule.{met-agree, met-under, met-most}
 
 -- what the cells of a board see of a state

@@ -1,15 +1,14 @@
 -- The rule on boards is causal and monotone. Assumes nothing.
-use mathlib.Core.Path.{_≡_, refl, sym, ap, _∙_, subst}
+use mathlib.Core.Path.{_≡_, refl}
 use mathlib.Core.Bool.{Bool, true, false, cond}
-use mathlib.Core.Logic.{_⊎_, inl, inr, _≢_}
-use Prim.Native.Nat.{ℕ, zero, suc, _+_, _*_, _-_, _/_, _%_, _≤_, _<_, min}
+use Prim.Native.Nat.{ℕ, suc, _+_, _-_, _/_, _%_, _≤_, _<_, min}
 use native.Mathlib.Omega.{arith}
-use lib.Dec.{ltb, eqb}
-use Rattle.eikonal.specs.Board.{Board, never, size, slowness, earlier, local, start-time, arrival, met}
+use lib.Dec.{eqb}
+use Rattle.eikonal.specs.Board.{Board, never, slowness, earlier, local, start-time, arrival, met}
 use Rattle.eikonal.specs.Inner.Good.{Good}
-use Rattle.eikonal.proofs.Levels.{Agree, Under, Causal, Monotone}
+use Rattle.eikonal.proofs.Levels.{Agree, Under}
 use Rattle.eikonal.proofs.Good.{start-most}
-use Rattle.eikonal.proofs.Local.{earlier-min, local-of, local-is, earlier-agree, earlier-under, local-agree, local-under}
+use Rattle.eikonal.proofs.Local.{earlier-min, local-of, earlier-agree, earlier-under, local-agree, local-under}
 
 -- a side of a cell: never off the board
 cond-agree : (b : Bool) (t x y : ℕ) → min t x ≡ min t y → min t (cond b never x) ≡ min t (cond b never y)

@@ -1,9 +1,9 @@
 -- The starred boards of document 01, one table and one proof over it: a test that is computed over the table, and what it shows of each row. Assumes nothing.
-use mathlib.Core.Path.{_≡_, refl, ap, ap₂}
-use mathlib.Core.Bool.{Bool, true, false, cond, _&&_, _||_, false≢true}
+use mathlib.Core.Path.{_≡_, refl, ap₂}
+use mathlib.Core.Bool.{Bool, true, false, _&&_, false≢true}
 use mathlib.Core.List.{List, [], _∷_}
 use Prim.Native.Nat.{ℕ}
-use lib.Dec.{ltb, leb, eqb}
+use lib.Dec.{eqb}
 use lib.ListN.{replicate}
 use borrow.Author.Tests.{eqb-true}
 use Rattle.eikonal.specs.Board.{Board, never, largest, size, slowness, earlier, least-from, square, passes, local, diagonal, start-time, arrival, met, time, one-pass, passes-of, all-never, solved, cut, marched}

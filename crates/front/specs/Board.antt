@@ -1,8 +1,8 @@
 -- A board as internal functions are lent it, and what its cells see. Only internal contracts cite these. Assumes nothing: these are definitions.
 use mathlib.Core.Path.{_≡_}
-use mathlib.Core.List.{List, [], _∷_}
+use mathlib.Core.List.{List, []}
 use mathlib.Core.Logic.{_≢_}
-use Prim.Native.Nat.{ℕ, suc, _+_, _*_, _-_, _≤_, _<_}
+use Prim.Native.Nat.{ℕ, _+_, _*_, _-_, _≤_, _<_}
 use lib.ListN.{length, getD}
 use Rattle.eikonal.specs.Board.{Board}
 use Rattle.eikonal.specs.Tiles.{counts-as}

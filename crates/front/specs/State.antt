@@ -9,7 +9,7 @@ use lib.Dec.{eqb}
 use lib.ListN.{length, getD}
 use Rattle.eikonal.specs.Board.{never, Start, start-time}
 use Rattle.queue.specs.Tree.{Tree, keys}
-use Rattle.front.specs.Front.{Tied, Drop, Settled, Upheld, Drift, weight}
+use Rattle.front.specs.Front.{Tied, Drop, Settled, Upheld, Drift}
 use Rattle.front.specs.Board.{tentative, noted}
 
 -- there is room, the queue is sound, and keys go with times

@@ -1,6 +1,5 @@
 // The front is drained up to a bound: pending cells are taken, the least first, and their tiles hear of them.
-ghost use mathlib.Core.Path.{_≡_};
-ghost use Prim.Native.Nat.{_≤_, _<_};
+ghost use Prim.Native.Nat.{_<_};
 ghost use Rattle.eikonal.specs.Board.{never};
 ghost use Rattle.queue.specs.Tree.{keys, Least};
 ghost use Rattle.front.specs.Seams.{inside, near};

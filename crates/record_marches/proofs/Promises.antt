@@ -3,13 +3,11 @@ use mathlib.Core.Path.{_≡_, refl, sym, ap, _∙_}
 use mathlib.Core.List.{List, [], _∷_}
 use Prim.Native.Nat.{ℕ}
 use native.Mathlib.Omega.{arith}
-use lib.ListN.{length}
 use Rattle.eikonal.specs.Ledger.{Call}
 use Rattle.eikonal.specs.Entry.{Keeps, March-says, Round-says, Run-says}
 use Rattle.eikonal.specs.Promise.{Step, by-march, by-run, by-round, Steps, done, then, Every-list}
 use Rattle.eikonal.specs.declared.Reply.{Reply}
 use Rattle.eikonal.proofs.Promises as eikonal
-use Rattle.records.specs.declared.Start.{Start}
 use Rattle.records.specs.Records.{cells-of, begins-of}
 use Rattle.record_marches.specs.Promise.{Same-march, Same-round, Same-run, joined, Lists-are-records, Any-step, over-lists, record-march, record-run, record-round, Any-steps, Every-mixed-list, Third-condition}
 use Rattle.record_marches.specs.Promise as p

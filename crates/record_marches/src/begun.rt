@@ -1,6 +1,5 @@
 // What is left of a call once it is judged, and its starts are placed unless it is refused. A refused call touches no list.
 ghost use mathlib.Core.Path.{_≡_};
-ghost use Prim.Native.Nat.{_≤_};
 ghost use Rattle.engine.specs.Calls.{shaped, Marches, Goes-round, Runs-through};
 ghost use Rattle.record_marches.specs.Calls.{Ends, March-ready, Round-ready, Run-ready};
 use eikonal::Reply;

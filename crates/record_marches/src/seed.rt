@@ -1,9 +1,8 @@
 // The starts of records placed, a part at a time.
 ghost use mathlib.Core.Path.{_≡_};
-ghost use mathlib.Core.Bool.{true, false};
 ghost use Prim.Native.Nat.{ℕ, _*_, _≤_, _<_};
 ghost use lib.ListN.{length, getD, take};
-ghost use Rattle.eikonal.specs.Refusals.{starts-of, starts-rise, late};
+ghost use Rattle.eikonal.specs.Refusals.{starts-of};
 ghost use Rattle.front.specs.State.{Placed, Seeded, Empty};
 ghost use Rattle.records.specs.Records.{cells-of, begins-of};
 ghost use Rattle.record_marches.specs.Calls.{Placeable, Begun-unless};

@@ -1,13 +1,9 @@
 -- THE PROMISES of scenario files over start records: each statement of specs/Promise.antt with its proof. Assumes nothing.
 use mathlib.Core.Path.{_≡_, refl, sym, ap, ap₂, _∙_}
 use mathlib.Core.List.{List, [], _∷_, _++_, map}
-use Prim.Native.Nat.{ℕ, zero, suc, _+_, _*_, _≤_}
+use Prim.Native.Nat.{ℕ, zero, suc, _+_}
 use native.Mathlib.Omega.{arith}
 use lib.ListN.{length, take, drop}
-use Rattle.eikonal.specs.Entry.{plain}
-use Rattle.eikonal.specs.declared.Reply.{Reply}
-use Rattle.scenario.specs.Calls.{Reads, Writes, filled}
-use Rattle.scenario.specs.declared.Scenario.{Scenario}
 use Rattle.scenario.specs.Promise.{Read-then-write, Write-then-read}
 use Rattle.scenario.proofs.Composed.{read-then-write, write-then-read}
 use Rattle.records.specs.declared.Start.{Start}

@@ -1,5 +1,5 @@
 -- Start records and their plain lists. Assumes nothing: these are definitions.
-use mathlib.Core.List.{List, [], _∷_, _++_, map}
+use mathlib.Core.List.{List, _++_, map}
 use Prim.Native.Nat.{ℕ, _-_}
 use lib.ListN.{length, replicate}
 use Rattle.eikonal.specs.Board.{Start as Plain-start}

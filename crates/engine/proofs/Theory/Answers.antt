@@ -1,21 +1,20 @@
 -- From a refusal, or from an accepted call gone through, to the ledger. Assumes nothing.
-use mathlib.Core.Path.{_≡_, refl, sym, ap, subst, _∙_}
-use mathlib.Core.Bool.{Bool, true, false, cond, not, _&&_}
+use mathlib.Core.Path.{_≡_, refl, sym, ap, _∙_}
+use mathlib.Core.Bool.{true, false, not, _&&_}
 use mathlib.Core.Logic.{_≢_}
 use mathlib.Core.List.{List, [], _++_}
-use Prim.Native.Nat.{ℕ, _*_, _≤_, _<_}
+use Prim.Native.Nat.{ℕ, _*_, _≤_}
 use native.Mathlib.Omega.{arith}
 use native.Mathlib.Nat.{mul-le-mul}
 use lib.Dec.{eqb}
-use lib.ListN.{length, drop, replicate}
+use lib.ListN.{length, replicate}
 use borrow.Author.Tests.{eq-eqb, ne-eqb, eqb-true, not-false}
-use Rattle.eikonal.specs.Board.{Start, size, largest, solved, marched, reached}
-use Rattle.eikonal.specs.Tiles.{round, altered, rounds, tile-count}
-use Rattle.eikonal.specs.Refusals.{Plain, board, starts-of, starts-rise, late, on-wall, side-good, any-above, board-refusal, starts-refusal, plain-refusal, march-refusal, round-refusal, run-refusal, order-good}
+use Rattle.eikonal.specs.Board.{Start, size, largest}
+use Rattle.eikonal.specs.Tiles.{tile-count}
+use Rattle.eikonal.specs.Refusals.{Plain, board, starts-of, starts-rise, late, side-good, any-above, board-refusal, starts-refusal, march-refusal, round-refusal, run-refusal, order-good}
 use Rattle.eikonal.specs.Ledger.{Call, march, tile-run, one-round, refusal, cells-of, entered, counted, answer, answered, ledger-answer, ledger-after, work-after}
 use Rattle.eikonal.specs.Entry.{plain, Keeps, March-says, Round-says, Run-says}
 use Rattle.eikonal.specs.Promise.{board-good}
-use Rattle.eikonal.specs.Inner.Good.{Good}
 use Rattle.eikonal.specs.declared.Reply.{Reply}
 use Rattle.eikonal.proofs.Good.{passed}
 use Rattle.eikonal.proofs.Accepted.{Handed, Lent, March-fits, march-fits, Round-fits, round-fits, Run-fits, run-fits}

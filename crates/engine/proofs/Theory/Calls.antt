@@ -1,16 +1,16 @@
 -- The calls behind their refusals: marches, tile runs and single rounds from their parts. Assumes nothing.
 use mathlib.Core.Path.{_≡_, refl, sym, ap, subst, _∙_}
 use mathlib.Core.Bool.{Bool, true, false, cond, _||_}
-use mathlib.Core.Logic.{_⊎_, inl, inr, _≢_}
+use mathlib.Core.Logic.{inl}
 use mathlib.Core.List.{List, [], _∷_, _++_}
-use Prim.Native.Nat.{ℕ, zero, suc, _+_, _*_, _-_, _/_, _%_, _≤_, _<_, min}
+use Prim.Native.Nat.{ℕ, _+_, _*_, _-_, _/_, _%_, _≤_, _<_, min}
 use native.Mathlib.Omega.{arith}
 use native.Mathlib.Nat.{div-eq-of-lt, mod-lt}
 use lib.Dec.{ltb, leb, eqb}
 use lib.ListN.{length, getD, drop, replicate, length-drop, length-replicate, getD-replicate}
 use lib.Seq.{ext-getD, getD-drop}
-use borrow.Author.Tests.{lt-ltb, lt-leb, leb-true, eq-eqb}
-use Rattle.eikonal.specs.Board.{Board, Start, never, largest, size, slowness, start-time, arrival, met, time, solved, cut, marched, reached, all-never}
+use borrow.Author.Tests.{lt-leb, eq-eqb}
+use Rattle.eikonal.specs.Board.{Start, never, largest, size, slowness, start-time, arrival, met, time, solved, cut, marched, reached, all-never}
 use Rattle.eikonal.specs.Tiles.{tile-of, counts-as, tiled, round, altered, after-rounds, rounds, up}
 use Rattle.eikonal.specs.Promise.{Neighbour}
 use Rattle.eikonal.specs.Inner.Good.{Good}
@@ -22,12 +22,12 @@ use Rattle.eikonal.proofs.Passes.{never-time, solved-length, rule-on}
 use Rattle.eikonal.proofs.Solution.{plain, plain-sound, solved-plain}
 use Rattle.eikonal.proofs.CutRule.{cut-meets, round-by-rule}
 use Rattle.queue.specs.Tree.{keys}
-use Rattle.front.specs.Front.{ghosted, gives, heard, Tied, Out, Settled, Midway, Upheld, Drift}
+use Rattle.front.specs.Front.{ghosted, heard, Tied, Out, Settled, Midway, Upheld, Drift}
 use Rattle.front.specs.Board.{land, rule-by, rule-at, tentative, noted, Laid, Ground}
-use Rattle.front.specs.State.{Held, Ready, Drained, Told, Standing, cells-below}
+use Rattle.front.specs.State.{Ready, Drained, Told, Standing, cells-below}
 use Rattle.rows.specs.Rows.{Wrote}
 use Rattle.rows.specs.Lists.{Filled, due, Finished}
-use Rattle.engine.specs.Run.{starts, Between, whole, At-round, Ran}
+use Rattle.engine.specs.Run.{starts, whole, At-round, Ran}
 use Rattle.engine.specs.Calls.{Fit, Through}
 use Rattle.front.specs.declared.Shape.{Shape}
 use Rattle.engine.proofs.Theory.Rounds.{drained-round}

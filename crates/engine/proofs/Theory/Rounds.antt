@@ -10,9 +10,8 @@ use native.Mathlib.Nat.{zero-add, suc-add, mul-le-mul-right}
 use lib.Dec.{leb, eqb}
 use borrow.Author.Tests.{lt-leb, le-leb, ne-eqb}
 use lib.ListN.{length}
-use Rattle.eikonal.specs.Board.{Board, never, largest, size, start-time, arrival, met, time}
+use Rattle.eikonal.specs.Board.{Board, never, largest, size, met, time}
 use Rattle.eikonal.specs.Tiles.{tile-of, counts-as, tiled, round, altered, after-rounds, last-round}
-use Rattle.eikonal.specs.Promise.{Neighbour}
 use Rattle.eikonal.specs.Inner.Good.{Good}
 use Rattle.eikonal.specs.Inner.Clip.{clip}
 use Rattle.eikonal.proofs.Clip.{Clipped, kept, lost, clipped, clip-keeps, clip-loses, clip-never}
@@ -21,7 +20,7 @@ use Rattle.eikonal.proofs.Passes.{never-time}
 use Rattle.eikonal.proofs.Altered.{altered-none, altered-same}
 use Rattle.eikonal.proofs.Rounds.{round-time, after-length}
 use Rattle.eikonal.proofs.CutRule.{round-by-rule}
-use Rattle.front.specs.Front.{ghosted, gives, Tied, Settled, Upheld, total, fallen, Taken, Drift, Written}
+use Rattle.front.specs.Front.{ghosted, Tied, Settled, Upheld, total, fallen, Drift, Written}
 use Rattle.front.specs.Board.{rule-by}
 use Rattle.engine.specs.Run.{starts, Between, Leapt}
 use Rattle.front.proofs.Theory.Front.{ended}

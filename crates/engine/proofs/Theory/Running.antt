@@ -2,7 +2,7 @@
 use mathlib.Core.Path.{_≡_, refl, sym, ap, subst, _∙_}
 use mathlib.Core.Logic.{_⊎_, inl, inr, _≢_}
 use mathlib.Core.List.{List}
-use Prim.Native.Nat.{ℕ, zero, suc, _+_, _*_, _-_, _≤_, _<_, min}
+use Prim.Native.Nat.{ℕ, suc, _+_, _*_, _-_, _≤_, _<_, min}
 use mathlib.Core.Bool.{true, false, true≢false}
 use native.Mathlib.Omega.{arith}
 use native.Mathlib.Decide.{ℕ-discrete}
@@ -20,10 +20,10 @@ use Rattle.eikonal.proofs.Passes.{solved-length}
 use Rattle.eikonal.proofs.Solution.{plain, solved-plain}
 use Rattle.eikonal.proofs.Rounds.{after-length, rounds-low, rounds-few, rounds-last, rounds-march, rounds-is}
 use Rattle.queue.specs.Tree.{keys}
-use Rattle.front.specs.Front.{gives, Settled, Upheld, Drift, Written}
+use Rattle.front.specs.Front.{Settled, Upheld, Drift, Written}
 use Rattle.front.specs.Seams.{border, near}
 use Rattle.front.specs.Board.{land, rule-by, rule-at, tentative, noted, Ground}
-use Rattle.front.specs.State.{Held, Ready, Drained, Drifted, Announced}
+use Rattle.front.specs.State.{Ready, Drained, Drifted, Announced}
 use Rattle.engine.specs.Run.{starts, Between, whole, At-round, One-round, Leapt, Ran}
 use Rattle.front.specs.declared.Shape.{Shape}
 use Rattle.front.proofs.Theory.Sight.{gives-lawful}

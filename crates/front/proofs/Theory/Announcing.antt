@@ -1,20 +1,19 @@
 -- The end of a round: what storing and announcing leave of the front. Assumes nothing.
 use mathlib.Core.Path.{_≡_, refl, sym, ap, subst, _∙_}
-use mathlib.Core.Logic.{_⊎_, inl, inr, ⊎-elim, _≢_}
+use mathlib.Core.Logic.{_≢_}
 use mathlib.Core.List.{List}
-use Prim.Native.Nat.{ℕ, zero, suc, _+_, _*_, _-_, _≤_, _<_}
+use Prim.Native.Nat.{ℕ, suc, _+_, _*_, _-_, _≤_, _<_}
 use native.Mathlib.Omega.{arith}
 use native.Mathlib.Decide.{ℕ-discrete}
 use native.Mathlib.Numerals.{add-one}
-use lib.ListN.{length, getD, set, length-set}
+use lib.ListN.{length, getD, set}
 use lib.Seq.{getD-set-same, getD-set-other}
 use Rattle.eikonal.specs.Board.{Board, never, largest, size, time}
-use Rattle.eikonal.specs.Promise.{Neighbour}
 use Rattle.eikonal.specs.Inner.Good.{Good}
 use Rattle.queue.specs.Tree.{keys}
 use Rattle.front.specs.Front.{gives, Out, Settled, Midway, Upheld, Drift, Written}
 use Rattle.front.specs.Seams.{border, near}
-use Rattle.front.specs.Board.{rule-by, tentative, noted}
+use Rattle.front.specs.Board.{rule-by, tentative}
 use Rattle.front.specs.State.{Held, Told, Announced, nobody, also}
 use Rattle.front.proofs.Theory.Front.{Lawful}
 use Rattle.front.proofs.Theory.Sight.{gives-lawful}

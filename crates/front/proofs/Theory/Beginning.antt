@@ -1,25 +1,21 @@
 -- A round's beginning: every cell has its start's time. Assumes nothing.
-use mathlib.Core.Path.{_≡_, refl, sym, ap, subst, _∙_}
-use mathlib.Core.Bool.{Bool, true, false, cond}
-use mathlib.Core.Logic.{_⊎_, inl, inr, _≢_}
-use mathlib.Core.List.{List, [], _∷_}
-use Prim.Native.Nat.{ℕ, zero, suc, _+_, _*_, _-_, _≤_, _<_, min}
+use mathlib.Core.Path.{_≡_, refl, sym, _∙_}
+use mathlib.Core.Bool.{Bool, true, false}
+use mathlib.Core.Logic.{inr}
+use mathlib.Core.List.{List}
+use Prim.Native.Nat.{ℕ, zero, suc, _-_, _≤_, _<_, min}
 use native.Mathlib.Omega.{arith}
-use lib.Dec.{eqb}
-use lib.ListN.{length, getD}
-use borrow.Author.Tests.{lt-ltb}
-use Rattle.eikonal.specs.Board.{Board, Start, never, largest, size, slowness, start-time, arrival, local, time}
-use Rattle.eikonal.specs.Tiles.{tile-of, counts-as}
+use Rattle.eikonal.specs.Board.{Board, Start, never, size, slowness, start-time, arrival}
 use Rattle.eikonal.specs.Refusals.{starts-rise, late}
 use Rattle.eikonal.specs.Promise.{Neighbour}
 use Rattle.eikonal.specs.Inner.Good.{Good}
 use Rattle.eikonal.proofs.Local.{local-of, earlier-min, Answers, stays, comes, local-answers}
-use Rattle.eikonal.proofs.Rule.{sides, along, down}
+use Rattle.eikonal.proofs.Rule.{sides}
 use Rattle.eikonal.proofs.Neighbours.{arrival-is, arrival-same}
 use Rattle.queue.specs.Tree.{keys}
-use Rattle.front.specs.Front.{ghosted, gives, heard, Tied, Settled, Upheld, total, fallen, Drift}
+use Rattle.front.specs.Front.{heard, Upheld, total, fallen, Drift}
 use Rattle.front.specs.Board.{tentative, noted}
-use Rattle.front.specs.State.{Held, Placed, Seeded, Empty, Standing, Begun, soonest}
+use Rattle.front.specs.State.{Held, Seeded, Empty, Standing, Begun}
 use Rattle.front.proofs.Theory.Seeding.{soonest-is, seeded-soonest}
 
 -- emptied and seeded, the work list is begun

@@ -2,7 +2,7 @@
 -- Code reads all new stored times at once; the invariant brings them in one by one. Assumes nothing.
 use mathlib.Core.Path.{_≡_, refl, sym, ap, subst, _∙_}
 use mathlib.Core.Bool.{Bool, true, false, cond, _||_}
-use mathlib.Core.Logic.{_⊎_, inl, inr, _≢_}
+use mathlib.Core.Logic.{_≢_}
 use mathlib.Core.List.{List}
 use Prim.Native.Nat.{ℕ, zero, suc, _≤_, _<_, min}
 use native.Mathlib.Omega.{arith}
@@ -14,7 +14,7 @@ use Rattle.eikonal.specs.Tiles.{tile-of, counts-as}
 use Rattle.eikonal.specs.Promise.{Neighbour}
 use Rattle.eikonal.specs.Inner.Good.{Good}
 use Rattle.front.specs.Front.{ghosted, gives, heard, Settled, Midway, Upheld}
-use Rattle.front.proofs.Theory.Sight.{gives-mono, gives-causal, gives-same, gives-lawful}
+use Rattle.front.proofs.Theory.Sight.{gives-mono, gives-causal, gives-same}
 use Rattle.front.specs.Board.{rule-by}
 
 -- what a stored time counts as

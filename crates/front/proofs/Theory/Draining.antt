@@ -1,8 +1,8 @@
 -- One cell taken, and a whole drain: what they leave of the front and of the round so far. Assumes nothing.
 use mathlib.Core.Path.{_≡_, refl, sym, ap, subst, fun-ext, _∙_}
-use mathlib.Core.Logic.{_⊎_, inl, inr, ⊎-elim, _≢_}
+use mathlib.Core.Logic.{_⊎_, inl, ⊎-elim, _≢_}
 use mathlib.Core.List.{List}
-use Prim.Native.Nat.{ℕ, zero, suc, _+_, _*_, _-_, _≤_, _<_, min}
+use Prim.Native.Nat.{ℕ, suc, _+_, _*_, _-_, _≤_, _<_, min}
 use native.Mathlib.Omega.{arith}
 use native.Mathlib.Decide.{ℕ-discrete}
 use lib.ListN.{length, getD, set, length-set}
@@ -10,17 +10,17 @@ use lib.Seq.{getD-set-same, getD-set-other}
 use Rattle.eikonal.specs.Board.{never, size}
 use Rattle.eikonal.specs.Tiles.{tile-of, counts-as}
 use Rattle.eikonal.specs.Promise.{Neighbour}
-use Rattle.queue.specs.Tree.{Tree, keys, Put, Least}
-use Rattle.front.specs.Front.{ghosted, heard, Tied, Out, Settled, Midway, Upheld, Drift, weight}
+use Rattle.queue.specs.Tree.{keys, Put, Least}
+use Rattle.front.specs.Front.{ghosted, Out, Settled, Midway, Upheld, Drift, weight}
 use Rattle.front.specs.Seams.{inside, near}
 use Rattle.front.specs.Board.{land, rule-at, tentative, noted, Ground}
-use Rattle.front.specs.State.{Held, Told, Popped, Took, Drifting, Drifted, Ready, Drained}
+use Rattle.front.specs.State.{Held, Popped, Took, Drifting, Drifted, Ready, Drained}
 use Rattle.front.specs.declared.Shape.{Shape}
 use Rattle.front.proofs.Theory.Front.{Lawful, popped, total-lt}
 use Rattle.front.proofs.Theory.Drift.{drift-taken, room-left}
 use Rattle.front.proofs.Theory.Sight.{gives-same, gives-lawful}
 use Rattle.front.proofs.Theory.Seams.{untold-inside}
-use Rattle.front.proofs.Theory.Same.{tied-same, midway-same, upheld-same, drift-same}
+use Rattle.front.proofs.Theory.Same.{midway-same, upheld-same, drift-same}
 use Rattle.front.proofs.Theory.Reading.{cells-size}
 use Rattle.front.proofs.Theory.Telling.{told-held, told-long, told-rest, told-weight, told-upheld, told-midway, told-drift}
 use borrow.Author.Tests.{ne-eqb}

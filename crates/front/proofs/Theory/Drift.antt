@@ -1,14 +1,14 @@
 -- The round so far: what taking a cell and lowering another leave of it. Assumes nothing.
 use mathlib.Core.Path.{_≡_, refl, sym, ap, subst, _∙_}
-use mathlib.Core.Logic.{_⊎_, inl, inr, ⊎-elim, _≢_}
-use Prim.Native.Nat.{ℕ, zero, suc, _+_, _*_, _-_, _≤_, _<_, min}
+use mathlib.Core.Logic.{_⊎_, ⊎-elim, _≢_}
+use Prim.Native.Nat.{ℕ, zero, suc, _-_, _≤_, _<_, min}
 use native.Mathlib.Omega.{arith}
 use native.Mathlib.Decide.{ℕ-discrete}
 use mathlib.Core.Bool.{cond}
 use lib.Dec.{eqb}
 use borrow.Author.Tests.{eq-eqb, ne-eqb}
 use Rattle.eikonal.specs.Board.{never}
-use Rattle.front.specs.Front.{Tied, Drop, total, fallen, Taken, Drift, Written}
+use Rattle.front.specs.Front.{Tied, Drop, total, Taken, Drift, Written}
 use Rattle.front.proofs.Theory.Front.{lower}
 
 -- ---- sums that differ at one cell, or nowhere

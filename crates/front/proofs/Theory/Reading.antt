@@ -1,23 +1,22 @@
 -- What code reads of a cell's neighbours is what the rule sees of them. Assumes nothing.
-use mathlib.Core.Path.{_≡_, refl, sym, ap, subst, _∙_}
-use mathlib.Core.Bool.{Bool, true, false, cond, _||_}
-use mathlib.Core.Logic.{_⊎_, inl, inr, _≢_}
+use mathlib.Core.Path.{_≡_, refl, sym, ap, _∙_}
+use mathlib.Core.Bool.{cond}
+use mathlib.Core.Logic.{inl, inr, _≢_}
 use mathlib.Core.List.{List, [], _∷_}
 use Prim.Native.Nat.{ℕ, zero, suc, _+_, _*_, _-_, _/_, _%_, _≤_, _<_, min}
 use native.Mathlib.Omega.{arith}
-use native.Mathlib.Nat.{mul-le-mul-left, mul-le-mul-right, div-eq-of-lt-le, div-add-mod', mul-add-mod-self-right, mod-eq-of-lt}
+use native.Mathlib.Nat.{mul-le-mul-left, mul-le-mul-right, div-eq-of-lt-le, div-add-mod'}
 use native.Mathlib.Numerals.{add-one}
-use lib.Dec.{ltb, eqb}
+use lib.Dec.{eqb}
 use lib.ListN.{length, getD}
 use borrow.Author.Tests.{eq-eqb, ne-eqb, lt-ltb, le-ltb}
 use Rattle.eikonal.specs.Board.{Board, never, largest, size, slowness, time, local, arrival}
 use Rattle.eikonal.specs.Tiles.{counts-as}
-use Rattle.eikonal.specs.Inner.Good.{Good}
 use Rattle.eikonal.proofs.Good.{size-most}
 use Rattle.eikonal.proofs.Grid.{right-on, below-on}
 use Rattle.front.specs.Front.{ghosted}
 use Rattle.front.specs.Seams.{seam, edge, across}
-use Rattle.front.specs.Board.{land, rule-at, Laid, Ground, Site, Sees}
+use Rattle.front.specs.Board.{land, rule-at, Ground, Site, Sees}
 use Rattle.front.specs.declared.Shape.{Shape}
 use Rattle.front.proofs.Theory.Seams.{seam-edge, sees-left, sees-right, sees-above, sees-below}
 

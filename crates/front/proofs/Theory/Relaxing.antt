@@ -2,24 +2,24 @@
 use mathlib.Core.Path.{_≡_, refl, sym, ap, subst, _∙_}
 use mathlib.Core.Logic.{_⊎_, inl, inr, ⊎-elim, _≢_}
 use mathlib.Core.List.{List, [], _∷_}
-use Prim.Native.Nat.{ℕ, zero, suc, _+_, _*_, _-_, _/_, _%_, _≤_, _<_, min}
+use Prim.Native.Nat.{ℕ, zero, suc, _+_, _*_, _-_, _/_, _≤_, _<_, min}
 use native.Mathlib.Omega.{arith}
 use native.Mathlib.Nat.{div-add-mod', mod-lt, mul-le-mul-right}
 use native.Mathlib.Numerals.{add-one}
 use lib.ListN.{length, getD, set, length-set}
 use lib.Seq.{getD-set-same, getD-set-other}
 use borrow.Author.Tests.{eq-eqb, ne-eqb}
-use Rattle.eikonal.specs.Board.{never, size}
+use Rattle.eikonal.specs.Board.{size}
 use Rattle.eikonal.proofs.Levels.{order}
 use Rattle.queue.specs.Tree.{Tree, keys, Put}
 use Rattle.queue.proofs.Tree.{tree-past}
-use Rattle.front.specs.Front.{Tied, Drop}
+use Rattle.front.specs.Front.{Drop}
 use Rattle.front.specs.Seams.{edge, border, inside, seam, beyond, near}
-use Rattle.front.specs.Board.{land, tentative, Laid, Ground, Site}
-use Rattle.front.specs.State.{Held, Dropped, Touched, stays, drops, Told, all, next}
+use Rattle.front.specs.Board.{land, tentative, Ground, Site}
+use Rattle.front.specs.State.{Held, Touched, stays, drops, Told, all, next}
 use Rattle.front.specs.declared.Shape.{Shape}
 use Rattle.front.proofs.Theory.Seams.{seam-edge}
-use Rattle.front.proofs.Theory.Reading.{row-is, col-is, site-on}
+use Rattle.front.proofs.Theory.Reading.{row-is, col-is}
 
 module _ (n : ℕ) (v : List ℕ) (he : Held n v) (e x : ℕ) (l : e < n) where
   -- the tree stands while a time is stored

@@ -1,11 +1,10 @@
 -- What holds of times and keys holds of those that are the same on the board. Assumes nothing.
-use mathlib.Core.Path.{_≡_, refl, sym, ap, subst, _∙_}
-use mathlib.Core.Logic.{_⊎_, inl, inr, ⊎-elim, _≢_}
-use Prim.Native.Nat.{ℕ, zero, suc, _+_, _-_, _≤_, _<_, min}
+use mathlib.Core.Path.{_≡_, sym, subst, _∙_}
+use Prim.Native.Nat.{ℕ, _-_, _<_}
 use native.Mathlib.Omega.{arith}
 use native.Mathlib.Nat.{le-antisymm}
 use Rattle.eikonal.specs.Board.{never}
-use Rattle.front.specs.Front.{heard, Tied, Settled, Midway, Upheld, total, Taken, Drift}
+use Rattle.front.specs.Front.{heard, Tied, Settled, Midway, Upheld, Drift}
 use Rattle.front.proofs.Theory.Front.{Lawful}
 use Rattle.front.proofs.Theory.Drift.{total-same}
 

@@ -1,19 +1,18 @@
 -- Seams and tiles: neighbours across an inside seam share a tile, across a border they do not. Assumes nothing.
-use mathlib.Core.Path.{_≡_, refl, sym, ap, ap₂, subst, _∙_}
+use mathlib.Core.Path.{_≡_, refl, sym, ap, subst, _∙_}
 use mathlib.Core.Bool.{Bool, true, false, cond, _||_}
 use mathlib.Core.Logic.{_⊎_, inl, inr, _≢_}
-use mathlib.Core.List.{List, [], _∷_}
-use Prim.Native.Nat.{ℕ, zero, suc, _+_, _*_, _-_, _/_, _%_, _≤_, _<_}
+use Prim.Native.Nat.{ℕ, suc, _+_, _*_, _-_, _/_, _%_, _≤_, _<_}
 use native.Mathlib.Omega.{arith}
 use native.Mathlib.Decide.{ℕ-discrete}
-use native.Mathlib.Nat.{suc-mod, mod-lt, mod-eq-of-lt, mod-self, div-add-mod', add-div-right, add-mod-right, mul-le-mul-right, div-eq-of-lt-le}
+use native.Mathlib.Nat.{suc-mod, mod-lt, mod-eq-of-lt, mod-self, div-add-mod', add-div-right, add-mod-right, div-eq-of-lt-le}
 use lib.Dec.{eqb}
-use borrow.Author.Tests.{eq-eqb, ne-eqb, eqb-true, eqb-false}
+use borrow.Author.Tests.{eq-eqb, ne-eqb}
 use Rattle.eikonal.specs.Board.{Board, never, size}
 use Rattle.eikonal.specs.Tiles.{tile-of, up}
 use Rattle.eikonal.specs.Promise.{Neighbour, Beside}
 use Rattle.eikonal.specs.Inner.Good.{Good}
-use Rattle.eikonal.proofs.Grid.{next-column, wraps, below-off, below-on, above-on, above-off, column-some, row-low}
+use Rattle.eikonal.proofs.Grid.{next-column, wraps, below-off, above-on, above-off, column-some, row-low}
 use Rattle.front.specs.Front.{Out, ghosted}
 use Rattle.front.specs.Seams.{edge, border, inside, seam, across, beyond, near}
 

@@ -1,10 +1,10 @@
 -- The engine's rule, what the local rule gives a cell that sees its own tile and ghosts, is lawful, and goes by neighbours alone. Assumes nothing.
-use mathlib.Core.Path.{_≡_, refl, sym, ap}
+use mathlib.Core.Path.{_≡_, refl, ap}
 use mathlib.Core.Bool.{Bool, true, false, cond}
 use Prim.Native.Nat.{ℕ, suc, _≤_, _<_, min}
 use native.Mathlib.Omega.{arith}
 use lib.Dec.{eqb}
-use Rattle.eikonal.specs.Board.{Board, never, size, slowness, arrival}
+use Rattle.eikonal.specs.Board.{Board, never, size, slowness}
 use Rattle.eikonal.specs.Tiles.{tile-of}
 use Rattle.eikonal.specs.Promise.{Neighbour}
 use Rattle.eikonal.specs.Inner.Good.{Good}

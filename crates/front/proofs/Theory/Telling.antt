@@ -1,18 +1,18 @@
 -- What telling several cells in turn keeps. Assumes nothing.
 use mathlib.Core.Path.{_≡_, refl, sym, ap, subst, _∙_}
 use mathlib.Core.Logic.{_⊎_, inl, inr, _≢_}
-use mathlib.Core.List.{List, [], _∷_}
-use Prim.Native.Nat.{ℕ, zero, suc, _+_, _*_, _≤_, _<_}
+use mathlib.Core.List.{List, _∷_}
+use Prim.Native.Nat.{ℕ, _*_, _≤_, _<_}
 use native.Mathlib.Omega.{arith}
 use native.Mathlib.Nat.{le-trans, le-of-lt}
 use lib.ListN.{length, getD}
 use Rattle.eikonal.specs.Board.{never}
 use Rattle.eikonal.proofs.Levels.{order}
 use Rattle.queue.specs.Tree.{keys}
-use Rattle.front.specs.Front.{Tied, Out, Drop, Settled, Midway, Upheld, Drift, weight}
-use Rattle.front.specs.Board.{tentative, noted}
-use Rattle.front.specs.State.{Held, Dropped, Touched, stays, drops, Told, all, next}
-use Rattle.front.proofs.Theory.Front.{Lawful, lower, drop-tied, drop-weight, skipped, stayed, lowered, rises, upheld}
+use Rattle.front.specs.Front.{Out, Midway, Upheld, Drift, weight}
+use Rattle.front.specs.Board.{tentative}
+use Rattle.front.specs.State.{Held, Touched, stays, drops, Told, all, next}
+use Rattle.front.proofs.Theory.Front.{Lawful, drop-tied, drop-weight, skipped, stayed, lowered, rises, upheld}
 use Rattle.front.proofs.Theory.Drift.{drift-dropped}
 
 module _ (n : ℕ) (L : ℕ → (ℕ → ℕ) → ℕ) (t : ℕ) where

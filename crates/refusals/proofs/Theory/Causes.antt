@@ -1,5 +1,5 @@
 -- The refusal numbers of calls, one test after the other. Assumes nothing.
-use mathlib.Core.Path.{_≡_, refl, sym, _∙_}
+use mathlib.Core.Path.{_≡_, sym, _∙_}
 use mathlib.Core.Bool.{Bool, true, false, cond, _||_, or-true}
 use mathlib.Core.List.{List}
 use mathlib.Core.Logic.{_≢_}
@@ -10,7 +10,6 @@ use Rattle.eikonal.specs.Board.{size, largest}
 use Rattle.eikonal.specs.Tiles.{tile-count}
 use Rattle.eikonal.specs.Refusals.{Plain, board, or-else, plain-refusal, side-good, order-good, lists-refusal, tiles-refusal, march-refusal, round-refusal, run-refusal}
 use Rattle.eikonal.specs.Entry.{plain}
-use Rattle.refusals.specs.Orders.{sides}
 use Rattle.refusals.specs.Causes.{march-by, round-by, run-by}
 use Rattle.eikonal.proofs.Accepted.{handed}
 

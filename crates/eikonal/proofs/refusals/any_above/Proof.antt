@@ -1,12 +1,10 @@
 -- `eikonal::refusals::any_above` meets its contract: what is found in the entries passed. Assumes nothing.
 use mathlib.Core.Path.{_≡_, refl, ap, _∙_}
-use mathlib.Core.Bool.{Bool, _||_}
 use Prim.Native.Nat.{_≤_, _-_}
 use native.Mathlib.Numerals.{add-one}
 use native.Mathlib.Omega.{arith}
 use borrow.Author.Needs.{needs}
-use lib.Dec.{ltb}
-use lib.ListN.{length, take, getD}
+use lib.ListN.{length, take}
 use lib.Seq.{take-all}
 use Rattle.eikonal.specs.Refusals.{any-above}
 use Rattle.eikonal.proofs.BoardRefusals.{any-above-more}

@@ -1,10 +1,8 @@
 -- `eikonal::refusals::board_refusal` meets its contract. Assumes nothing.
-use mathlib.Core.Path.{_≡_, sym, ap, _∙_}
-use Prim.Native.Nat.{ℕ}
+use mathlib.Core.Path.{sym, _∙_}
 use borrow.Author.Needs.{needs}
 use borrow.Author.Tests.{ne-eqb}
-use Rattle.eikonal.specs.Refusals.{or-else, starts-of}
-use Rattle.eikonal.specs.Inner.Judge.{judge}
+use Rattle.eikonal.specs.Refusals.{or-else}
 use Rattle.eikonal.proofs.BoardRefusals.{sides-first, lists-next, starts-last}
 use Rattle.eikonal.proofs.refusals.board_refusal.Statement.{statement}
 use Rattle.eikonal.proofs.refusals.board_refusal.Tie as tie

@@ -1,6 +1,4 @@
 -- `eikonal::refusals::side_good` meets its contract. Assumes nothing.
-use mathlib.Core.Path.{_≡_, refl, sym}
-use Prim.Native.Nat.{_<_, _≤_}
 use borrow.Author.Tests.{lt-leb, le-leb}
 use native.Mathlib.Omega.{arith}
 use Rattle.eikonal.specs.Refusals.{side-good}

@@ -1,5 +1,4 @@
 -- `eikonal::refusals::start_refusal` meets its contract. Assumes nothing.
-use mathlib.Core.Path.{refl}
 use native.Mathlib.Omega.{arith}
 use borrow.Author.Tests.{lt-leb, le-leb, lt-ltb, le-ltb, eq-eqb, ne-eqb}
 use Rattle.eikonal.specs.Inner.Judge.{start-refusal}

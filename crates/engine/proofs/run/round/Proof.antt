@@ -1,6 +1,5 @@
 -- `engine::run::round` meets its contract. Assumes nothing.
 use native.Mathlib.Omega.{arith}
-use mathlib.Core.Path.{_≡_, subst, _∙_}
 use Rattle.front.proofs.Theory.Reading.{cells-most}
 use Rattle.engine.proofs.Theory.Running.{drained-to, ready, ground-kept, taken-fit, taken-on, one-round}
 use borrow.Author.Needs.{needs}

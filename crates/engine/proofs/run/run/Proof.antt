@@ -1,6 +1,6 @@
 -- `engine::run::run` meets its contract: what holds after some rounds, no more than the limit, is Mid-run, of whatever starts the board
 -- began with. Assumes nothing.
-use Prim.Native.Nat.{ℕ, suc, _+_, _*_, _-_, _≤_, _<_}
+use Prim.Native.Nat.{_*_, _-_, _≤_}
 use native.Mathlib.Omega.{arith}
 use native.Mathlib.Numerals.{add-one}
 use native.Mathlib.Nat.{mul-le-mul}

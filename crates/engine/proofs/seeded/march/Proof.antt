@@ -1,7 +1,7 @@
 -- `engine::seeded::march` meets its contract. Assumes nothing.
 use native.Mathlib.Omega.{arith}
 use native.Mathlib.Nat.{mul-le-mul}
-use mathlib.Core.Path.{_≡_, sym, _∙_}
+use mathlib.Core.Path.{sym, _∙_}
 use Rattle.engine.proofs.Theory.Calls.{ground, march-ready, march-through}
 use Rattle.engine.proofs.seeded.march.Statement.{statement}
 use Rattle.engine.proofs.seeded.march.Tie as tie

@@ -1,7 +1,7 @@
 -- `engine::seeded::one_round` meets its contract. Assumes nothing.
 use native.Mathlib.Omega.{arith}
 use native.Mathlib.Nat.{mul-le-mul}
-use mathlib.Core.Path.{_≡_, _∙_}
+use mathlib.Core.Path.{_∙_}
 use Rattle.front.specs.Board.{rule-at}
 use Rattle.front.proofs.Theory.Telling.{told-long}
 use Rattle.front.proofs.Theory.Beginning.{standing-held}

@@ -1,7 +1,6 @@
 -- `engine::seeded::shape_of` meets its contract. Assumes nothing.
 use native.Mathlib.Omega.{arith}
 use native.Mathlib.Nat.{mul-le-mul}
-use mathlib.Core.Path.{_≡_, refl}
 use borrow.Author.Needs.{needs}
 use Rattle.engine.proofs.seeded.shape_of.Statement.{statement}
 use Rattle.engine.proofs.seeded.shape_of.Tie as tie

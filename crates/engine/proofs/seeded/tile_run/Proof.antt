@@ -1,7 +1,7 @@
 -- `engine::seeded::tile_run` meets its contract. Assumes nothing.
 use native.Mathlib.Omega.{arith}
 use native.Mathlib.Nat.{mul-le-mul}
-use mathlib.Core.Path.{_≡_, _∙_}
+use mathlib.Core.Path.{_∙_}
 use Rattle.engine.proofs.Theory.Calls.{ground, never-times, run-start, run-through}
 use Rattle.engine.proofs.seeded.tile_run.Statement.{statement}
 use Rattle.engine.proofs.seeded.tile_run.Tie as tie

@@ -1,13 +1,11 @@
 -- `front::commit::announce` meets its contract. Assumes nothing.
-use Prim.Native.Nat.{ℕ, _+_, _*_, _-_, _≤_, _<_}
+use Prim.Native.Nat.{_+_, _*_, _-_, _≤_}
 use native.Mathlib.Omega.{arith}
-use native.Mathlib.Numerals.{add-one}
-use mathlib.Core.Path.{_≡_, refl, sym, subst, ap, _∙_}
-use lib.ListN.{length, getD}
+use mathlib.Core.Path.{_≡_, sym, subst, _∙_}
 use Rattle.eikonal.specs.Board.{time}
 use Rattle.front.specs.Seams.{border, near}
-use Rattle.front.specs.Board.{land, rule-at, tentative, noted}
-use Rattle.front.specs.State.{Held, Told, Announced, nobody, also}
+use Rattle.front.specs.Board.{land, rule-at, noted}
+use Rattle.front.specs.State.{Held, Announced, nobody}
 use Rattle.front.proofs.Theory.Reading.{cells-most, time-at}
 use Rattle.front.proofs.Theory.Telling.{told-held}
 use Rattle.front.proofs.Theory.Announcing.{announced-long, announced-rest, announced-more}

@@ -1,9 +1,9 @@
 -- `front::commit::store` meets its contract. Assumes nothing.
-use Prim.Native.Nat.{ℕ, _+_, _*_, _-_, _≤_, _<_}
+use Prim.Native.Nat.{ℕ, _-_, _≤_}
 use native.Mathlib.Omega.{arith}
 use native.Mathlib.Numerals.{add-one}
-use mathlib.Core.Path.{_≡_, refl, sym, subst, ap, _∙_}
-use lib.ListN.{length, getD, set, length-set}
+use mathlib.Core.Path.{_≡_, subst}
+use lib.ListN.{length, length-set}
 use Rattle.eikonal.specs.Board.{time}
 use Rattle.front.specs.Front.{Written}
 use Rattle.front.specs.Board.{tentative, noted}

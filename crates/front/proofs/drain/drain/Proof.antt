@@ -1,14 +1,12 @@
 -- `front::drain::drain` meets its contract: what holds after m cells is Mid-drain. Assumes nothing.
-use Prim.Native.Nat.{ℕ, _+_, _*_}
 use native.Mathlib.Omega.{arith}
 use native.Mathlib.Numerals.{add-one}
 use native.Mathlib.Nat.{mul-le-mul}
-use mathlib.Core.Path.{_≡_, subst, sym, _∙_}
 use Rattle.queue.specs.Tree.{keys}
 use Rattle.front.specs.Front.{weight}
-use Rattle.front.specs.Board.{tentative, Ground}
+use Rattle.front.specs.Board.{tentative}
 use Rattle.front.proofs.Theory.Reading.{cells-most}
-use Rattle.front.proofs.Theory.Draining.{Mid-drain, drain-begins, drain-room, drain-goes-on, drain-ends, took-held, took-long, took-weight}
+use Rattle.front.proofs.Theory.Draining.{Mid-drain, drain-begins, drain-room, drain-goes-on, drain-ends, took-held, took-weight}
 use Rattle.front.proofs.drain.drain.Statement.{statement}
 use Rattle.front.proofs.drain.drain.Tie as tie
 

@@ -1,6 +1,4 @@
 -- `front::seed::begin` meets its contract. Assumes nothing.
-use native.Mathlib.Omega.{arith}
-use mathlib.Core.Path.{_≡_}
 use Rattle.eikonal.specs.Refusals.{starts-of}
 use Rattle.front.proofs.Theory.Seeding.{starts-on}
 use Rattle.front.proofs.Theory.Beginning.{begun}

@@ -1,5 +1,4 @@
 -- `front::seed::seed` meets its contract: the starts passed are placed. Assumes nothing.
-use mathlib.Core.Path.{_≡_}
 use Prim.Native.Nat.{_≤_, _-_}
 use native.Mathlib.Omega.{arith}
 use native.Mathlib.Numerals.{add-one}

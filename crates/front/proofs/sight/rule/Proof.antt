@@ -1,5 +1,4 @@
 -- `front::sight::rule` meets its contract. Assumes nothing.
-use mathlib.Core.Path.{_∙_}
 use native.Mathlib.Omega.{arith}
 use Rattle.eikonal.specs.Board.{slowness}
 use Rattle.front.proofs.Theory.Reading.{left-fits, right-fits, above-fits, below-fits, cells-most, slow-long, site-on, rule-read}

@@ -1,5 +1,5 @@
 -- `front::spread::inner` meets its contract. Assumes nothing.
-use mathlib.Core.Path.{_≡_, ap, ap₂, _∙_}
+use mathlib.Core.Path.{ap, ap₂, _∙_}
 use Prim.Native.Nat.{min}
 use lib.Dec.{eqb}
 use Rattle.front.specs.Seams.{inside}

@@ -1,13 +1,12 @@
 -- `front::spread::tell` meets its contract. Assumes nothing.
-use Prim.Native.Nat.{_+_, _-_, _*_}
+use Prim.Native.Nat.{_-_, _*_}
 use native.Mathlib.Omega.{arith}
 use native.Mathlib.Nat.{div-mul-le-self}
-use mathlib.Core.Path.{_≡_, ap}
+use mathlib.Core.Path.{ap}
 use Rattle.front.specs.Board.{rule-at}
 use Rattle.front.proofs.Theory.Reading.{cells-most}
 use Rattle.front.proofs.Theory.Relaxing.{site, near-told}
 use Rattle.front.proofs.Theory.Telling.{touched-held, told-long}
-use borrow.Author.Needs.{needs}
 use Rattle.front.proofs.spread.tell.Statement.{statement}
 use Rattle.front.proofs.spread.tell.Tie as tie
 

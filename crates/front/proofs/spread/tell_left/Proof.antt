@@ -1,6 +1,6 @@
 -- `front::spread::tell_left` meets its contract. Assumes nothing.
-use mathlib.Core.Path.{_≡_, sym, _∙_}
-use Prim.Native.Nat.{_+_, _-_}
+use mathlib.Core.Path.{sym, _∙_}
+use Prim.Native.Nat.{_-_}
 use native.Mathlib.Omega.{arith}
 use Rattle.front.specs.Seams.{seam}
 use Rattle.front.proofs.Theory.Reading.{site-on, cells-most}

@@ -1,8 +1,8 @@
 -- `front::spread::tell_others` meets its contract. Assumes nothing.
-use Prim.Native.Nat.{_+_, _-_, _*_}
+use Prim.Native.Nat.{_-_, _*_}
 use native.Mathlib.Omega.{arith}
 use native.Mathlib.Nat.{div-mul-le-self}
-use mathlib.Core.Path.{_≡_, ap, sym, _∙_}
+use mathlib.Core.Path.{ap, sym, _∙_}
 use borrow.Author.Tests.{eqb-true}
 use Rattle.front.specs.Board.{rule-at}
 use Rattle.front.proofs.Theory.Reading.{cells-most}

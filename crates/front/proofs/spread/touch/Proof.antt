@@ -1,10 +1,10 @@
 -- `front::spread::touch` meets its contract. Assumes nothing.
 use native.Mathlib.Omega.{arith}
-use mathlib.Core.Path.{_≡_, refl}
+use mathlib.Core.Path.{refl}
 use mathlib.Core.Logic.{inl, inr}
 use Rattle.eikonal.specs.Board.{slowness}
 use Rattle.eikonal.specs.Tiles.{counts-as}
-use Rattle.front.specs.Board.{land, rule-at, tentative}
+use Rattle.front.specs.Board.{land, tentative}
 use Rattle.front.specs.State.{stays}
 use Rattle.front.proofs.Theory.Sight.{gives-wall}
 use Rattle.front.proofs.Theory.Reading.{site-on, cells-most, slow-long}

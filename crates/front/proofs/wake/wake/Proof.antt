@@ -1,6 +1,6 @@
 -- `front::wake::wake` meets its contract: the rows before `row` have heard. Assumes nothing.
 use mathlib.Core.Path.{_≡_}
-use Prim.Native.Nat.{_+_, _-_, _*_, _≤_}
+use Prim.Native.Nat.{_-_, _*_, _≤_}
 use native.Mathlib.Omega.{arith}
 use native.Mathlib.Numerals.{add-one}
 use Rattle.front.specs.Board.{rule-at}

@@ -1,5 +1,5 @@
 -- `record_marches::begun::march_begun` meets its contract. Assumes nothing.
-use mathlib.Core.Path.{_≡_, refl, sym, subst}
+use mathlib.Core.Path.{refl, sym, subst}
 use Prim.Native.Nat.{_≤_}
 use Rattle.eikonal.specs.Ledger.{answer}
 use Rattle.front.specs.declared.Shape.{Shape}

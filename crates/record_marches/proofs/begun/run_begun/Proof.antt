@@ -1,5 +1,5 @@
 -- `record_marches::begun::run_begun` meets its contract. Assumes nothing.
-use mathlib.Core.Path.{_≡_, refl, sym, subst}
+use mathlib.Core.Path.{refl, sym, subst}
 use Rattle.eikonal.specs.Ledger.{answer}
 use Rattle.front.specs.declared.Shape.{Shape}
 use Rattle.engine.specs.Calls.{Seated, Runs-through}
