@@ -24,6 +24,8 @@
  *   turn      so many ticks of play, 1 to 65,535 ("ticks per turn"), counted from turn 0.
  *   scenario  a file that stores a board, its ticks per turn and its starts. A run of the file is a first cell, a
  *             length and the slowness of so many cells from there on; the ground is the slowness of all other cells.
+ *   tablet    what players hold. It plays scenarios by one call, for boards with sides to 32.
+ *   rings     a program beside the library that prints the turns of a scenario, for boards with sides to 32.
  *
  * Assumed of the caller: a pointer and a length describe a list that is there and aligned for its type; a list that is
  * lent for writing overlaps no other list of the call. The pointer of an empty list may be anything that is not null.

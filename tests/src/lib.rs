@@ -23,6 +23,7 @@
 //! | `ffi` | the engine's C names, one module to a family, so that a test links what it calls |
 //! | `declared` | the C interface as the header, the source and Rust code state it |
 //! | `programs` | programs that are compiled and run |
+//! | `pages` | the blocks and tables of pages in Markdown |
 //! | `stacks` | threads with small stacks, and how much of a stack a call takes |
 
 pub mod board;
@@ -36,6 +37,7 @@ pub mod generate;
 pub mod leap;
 pub mod lent;
 pub mod march;
+pub mod pages;
 pub mod programs;
 pub mod random;
 pub mod rule;

@@ -3,27 +3,13 @@
 
 use second_solver::board::Board;
 use second_solver::declared::{files, read, repository};
+use second_solver::pages::{blocks, rows};
 use second_solver::programs::{run, told};
 use second_solver::scenario::{judge, Held};
 use std::collections::BTreeMap;
 use std::fs;
 use std::path::PathBuf;
 use std::process::Command;
-
-/// The fenced blocks of a page: the word behind the opening fence, and the lines.
-fn blocks(page: &str) -> Vec<(String, String)> {
-    let (mut found, mut inside) = (Vec::new(), None);
-    for line in page.lines() {
-        match (line.strip_prefix("```"), inside.take()) {
-            (Some(word), None) => inside = Some((word.to_string(), String::new())),
-            (Some(_), Some(block)) => found.push(block),
-            (None, Some((word, text))) => inside = Some((word, text + line + "\n")),
-            (None, None) => {}
-        }
-    }
-    assert_eq!(inside, None, "a block that does not end");
-    found
-}
 
 /// A file that a block is to be saved as: its first line names it in a comment.
 fn saved_as(block: &str) -> Option<PathBuf> {
@@ -84,15 +70,14 @@ fn every_snippet_of_the_readme_runs_as_pasted() {
     assert_eq!(tree(), before, "files outside of target/");
 }
 
-/// The rows `| offset | bytes | ..` of the tables of a page, with bytes in hex.
+/// The rows of a page's tables that begin with an offset and bytes in hex.
 fn rows_of_bytes(page: &str) -> Vec<(usize, Vec<u8>)> {
-    let rows = page.lines().filter_map(|line| {
-        let mut cells = line.strip_prefix('|')?.split('|').map(str::trim);
-        let offset = cells.next()?.parse().ok()?;
-        let hex = cells.next()?.strip_prefix('`')?.strip_suffix('`')?;
-        Some((offset, hex.split(' ').map(|two| u8::from_str_radix(two, 16).expect("a byte in hex")).collect()))
-    });
-    rows.collect()
+    let byte = |hex: &str| u8::from_str_radix(hex, 16).expect("a byte in hex");
+    let offset_and_bytes = |row: Vec<&str>| {
+        let hex = row[1].strip_prefix('`')?.strip_suffix('`')?;
+        Some((row[0].parse().ok()?, hex.split(' ').map(byte).collect()))
+    };
+    rows(page).into_iter().filter_map(offset_and_bytes).collect()
 }
 
 /// The first table is the file examples/three-by-three.scenario; the second is what follows the head where there are

@@ -1,6 +1,7 @@
 //! `install.sh`, and a C program that finds what it installs by pkg-config.
 
 use second_solver::declared::{read, repository};
+use second_solver::pages::blocks;
 use second_solver::programs::{empty_folder, printed, run, told};
 use std::fs;
 use std::path::{Path, PathBuf};
@@ -8,13 +9,10 @@ use std::process::{Command, Output};
 
 const FILES: [&str; 3] = ["include/murgolab.h", "lib/libmurgolab.a", "lib/pkgconfig/murgolab.pc"];
 
-/// The README's C example: from the header's include to the end of `main`.
+/// The README's C example.
 fn readme_example() -> String {
-    let readme = read("README.md");
-    let is_include = |line: &str| line.trim_start().starts_with("#include") && line.contains("murgolab.h");
-    let lines: Vec<&str> = readme.lines().skip_while(|line| !is_include(line)).collect();
-    let end = lines.iter().position(|line| line.trim_end() == "}" || *line == "    }").expect("an example's end");
-    lines[..=end].iter().map(|line| format!("{}\n", line)).collect()
+    let example = blocks(&read("README.md")).into_iter().find(|(word, _)| word == "c");
+    example.expect("an example in C").1
 }
 
 fn folder(test: &str) -> PathBuf {

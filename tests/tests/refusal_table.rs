@@ -1,7 +1,9 @@
-//! The refusal table stands in the header, in the README, in the wrapper and in the words of the examples. The header's
-//! is the one that the others are held to: numbers, names where they are given, and words.
+//! The refusal table stands in the header, in the README, in the wrapper and in the words of the examples, and the
+//! reader's part of it on the scenario page. The header's is the one that the others are held to: numbers, names where
+//! they are given, and words.
 
 use second_solver::declared::{folded, read, refusals, repository, Refusal};
+use second_solver::pages::{rows, section};
 use second_solver::programs::printed;
 use std::process::Command;
 
@@ -22,17 +24,24 @@ fn the_header_has_a_name_and_words_for_every_number_from_0() {
     }
 }
 
-/// Rows `| number | words |`.
+/// The rows `| number | words |` of a page's section.
+fn numbered_in(page: &str, name: &str) -> Vec<(u32, String)> {
+    let page = read(page);
+    let number_and_words = |row: Vec<&str>| Some((row[0].parse().ok()?, folded(row[1])));
+    rows(section(&page, name)).into_iter().filter_map(number_and_words).collect()
+}
+
 #[test]
 fn the_readme_has_the_same_table() {
-    let readme = read("README.md");
-    let section = readme.split("\n## ").find(|section| section.starts_with("Refusal numbers")).expect("the section");
-    let cells = section.lines().map(|line| line.split('|').map(str::trim).collect::<Vec<_>>());
-    let rows = cells.filter_map(|row| match row[..] {
-        ["", number, words, ""] => Some((number.parse().ok()?, folded(words))),
-        _ => None,
-    });
-    assert_eq!(rows.collect::<Vec<(u32, String)>>(), numbered());
+    assert_eq!(numbered_in("README.md", "Refusal numbers"), numbered());
+}
+
+/// The scenario page has those that the reader gives, in the order in which it looks for them.
+#[test]
+fn the_scenario_page_has_the_same_words() {
+    let table = numbered_in("docs/SCENARIO.md", "What is refused");
+    assert_eq!(table.iter().map(|line| line.0).collect::<Vec<_>>(), [1, 2, 3, 5, 6, 7, 8, 9, 14]);
+    assert!(table.iter().all(|line| numbered().contains(line)), "{:?}", table);
 }
 
 /// The name of a refusal in Rust: `FileLength` for `MURGOLAB_FILE_LENGTH`.

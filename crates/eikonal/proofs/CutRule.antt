@@ -6,14 +6,13 @@ use Prim.Native.Nat.{ℕ, suc, _≤_, _<_, min}
 use native.Mathlib.Omega.{arith}
 use lib.ListN.{length}
 use lib.Seq.{ext-getD}
-use Rattle.eikonal.specs.Board.{Board, never, largest, size, met, time, cut, marched}
+use Rattle.eikonal.specs.Board.{Board, never, largest, size, met, time, cut}
 use Rattle.eikonal.specs.Tiles.{tiled, solved-in-tiles, round}
 use Rattle.eikonal.specs.Inner.Good.{Good}
 use Rattle.eikonal.specs.Inner.Clip.{clip}
 use Rattle.eikonal.proofs.Levels.{order, Agree, Causal, one-fixed}
 use Rattle.eikonal.proofs.Clip.{clip-never, clip-agree, clip-low, clip-same, clip-most, cut-time, cut-length}
 use Rattle.eikonal.proofs.Passes.{Look, Sound, rule, rule-on, rule-off, rule-causal, solved-by, solved-length, solved-fixed, time-off}
-use Rattle.eikonal.proofs.Solution.{plain, plain-sound, solved-plain}
 use Rattle.eikonal.proofs.Ghosts.{tiled-sound}
 
 module _ (b : Board) (look : Look) (sound : Sound look) (g : Good b) (m : ℕ) (low : m < never) where
@@ -63,13 +62,6 @@ module _ (b : Board) (look : Look) (sound : Sound look) (g : Good b) (m : ℕ) (
             clip-most m (rule b look (time ts) c) (omega arith),
             clip-most m (rule b look (time (cut m (solved-by b look))) c) (omega arith),
           )
-
--- TIMES THAT MEET THE RULE UP TO THE HORIZON ARE THE MARCH
-pub march-by-rule : (b : Board) → Good b → (h : ℕ) → h ≤ largest → (ts : List ℕ) → length ts ≡ size b
-    → ((c : ℕ) → c < size b → time ts c ≡ clip h (met b c (time ts))) → ts ≡ marched b h
-unfolding marched
-march-by-rule b g h k ts l meets =
-    rw (solved-plain b) (cut-by-rule b plain plain-sound g h (omega arith) ts l meets)
 
 -- TIMES THAT MEET THE TILED RULE UP TO THE BOUND ARE THE ROUND
 pub round-by-rule : (b : Board) → Good b → (tw th m : ℕ) → m ≤ largest → (stored ts : List ℕ) → length ts ≡ size b

@@ -1,5 +1,6 @@
 -- THE PROMISES, gathered: each statement of specs/Promise.antt with its proof. Assumes nothing.
-use Rattle.eikonal.specs.Promise.{Local-least, Diagonal-step, One-solution, Times-below, Never-past-horizon, Never-unjoined, Round-is-solution, Run-is-march, Rounds-least, Few-rounds, Order-free, Run-order-free, Run-is-rounds, Every-list, Lists-keep}
+use Rattle.eikonal.specs.Promise.{Local-least, Diagonal-step, One-solution, Times-below, Never-past-horizon, Never-unjoined}
+use Rattle.eikonal.specs.Promise.{Round-is-solution, Run-is-march, Rounds-least, Few-rounds, Order-free, Run-order-free, Run-is-rounds, Every-list, Lists-keep}
 use Rattle.eikonal.proofs.LocalRule as local-rule
 use Rattle.eikonal.proofs.Solution as solution
 use Rattle.eikonal.proofs.Never as never

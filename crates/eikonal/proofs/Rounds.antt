@@ -12,7 +12,8 @@ use lib.ListN.{length, length-replicate}
 use lib.Seq.{ext-getD}
 use borrow.Author.Tests.{leb-true, eqb-true, le-leb}
 use Rattle.eikonal.specs.Board.{Board, never, largest, size, slowness, time, solved, least-from, marched, reached, all-never}
-use Rattle.eikonal.specs.Tiles.{tile-of, counts-as, tiled, Meets-in-tiles, solved-in-tiles, round, altered, after-rounds, last-round, rounds, rounds-from, up}
+use Rattle.eikonal.specs.Tiles.{tile-of, counts-as, tiled, Meets-in-tiles, solved-in-tiles, round, altered}
+use Rattle.eikonal.specs.Tiles.{after-rounds, last-round, rounds, rounds-from, up}
 use Rattle.eikonal.specs.Promise.{Round-is-solution, Run-is-march, Rounds-least, Few-rounds}
 use Rattle.eikonal.specs.Inner.Good.{Good}
 use Rattle.eikonal.specs.Inner.Clip.{clip}

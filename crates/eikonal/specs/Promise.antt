@@ -61,7 +61,7 @@ Never-unjoined =
     (b : Board) (c : ℕ) → board-good b ≡ true → c < size b →
     (time (solved b) c ≡ never → Joined b c → ⊥) × ((Joined b c → ⊥) → time (solved b) c ≡ never)
 
--- ---- THE THIRD CONDITION: just one set of times meets the rule in tiles, and a round is its cut
+-- ---- THE THIRD CONDITION: just one set of times meets the rule in tiles, the one whose cut a round is by definition
 unfoldable pub Round-is-solution : Type 0
 Round-is-solution =
     (b : Board) (tw th : ℕ) (stored : List ℕ) → board-good b ≡ true →

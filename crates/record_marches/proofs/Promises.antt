@@ -9,7 +9,8 @@ use Rattle.eikonal.specs.Promise.{Step, by-march, by-run, by-round, Steps, done
 use Rattle.eikonal.specs.declared.Reply.{Reply}
 use Rattle.eikonal.proofs.Promises as eikonal
 use Rattle.records.specs.Records.{cells-of, begins-of}
-use Rattle.record_marches.specs.Promise.{Same-march, Same-round, Same-run, joined, Lists-are-records, Any-step, over-lists, record-march, record-run, record-round, Any-steps, Every-mixed-list, Third-condition}
+use Rattle.record_marches.specs.Promise.{Same-march, Same-round, Same-run, joined, Lists-are-records}
+use Rattle.record_marches.specs.Promise.{Any-step, over-lists, record-march, record-run, record-round, Any-steps, Every-mixed-list, Third-condition}
 use Rattle.record_marches.specs.Promise as p
 
 -- two answers to one call are one

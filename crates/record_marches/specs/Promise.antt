@@ -63,7 +63,7 @@ Every-mixed-list =
 pub record Third-condition : Type 0 where
   -- every list of marches, tile runs and rounds, refused ones too, over records and over plain lists, is the ledger's
   pub every-mixed-list : Every-mixed-list
-  -- a round is the cut of the one set of times that meets the rule in tiles
+  -- just one set of times meets the rule in tiles, the one whose cut a round is by definition
   pub round-is-solution : Round-is-solution
   -- a tile run comes to the march, at its first round that can be the last, and soon
   pub run-is-march : Run-is-march

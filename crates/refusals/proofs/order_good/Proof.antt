@@ -31,7 +31,8 @@ returns : tie.Need-returns
 returns c =
     let at = c .before in
     let a = at .before .before .before .args in
-    order-uneven (a .width) (a .height) (a .across) (a .down) (a .order .now) _ _ (at .before .tiles-along .ensures) (at .tiles-along2 .ensures) (λ e. omega arith)
+    order-uneven (a .width) (a .height) (a .across) (a .down) (a .order .now) _ _
+    (at .before .tiles-along .ensures) (at .tiles-along2 .ensures) (λ e. omega arith)
 
 all-there-requires : tie.Need-all-there-requires
 all-there-requires c κs = search needs
@@ -40,7 +41,8 @@ returns-2 : tie.Need-returns-2
 returns-2 c =
     let at = c .before .before in
     let a = at .before .before .before .args in
-    order-even (a .width) (a .height) (a .across) (a .down) (a .order .now) _ _ (at .before .tiles-along .ensures) (at .tiles-along2 .ensures) (omega arith) _ (c .all-there .ensures)
+    order-even (a .width) (a .height) (a .across) (a .down) (a .order .now) _ _
+    (at .before .tiles-along .ensures) (at .tiles-along2 .ensures) (omega arith) _ (c .all-there .ensures)
 
 pub order-good-spec : {M : Type 1} → statement M
 order-good-spec =

@@ -198,11 +198,6 @@ all-members (suc n) xs v e l = elim (ℕ-discrete v n) [
   | no q ↦ all-members n xs v (and-true (member n xs) (all-there n xs) e .1) (omega (arith, q))
 ]
 
--- an order is good by the board's sides alone
-pub order-sides : (b d : Board) (tw th : ℕ) (xs : List ℕ) → b .wide ≡ d .wide → b .high ≡ d .high → order-good b tw th xs ≡ order-good d tw th xs
-unfolding order-good tile-count
-order-sides b d tw th xs e f = rw (e, f)
-
 -- THE ROUND: a good order has every cell's tile, so when all are written all is final
 module _ {s : Shape} {old work : List ℕ} (r : Room s old work) (xs : List ℕ) (good : order-good (land s []) (s .across) (s .down) xs ≡ true) where
   every-tile : (c : ℕ) → c < s .cells → member (tile-in s c) xs ≡ true

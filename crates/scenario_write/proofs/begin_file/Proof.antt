@@ -117,7 +117,8 @@ returns-4 c =
     let a = b .before .before .before .args in
     begins-done (a .width) (a .height) (a .ticks) (a .ground) (a .slow .now) (a .cells) (a .begins) (a .judged) (a .out .now)
     (b .given-refusal .result) (b .given-refusal .ensures) _ (i .if1 .left) (r .before .if2 .left) (16 + 10 * r .count-runs .result + 8 * a .cells)
-    (ap (λ u. 16 + 10 * u + 8 * a .cells) (r .count-runs .ensures)) (omega (arith, s .if3 .left)) (λ k. record { number = 0; count = 16 + 10 * r .count-runs .result + 8 * a .cells }) _
+    (ap (λ u. 16 + 10 * u + 8 * a .cells) (r .count-runs .ensures)) (omega (arith, s .if3 .left))
+    (λ k. record { number = 0; count = 16 + 10 * r .count-runs .result + 8 * a .cells }) _
     (part-entered _ (f .write-front .last .0) _ (a .out .now) (f .write-front .ensures)
     (front-length (a .width) (a .height) (a .ticks) (a .ground) (a .slow .now) (a .cells) ∙ ap (λ u. 16 + 10 * u) (sym (r .count-runs .ensures))))
 

@@ -62,7 +62,9 @@ returns c xs fit stands =
     let p = c .before .before .before .before .before .before .before .before .before .before .before .before .before .before .before .before .before .before .before .before .before .before in
     let a = p .args in
     let all = never-times (a .shape) (a .slow .now) xs (a .times .now) (a .work .now) fit _ (c .before .before .before .before .before .before .before .before .before .before .before .before .before .before .before .before .before .fill .ensures) in
-    run-through (a .shape) (a .slow .now) xs (a .times .now) (a .work .now) fit stands _ all (a .stride) (a .horizon) (p .pre .1) (p .pre .2) (p .pre .3) _ _ _ _ _ (omega arith) (c .before .before .before .before .before .before .before .before .run .ensures xs (fit .good) (run-start (a .shape) (a .slow .now) xs (a .times .now) (a .work .now) fit stands _ all (a .stride) (a .horizon))) (c .before .before .fill2 .ensures)
+    let starts = run-start (a .shape) (a .slow .now) xs (a .times .now) (a .work .now) fit stands _ all (a .stride) (a .horizon) in
+    run-through (a .shape) (a .slow .now) xs (a .times .now) (a .work .now) fit stands _ all (a .stride) (a .horizon) (p .pre .1) (p .pre .2) (p .pre .3)
+    _ _ _ _ _ (omega arith) (c .before .before .before .before .before .before .before .before .run .ensures xs (fit .good) starts) (c .before .before .fill2 .ensures)
 
 pub tile-run-spec : {M : Type 1} → statement M
 tile-run-spec =
