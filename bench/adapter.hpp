@@ -5,8 +5,11 @@
 
 constexpr uint32_t horizon = 300000000, ticks = 10, ground = 4095;
 
+// What a call answers that a commit, or its calls.hpp, does not have; no count is as large.
+constexpr uint32_t absent = UINT32_MAX;
+
 // A board lent to a commit's calls, with lists of its own; tiles are squares of the given side. A call of a later
-// commit is added with a body that says that it is not there, so that older adapters still fit.
+// commit is added with a body that answers `absent`, so that older adapters still fit.
 struct Lent {
     virtual ~Lent() = default;
     virtual uint32_t march() = 0;                                // the cells reached
@@ -17,6 +20,8 @@ struct Lent {
     virtual uint32_t read() = 0;                                 // the file that was written last: its starts
     virtual uint32_t tablet(uint32_t side, uint32_t stride) = 0; // over that file: the rounds
     virtual const std::vector<uint32_t> &times() const = 0;
+    // so many times D of each slowness from `first` on and below `end`: the answers' sum
+    virtual uint32_t diagonals(uint32_t, uint32_t, uint32_t) { return absent; }
 };
 
 // adapter.cpp, compiled with a commit's calls.hpp and header. The board must outlive what is lent.
@@ -36,6 +41,14 @@ constexpr Row rows[] = {
     {"1x1", [](Lent &l) { return l.run(1, 65536); }},
     {"round", [](Lent &l) { return l.round(8); }},
 };
+
+// D of a slowness to 255, which is kept, and of one above, which is worked out; as many calls of both, on no board.
+constexpr Row steps[] = {
+    {"D to 255", [](Lent &l) { return l.diagonals(0, 256, 240); }},
+    {"D above", [](Lent &l) { return l.diagonals(256, 4096, 16); }},
+};
+constexpr uint32_t steps_calls = 240 * 256;
+static_assert(steps_calls == 16 * 3840);
 
 // The board of the longest scenario file: a run and a start to each cell, as neighbours differ and none is ground.
 inline yardstick::Board longest() {

@@ -27,14 +27,24 @@ int main(int, char **argv) {
     const int runs = std::atoi(argv[1]);
     std::deque<Both> boards;
     std::deque<Line> lines;
+    // each is played once on both, untimed; what the other commit does not have is left out
+    const auto add = [&](const Both &on, const Row &row) {
+        row.play(*on.lent[0]);
+        if (row.play(*on.lent[1]) != absent)
+            lines.push_back({on, row, {}});
+        else
+            std::printf("%s: bench/calls.hpp of %s does not have it\n", row.name, argv[2]);
+    };
     for (const auto &b : yardstick::boards()) {
         boards.emplace_back(b);
-        for (const Row &row : rows) lines.push_back({boards.back(), row, {}});
+        for (const Row &row : rows) add(boards.back(), row);
     }
-    lines.push_back({boards[1], {"local rule", [](Lent &l) { return l.rule(); }}, {}});
+    add(boards[1], {"local rule", [](Lent &l) { return l.rule(); }});
+    boards.emplace_back(yardstick::Board{"no board", 1, 1, {1}, {}, {}});
+    for (const Row &row : steps) add(boards.back(), row);
     boards.emplace_back(longest());
-    lines.push_back({boards.back(), {"write", [](Lent &l) { return l.write(), 0u; }}, {}});
-    lines.push_back({boards.back(), {"read", [](Lent &l) { return l.read(); }}, {}});
+    add(boards.back(), {"write", [](Lent &l) { return l.write(), 0u; }});
+    add(boards.back(), {"read", [](Lent &l) { return l.read(); }});
 
     for (int k = 0; k < runs; k++)
         for (Line &line : lines) {

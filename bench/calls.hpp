@@ -62,6 +62,12 @@ public:
         return r / 256;
     }
     const std::vector<uint32_t> &times() const override { return times_; }
+    uint32_t diagonals(uint32_t first, uint32_t end, uint32_t passes) override {
+        uint32_t sum = 0;
+        for (uint32_t k = 0; k < passes; k++)
+            for (uint32_t s = first; s < end; s++) sum += accepted(murgolab_diagonal(s));
+        return sum;
+    }
 };
 
 } // namespace

@@ -22,7 +22,7 @@ int main(int, char **argv) {
     constexpr size_t calls = std::size(rows);
     std::vector<std::vector<Took>> took(boards.size(), std::vector<Took>(calls));
     std::vector<Took> yard(boards.size());
-    Took rule;
+    Took rule, step[std::size(steps)];
     std::vector<std::unique_ptr<Lent>> lent;
     for (const auto &b : boards) lent.emplace_back(this_tree(b));
     yardstick::FastMarching fast;
@@ -33,6 +33,7 @@ int main(int, char **argv) {
             for (size_t m = 0; m < calls; m++) took[i][m].push_back(micros([&] { rows[m].play(*lent[i]); }));
         }
         rule.push_back(micros([&] { sink = lent[1]->rule(); }));
+        for (size_t m = 0; m < std::size(steps); m++) step[m].push_back(micros([&] { sink = steps[m].play(*lent[0]); }));
     }
     std::printf("%d interleaved runs, medians; 256 x 256 cells, horizon %u; times and work not cleared between calls\n",
         runs, horizon);
@@ -45,7 +46,10 @@ int main(int, char **argv) {
         for (size_t m = 1; m < calls; m++) std::printf(" %9.2f", ratio(took[i][m], march));
         std::printf("\n");
     }
-    std::printf("local rule on b: %.1f ns a call\n\n", 1000 * median(rule) / (254 * 256));
+    std::printf("local rule on b: %.1f ns a call\n", 1000 * median(rule) / (254 * 256));
+    for (size_t m = 0; m < std::size(steps); m++)
+        std::printf("%s: %.1f ns a call\n", steps[m].name, 1000 * median(step[m]) / steps_calls);
+    std::printf("\n");
 
     std::printf("far corner later than in real numbers; 256 x 256 cells of one slowness, start cell 0 at 0\n");
     std::printf("%-20s %12s\n", "slowness", "by (%)");

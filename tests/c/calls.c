@@ -361,6 +361,8 @@ static void numbers(void)
     answers("local rule of never", murgolab_local_rule(10, n, n, 300000001, n), 0, n);
     answers("local rule of a wall", murgolab_local_rule(0, 0, 0, 0, 0), 0, n);
     answers("local rule of 4,096", murgolab_local_rule(4096, 0, 0, 0, 0), 5, 0);
+    answers("D of 255", murgolab_diagonal(255), 0, 181);
+    answers("D of 256", murgolab_diagonal(256), 0, 182);
     answers("D of 4,095", murgolab_diagonal(4095), 0, 2896);
     answers("D of 4,096", murgolab_diagonal(4096), 5, 0);
     answers("turn of 29", murgolab_turn(29, 10), 0, 2);

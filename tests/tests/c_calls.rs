@@ -1,6 +1,6 @@
 //! The header's calls from C, in a program that is compiled with every warning an error.
 
-use second_solver::declared::{header, read, repository};
+use second_solver::declared::{header, read};
 use second_solver::programs::{compiled, empty_folder, printed, valgrind};
 use std::path::PathBuf;
 use std::process::Command;
@@ -32,28 +32,5 @@ fn every_call_of_the_header_is_called_from_c() {
     let source = read(SOURCE);
     for name in header().functions.keys() {
         assert!(source.contains(&format!("{}(", name)), "{} is not called", name);
-    }
-}
-
-/// So no call can allocate, keep anything between two calls or meet another thread's: the archive has code and
-/// constants alone, and calls nobody but the two that copy and fill memory.
-#[test]
-fn the_archive_has_no_variables_and_calls_no_allocator() {
-    let mut nm = Command::new("nm");
-    let lines = printed(nm.arg("--format=posix").arg(repository().join("target/staticlib/libmurgolab.a")), &[]);
-    // `libmurgolab.a[murgolab.o]:`, then a name and a kind a line
-    let symbols: Vec<[&str; 2]> = lines
-        .lines()
-        .filter(|line| !line.ends_with(':'))
-        .map(|line| [0, 1].map(|word| line.split_whitespace().nth(word).unwrap_or_else(|| panic!("{}", line))))
-        .collect();
-    assert!(symbols.contains(&["murgolab_march", "T"]), "{}", lines);
-    for [name, kind] in symbols {
-        let fine = match kind {
-            "T" | "t" | "R" | "r" => true,
-            "U" => ["memcpy", "memset"].contains(&name),
-            _ => false,
-        };
-        assert!(fine, "{} of kind {}", name, kind);
     }
 }

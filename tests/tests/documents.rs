@@ -111,9 +111,12 @@ fn the_scenario_page_has_the_bytes_of_its_files() {
 #[test]
 fn no_line_of_a_page_is_longer_than_120_characters() {
     let pages = ["README.md", "CONTRIBUTING.md", "docs/SCENARIO.md", "examples/README.md", "include/murgolab.h"];
-    for page in pages {
-        for (place, line) in read(page).lines().enumerate() {
-            assert!(line.chars().count() <= 120, "{}:{}: {}", page, place + 1, line);
+    let notes = fs::read_dir(repository().join("docs/landings")).expect("the notes of landings");
+    let notes: Vec<PathBuf> = notes.map(|note| note.expect("a note").path()).collect();
+    assert!(!notes.is_empty());
+    for page in pages.map(|page| repository().join(page)).iter().chain(&notes) {
+        for (place, line) in fs::read_to_string(page).expect("a page").lines().enumerate() {
+            assert!(line.chars().count() <= 120, "{}:{}: {}", page.display(), place + 1, line);
         }
     }
 }

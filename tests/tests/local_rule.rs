@@ -112,7 +112,14 @@ fn diagonal_is_the_least_step_for_every_slowness() {
         let d = got.count;
         assert!(2 * d * d >= s * s && (d == 0 || 2 * (d - 1) * (d - 1) < s * s), "D({}) is {}", s, d);
     }
-    assert_eq!([diagonal(0).count, diagonal(7).count, diagonal(4_095).count], [0, 5, 2_896]);
+    assert_eq!([0, 7, 4_095].map(|s| diagonal(s).count), [0, 5, 2_896]);
+}
+
+/// D is kept up to 255 and worked out above: by hand, on both sides of that bound.
+#[test]
+fn diagonal_goes_on_where_its_table_ends() {
+    // 2 × 181² = 65,522 is at least 255² = 65,025 and below 256² = 65,536; 2 × 182² = 66,248
+    assert_eq!([254, 255, 256, 257].map(|s| diagonal(s).count), [180, 181, 182, 182]);
 }
 
 /// Where a = b the local rule adds D.

@@ -154,7 +154,8 @@ fn number_cases() -> Vec<Case> {
         Case::new("murgolab_local_rule", String::new(), || {
             one(local_rule(4_095, [LARGEST, NEVER, LARGEST - 7, NEVER]))
         }),
-        Case::new("murgolab_diagonal", String::new(), || one(diagonal(4_095))),
+        Case::new("murgolab_diagonal", "kept".to_string(), || one(diagonal(255))),
+        Case::new("murgolab_diagonal", "worked out".to_string(), || one(diagonal(4_095))),
         Case::new("murgolab_turn", String::new(), || one(turn(LARGEST, 1))),
     ]
 }

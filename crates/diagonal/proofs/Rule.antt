@@ -1,9 +1,10 @@
--- D as a table: one test over a list, which antt computes, shows that the list holds D at each place. Assumes nothing.
+-- D two ways: one test over a list, which antt computes, shows that the list holds D at each place; and the root of the
+-- local rule is D where both sides come at once. Assumes nothing.
 use mathlib.Core.Path.{_≡_}
 use mathlib.Core.Bool.{Bool, true, _&&_}
 use mathlib.Core.List.{List, [], _∷_}
 use mathlib.Core.Logic.{_⊎_, inl, inr}
-use Prim.Native.Nat.{ℕ, zero, suc, _+_, _*_, _<_, _≤_}
+use Prim.Native.Nat.{ℕ, zero, suc, _+_, _*_, _-_, _<_, _≤_}
 use native.Mathlib.Omega.{arith}
 use native.Mathlib.Nat.{mul-le-mul, add-zero, zero-add, add-suc, suc-add, le-of-suc-le-suc}
 use lib.Dec.{leb, ltb}
@@ -24,36 +25,32 @@ unfoldable pub all-right : (s : ℕ) → List ℕ → Bool
 all-right s [] = true
 all-right s (x ∷ xs) = right s x && all-right (suc s) xs
 
-parts : (s x : ℕ) → right s (suc x) ≡ true → (s * s ≤ 2 * (suc x * suc x)) × (2 * (x * x) < s * s)
-unfolding right
-parts s x t =
-    let both = and-true (leb (s * s) (2 * (suc x * suc x))) (ltb (2 * (x * x)) (s * s)) t in
-    (leb-true _ _ (both .0), ltb-true _ _ (both .1))
-
-passes : (s x : ℕ) → right s x ≡ true → s * s ≤ 2 * (x * x)
-unfolding right
-passes s zero t = leb-true (s * s) 0 t
-passes s (suc x) t = parts s x t .0
-
--- what passes is no less
-first : (s x d : ℕ) → right s x ≡ true → s * s ≤ 2 * (d * d) → x ≤ d
-first s zero d t h = omega arith
-first s (suc x) d t h = go (order d (suc x)) (parts s x t .1)
-  where
-    go : (d < suc x) ⊎ (suc x ≤ d) → 2 * (x * x) < s * s → suc x ≤ d
-    go (inl l) k = let low : d ≤ x = omega arith in absurd (omega (arith, mul-le-mul low low))
-    go (inr l) k = l
-
-right-is : (s x : ℕ) → right s x ≡ true → x ≡ diagonal s
+-- a number that passes is D if what passes is no less
+is-least : (s x : ℕ) → s * s ≤ 2 * (x * x) → ((d : ℕ) → s * s ≤ 2 * (d * d) → x ≤ d) → x ≡ diagonal s
 unfolding diagonal square
-right-is s x t =
+is-least s x p no-less =
     let l = least s 0 (λ d. leb (square s) (2 * square d)) in
     let whole = le-leb (s * s) (2 * ((0 + s) * (0 + s))) (omega arith) in
     omega (
       arith,
-      first s x (diagonal s) t (leb-true _ _ (l .found whole)),
-      least-bound l x (omega arith) (le-leb (s * s) (2 * (x * x)) (passes s x t)),
+      no-less (diagonal s) (leb-true _ _ (l .found whole)),
+      least-bound l x (omega arith) (le-leb (s * s) (2 * (x * x)) p),
     )
+
+-- a number that passes, and of which one less does not, is D
+first-is : (s x : ℕ) → s * s ≤ 2 * (suc x * suc x) → 2 * (x * x) < s * s → suc x ≡ diagonal s
+first-is s x p fails = is-least s (suc x) p (λ d h. go d h (order d (suc x)))
+  where
+    go : (d : ℕ) → s * s ≤ 2 * (d * d) → (d < suc x) ⊎ (suc x ≤ d) → suc x ≤ d
+    go d h (inl l) = let low : d ≤ x = omega arith in absurd (omega (arith, mul-le-mul low low))
+    go d h (inr l) = l
+
+right-is : (s x : ℕ) → right s x ≡ true → x ≡ diagonal s
+unfolding right
+right-is s zero t = is-least s 0 (leb-true (s * s) 0 t) (λ d h. omega arith)
+right-is s (suc x) t =
+    let both = and-true (leb (s * s) (2 * (suc x * suc x))) (ltb (2 * (x * x)) (s * s)) t in
+    first-is s x (leb-true _ _ (both .0)) (ltb-true _ _ (both .1))
 
 from : (s : ℕ) (xs : List ℕ) → all-right s xs ≡ true → (k : ℕ) → k < length xs → getD xs k 0 ≡ diagonal (s + k)
 unfolding all-right
@@ -64,3 +61,12 @@ from s (x ∷ xs) t (suc k) h =
 
 pub table-is : (xs : List ℕ) → all-right 0 xs ≡ true → (s : ℕ) → s < length xs → getD xs s 0 ≡ diagonal s
 table-is xs t s h = rw zero-add at (from 0 xs t s h)
+
+-- what meets the contract of the root is D where the sides are 0 apart
+pub root-is :
+    (s apart x : ℕ) → 1 ≤ x → s * s ≤ (apart + x) * (apart + x) + x * x
+    → (apart + x - 1) * (apart + x - 1) + (x - 1) * (x - 1) < s * s → apart ≡ 0 → x ≡ diagonal s
+root-is s apart zero h p q e = absurd (omega arith)
+root-is s apart (suc x) h p q e =
+    let one : suc x - 1 ≡ x = omega arith in
+    first-is s x (omega (arith, rw (e, zero-add) at p)) (omega (arith, rw (e, zero-add, one) at q))

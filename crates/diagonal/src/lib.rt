@@ -8,11 +8,22 @@ ghost use Rattle.eikonal.specs.Entry.{Diagonal-says};
 use eikonal::Reply;
 
 // An index copies the table to the stack: no inner loop calls this.
-fn step(slowness: u32) -> u16
-    requires { ⌜ slowness ≤ 4095 ⌝ }
+fn kept(slowness: u32) -> u16
+    requires { ⌜ slowness ≤ 255 ⌝ }
     ensures { λ r. ⌜ r ≡ diagonal slowness ⌝ }
 {
     table::STEPS[slowness as usize]
+}
+
+// Kept up to 255; above, the root of the local rule for sides that are 0 ticks apart.
+fn step(slowness: u32) -> u32
+    requires { ⌜ slowness ≤ 4095 ⌝ }
+    ensures { λ r. ⌜ r ≡ diagonal slowness ⌝ }
+{
+    if slowness <= 255 {
+        return kept(slowness) as u32;
+    }
+    eikonal::arrival::least_past(slowness, 0)
 }
 
 // The step, or 5 for a slowness above 4,095.
@@ -24,6 +35,6 @@ pub fn diagonal(slowness: u32) -> Reply
     }
     Reply {
         number: 0,
-        count: step(slowness) as u32,
+        count: step(slowness),
     }
 }

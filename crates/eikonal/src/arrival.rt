@@ -48,7 +48,7 @@ fn enough(slowness: u32, apart: u32) -> u32
 
 // The least ticks that are enough, by Newton's steps down: nearly always one division or none. What is over is counted 2 too
 // high: a step still leaves enough, and where none is left one tick fewer is too few.
-fn least_past(slowness: u32, apart: u32) -> u32
+pub fn least_past(slowness: u32, apart: u32) -> u32
     requires { ⌜ (apart < slowness) × (slowness ≤ 4095) ⌝ }
     ensures { λ r. ⌜ (1 ≤ r) × (slowness * slowness ≤ (apart + r) * (apart + r) + r * r)
         × ((apart + r - 1) * (apart + r - 1) + (r - 1) * (r - 1) < slowness * slowness) ⌝ }

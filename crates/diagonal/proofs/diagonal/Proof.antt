@@ -18,12 +18,9 @@ returns c = simp (lt-ltb 4095 (c .before .before .args .slowness) (omega arith))
 step-requires : tie.Need-step-requires
 step-requires c κs = search needs
 
-cast-t4 : tie.Need-cast-t4
-cast-t4 c = search needs
-
 returns-2 : tie.Need-returns-2
 unfolding Diagonal-says answered slowness-refusal answer
 returns-2 c = simp (le-ltb 4095 (c .before .before .args .slowness) (omega arith)) (ap (answer 0) (c .step .ensures))
 
 pub diagonal-spec : {M : Type 1} → statement M
-diagonal-spec = tie.close (tie.spec refused-requires returns step-requires cast-t4 returns-2)
+diagonal-spec = tie.close (tie.spec refused-requires returns step-requires returns-2)

@@ -1,30 +1,24 @@
--- `diagonal::step` meets its contract: one test over the whole table, which antt computes. Assumes nothing.
-use mathlib.Core.Path.{refl}
-use mathlib.Core.List.{List}
-use Prim.Native.Nat.{ℕ, _<_}
+-- `diagonal::step` meets its contract. Assumes nothing.
 use native.Mathlib.Omega.{arith}
 use borrow.Author.Needs.{needs}
-use borrow.Table.Row.{get}
-use Rattle.diagonal.proofs.Rule.{right, all-right, table-is}
+use Rattle.diagonal.proofs.Rule.{root-is}
 use Rattle.diagonal.proofs.step.Statement.{statement}
 use Rattle.diagonal.proofs.step.Tie as tie
-use Rattle.diagonal.proofs.step.Lts as lts
 
-mul-result : tie.Need-mul-result
-mul-result c = search needs
+kept-requires : tie.Need-kept-requires
+kept-requires c κs = omega arith
 
-array-read-result : tie.Need-array-read-result
-array-read-result c = search needs
-
--- the table, in the local that it is copied to
-abbrev table : tie.Start → List ℕ
-table c = get 2 (lts.T2 .locals) (lts.m1 _ _ (c .args) (c .blocks))
+cast-result : tie.Need-cast-result
+cast-result c = search needs
 
 returns : tie.Need-returns
-unfolding right all-right
-returns c =
-    let h : c .args .slowness < 4096 = omega arith in
-    table-is (table c) refl (c .args .slowness) h
+returns c = search needs
+
+least-past-requires : tie.Need-least-past-requires
+least-past-requires c κs = search needs
+
+returns-2 : tie.Need-returns-2
+returns-2 c = let e = c .least-past .ensures in root-is _ _ _ (e .0) (e .1) (e .2) (omega arith)
 
 pub step-spec : {M : Type 1} → statement M
-step-spec = tie.close (tie.spec mul-result array-read-result returns)
+step-spec = tie.close (tie.spec kept-requires cast-result returns least-past-requires returns-2)
