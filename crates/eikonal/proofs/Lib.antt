@@ -1,5 +1,6 @@
 pub mod Levels
 pub mod Least
+pub mod Up
 pub mod Axes
 pub mod Local
 pub mod LocalRule

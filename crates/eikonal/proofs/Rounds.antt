@@ -6,7 +6,7 @@ use mathlib.Core.List.{List}
 use mathlib.Core.Logic.{_⊎_, inl, inr}
 use Prim.Native.Nat.{ℕ, zero, suc, _+_, _*_, _-_, _≤_, _<_, min, max}
 use native.Mathlib.Omega.{arith}
-use native.Mathlib.Nat.{add-suc, mul-le-mul-right, mod-lt, div-add-mod'}
+use native.Mathlib.Nat.{add-suc, mul-le-mul-right}
 use lib.Dec.{leb, eqb}
 use lib.ListN.{length, length-replicate}
 use lib.Seq.{ext-getD}
@@ -19,6 +19,7 @@ use Rattle.eikonal.specs.Inner.Good.{Good}
 use Rattle.eikonal.specs.Inner.Clip.{clip}
 use Rattle.eikonal.proofs.Levels.{order, lower, Agree, Under, worked, count, count-most, settles}
 use Rattle.eikonal.proofs.Least.{Least, least, least-bound}
+use Rattle.eikonal.proofs.Up.{up-covers}
 use Rattle.eikonal.proofs.Clip.{clip-agree, clip-under, clip-late, clip-low, clip-same, clip-most, cut-time, cut-length, reached-count}
 use Rattle.eikonal.proofs.Altered.{altered-none, altered-same}
 use Rattle.eikonal.proofs.Good.{good, and-true}
@@ -27,11 +28,6 @@ use Rattle.eikonal.proofs.Rule.{along, down, met-is}
 use Rattle.eikonal.proofs.Passes.{never-time, rule, rule-on, rule-off, rule-under, levels, time-off, solved-by, solved-is, solved-length, solved-fixed}
 use Rattle.eikonal.proofs.Solution.{plain, plain-sound, solved-plain, one-solution-by}
 use Rattle.eikonal.proofs.Ghosts.{tiled-sound, stored, stored-agree, stored-late}
-
--- the rounds up to the horizon cover it
-up-covers : (h s : ℕ) → 1 ≤ s → h ≤ up h s * s
-unfolding up
-up-covers h s l = omega (arith, div-add-mod' (h + s - 1) s, mod-lt (h + s - 1) l)
 
 -- ---- ONE ROUND on a good board, beside the march
 module _ (b : Board) (g : Good b) (tw th : ℕ) where
