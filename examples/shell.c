@@ -52,7 +52,7 @@ static void print_turns(const murgolab_scenario *s, const uint32_t *times)
     for (row = 0; row < s->height; row++)
         for (column = 0; column < s->width; column++) {
             char behind = column + 1 < s->width ? ' ' : '\n';
-            uint32_t turn = murgolab_turn(times[row * s->width + column], s->ticks).count;
+            uint32_t turn = murgolab_turn(times[row * s->width + column], s->ticks).turn;
             if (turn == MURGOLAB_NEVER)
                 printf("-%c", behind);
             else

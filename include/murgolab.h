@@ -21,7 +21,8 @@
  *   stride    of a tile run, 1 to 300,000,000: by how much the bound rises from one round to the next.
  *   horizon   of a march or a tile run, 0 to 300,000,000: times past it are left out, as never. A cell is reached if
  *             its time is at most the horizon.
- *   turn      so many ticks of play, 1 to 65,535 ("ticks per turn"), counted from turn 0.
+ *   turn      so many ticks of play, 1 to 65,535 ("ticks per turn"). Turn n closes at the time n * ticks; the token of
+ *             a cell goes down when the turn of its time closes, the first that closes then or later. Time 0 is turn 0.
  *   scenario  a file that stores a board, its ticks per turn and its starts. A run of the file is a first cell, a
  *             length and the slowness of so many cells from there on; the ground is the slowness of all other cells.
  *   tablet    what players hold. It plays scenarios by one call, for boards with sides to 32.
@@ -80,6 +81,9 @@ typedef struct { uint32_t cell, time; } murgolab_start;
 /* number 0: accepted, and count is the answer; else number is the refusal, and count is 0 */
 typedef struct { uint32_t number, count; } murgolab_reply;
 
+/* number 0: accepted, and turn and to_go are the answer; else number is the refusal, and both are 0 */
+typedef struct { uint32_t number, turn, to_go; } murgolab_turn_reply;
+
 /* number 0: accepted, and the rest is what the file says; else number is the refusal, and the rest is 0 */
 typedef struct { uint32_t number, width, height, ticks, ground, starts; } murgolab_scenario;
 
@@ -93,10 +97,11 @@ murgolab_reply murgolab_local_rule(uint32_t slowness, uint32_t left, uint32_t ri
  * Refused by 5 only. */
 murgolab_reply murgolab_diagonal(uint32_t slowness);
 
-/* The turn of a time: time / ticks, the fraction dropped, where ticks is the ticks per turn; never for never, and for a
- * time above 300,000,000. The count is the turn.
+/* The turn of a time: time / ticks, rounded up, where ticks is the ticks per turn; and the ticks still to go until that
+ * turn closes: turn * ticks - time, always below ticks. For never, and for a time above 300,000,000, turn is never and
+ * to_go is 0.
  * Refused by 3 only. */
-murgolab_reply murgolab_turn(uint32_t time, uint32_t ticks);
+murgolab_turn_reply murgolab_turn(uint32_t time, uint32_t ticks);
 
 /* The next calls take a board and its starts: slow has N slownesses. times is N long. work is at least 4N long, and may
  * hold anything; after an accepted call its first 4N entries are 0 and later ones as they were. */

@@ -354,6 +354,12 @@ static void answers(const char *what, murgolab_reply r, uint32_t number, uint32_
     check(r.number == number && r.count == count, "another answer");
 }
 
+static void turns(const char *what, murgolab_turn_reply r, uint32_t number, uint32_t turn, uint32_t to_go)
+{
+    sprintf(now, "%s", what);
+    check(r.number == number && r.turn == turn && r.to_go == to_go, "another answer");
+}
+
 static void numbers(void)
 {
     const uint32_t n = MURGOLAB_NEVER;
@@ -365,10 +371,11 @@ static void numbers(void)
     answers("D of 256", murgolab_diagonal(256), 0, 182);
     answers("D of 4,095", murgolab_diagonal(4095), 0, 2896);
     answers("D of 4,096", murgolab_diagonal(4096), 5, 0);
-    answers("turn of 29", murgolab_turn(29, 10), 0, 2);
-    answers("turn of never", murgolab_turn(n, 65535), 0, n);
-    answers("turn of 0 ticks", murgolab_turn(29, 0), 3, 0);
-    answers("turn of 65,536 ticks", murgolab_turn(29, 65536), 3, 0);
+    turns("turn of 28", murgolab_turn(28, 10), 0, 3, 2);
+    turns("turn of a turn's end", murgolab_turn(30, 10), 0, 3, 0);
+    turns("turn of never", murgolab_turn(n, 65535), 0, n, 0);
+    turns("turn of 0 ticks", murgolab_turn(29, 0), 3, 0, 0);
+    turns("turn of 65,536 ticks", murgolab_turn(29, 65536), 3, 0, 0);
 }
 
 int main(int count, char **arguments)

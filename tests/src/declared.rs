@@ -199,7 +199,16 @@ fn c_type(rust: &str) -> String {
         "u64" => "uint64_t".to_string(),
         "f32" => "float".to_string(),
         "usize" => "size_t".to_string(),
-        name => format!("murgolab_{}", name.to_lowercase()),
+        name => format!("murgolab{}", name.chars().map(lowered).collect::<String>()),
+    }
+}
+
+/// A capital begins a word: `TurnReply` is `_turn_reply`.
+fn lowered(sign: char) -> String {
+    if sign.is_uppercase() {
+        format!("_{}", sign.to_lowercase())
+    } else {
+        sign.to_string()
     }
 }
 

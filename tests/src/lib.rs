@@ -1,14 +1,14 @@
 //! A second solver for fronts on a tiled board.
 //!
-//! It is written from document 01, by the plainest means, and shares no code with the proved engine. The
-//! tests beside it (`tests/*.rs`) call the engine through its C names and compare, exactly: a slip of one
-//! program shows as a difference. What both share is a reading: both were written from the same page, and
-//! where it was misread in the same way both agree and are wrong. Against that stand the answers that
-//! document 01 works by hand (cells, boards, rounds, the lines of `rings`); they are typed into the tests.
+//! It is written from document 01 and the cards of document 02 that have landed, by the plainest means, and shares no
+//! code with the proved engine. The tests beside it (`tests/*.rs`) call the engine through its C names and compare,
+//! exactly: a slip of one program shows as a difference. What both share is a reading: both were written from the same
+//! pages, and where these were misread in the same way both agree and are wrong. Against that stand the answers that
+//! the pages work by hand (cells, boards, rounds, turns, the lines of `rings`); they are typed into the tests.
 //!
 //! | Module | Holds |
 //! |---|---|
-//! | `rule` | the local rule, D and turn numbers, by search |
+//! | `rule` | the local rule and D by search, turn numbers by quotient and remainder |
 //! | `board` | boards with plain start lists, and refusals 2, 4, 5, 7, 8, 9 |
 //! | `march` | the times of a whole board: by passes, and by an advancing front |
 //! | `tiles` | one round over tiles, and a tile run with every round worked out |
@@ -73,6 +73,25 @@ impl Reply {
 
     pub fn refused(number: u32) -> Reply {
         Reply { number, count: 0 }
+    }
+}
+
+/// What the call `turn` answers: number 0, the turn and the ticks to go until it closes, or a refusal's number and zeros.
+#[repr(C)]
+#[derive(Clone, Copy, Debug, PartialEq, Eq)]
+pub struct TurnReply {
+    pub number: u32,
+    pub turn: u32,
+    pub to_go: u32,
+}
+
+impl TurnReply {
+    pub fn accepted(turn: u32, to_go: u32) -> TurnReply {
+        TurnReply { number: 0, turn, to_go }
+    }
+
+    pub fn refused(number: u32) -> TurnReply {
+        TurnReply { number, turn: 0, to_go: 0 }
     }
 }
 

@@ -1,6 +1,6 @@
 //! The local rule, D and turn numbers.
 
-use crate::{Reply, LARGEST, NEVER, SLOWEST};
+use crate::{Reply, TurnReply, LARGEST, NEVER, SLOWEST};
 
 /// A time that is handed in counts as never above 300,000,000.
 pub fn counted(time: u32) -> u32 {
@@ -81,13 +81,17 @@ pub fn diagonal(s: u32) -> Reply {
     Reply::accepted(diagonal_step(s))
 }
 
-/// What the call `turn` answers; the turn of never is the never mark.
-pub fn turn(time: u32, ticks: u32) -> Reply {
+/// What the call `turn` answers. A time on a turn's end is of that turn and has nothing to go; any other is of the
+/// next turn to close. The turn of never is the never mark, with nothing to go.
+pub fn turn(time: u32, ticks: u32) -> TurnReply {
     if ticks == 0 || ticks > 65_535 {
-        return Reply::refused(3);
+        return TurnReply::refused(3);
     }
     if counted(time) == NEVER {
-        return Reply::accepted(NEVER);
+        return TurnReply::accepted(NEVER, 0);
     }
-    Reply::accepted(time / ticks)
+    match (time / ticks, time % ticks) {
+        (closed, 0) => TurnReply::accepted(closed, 0),
+        (closed, since) => TurnReply::accepted(closed + 1, ticks - since),
+    }
 }

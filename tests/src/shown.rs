@@ -63,7 +63,7 @@ pub fn turns(held: &Held, horizon: u32) -> String {
 }
 
 fn field(time: u32, ticks: u32) -> String {
-    match turn(time, ticks).count {
+    match turn(time, ticks).turn {
         NEVER => "-".to_string(),
         number => number.to_string(),
     }

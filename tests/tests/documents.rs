@@ -1,5 +1,5 @@
 //! The pages that people read first: every snippet of the README runs as pasted, and the scenario page has the bytes
-//! of a real file.
+//! and the lines of a real file.
 
 use second_solver::board::Board;
 use second_solver::declared::{files, read, repository};
@@ -106,6 +106,13 @@ fn the_scenario_page_has_the_bytes_of_its_files() {
     let slow = vec![10, 10, 10, 10, 0, 30, 30, 10, 10];
     let board = Board { width: 3, height: 3, slow, cells: vec![0], begins: vec![0] };
     assert_eq!(judge(&second, None), Ok(Held { ticks: 10, ground: 10, board }));
+}
+
+/// The scenario page shows one block: what `rings` prints for the file of its first table.
+#[test]
+fn the_scenario_page_has_the_lines_of_its_file() {
+    let shown = blocks(&read("docs/SCENARIO.md"));
+    assert_eq!(shown, [("text".to_string(), read("examples/three-by-three.rings"))]);
 }
 
 #[test]

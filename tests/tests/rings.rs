@@ -1,14 +1,16 @@
 //! The program `rings` beside the second solver, on the examples and on seeded files, damaged ones among them.
 
-use second_solver::board::Board;
+use second_solver::board::{Board, Grid};
 use second_solver::compare::Tally;
 use second_solver::declared::{files, repository};
 use second_solver::drafts::{spoil_byte, Draft, FILE_CAUSES};
 use second_solver::generate;
+use second_solver::march::{cut, solved};
 use second_solver::programs::{run, told};
 use second_solver::random::Random;
 use second_solver::scenario::{file_of, Held};
-use second_solver::shown::{self, SHOWN_FILE, SHOWN_SIDE};
+use second_solver::shown::{self, SHOWN_FILE, SHOWN_HORIZON, SHOWN_SIDE};
+use second_solver::NEVER;
 use std::fs;
 use std::io::Write;
 use std::process::{Command, Stdio};
@@ -43,15 +45,21 @@ fn random_scenario(r: &mut Random, longest: u32) -> Held {
     generate::scenario(r, board)
 }
 
+/// Cells that are reached as a turn closes, later than at 0, with ticks to go, and never are among them.
 #[test]
 fn good_files_are_shown_as_the_second_solver_shows_them() {
+    let mut seen = [0; 3];
     for seed in 65_000_000..65_002_500 {
         let mut r = Random::new(seed);
         let longest = if r.once_in(8) { SHOWN_SIDE } else { 12 };
         let held = random_scenario(&mut r, longest);
         let lines = shown(&file_of(&held.board, held.ticks, held.ground), seed);
         assert!(!lines.starts_with("refused"), "seed {}: {}", seed, lines);
+        for time in cut(solved(&Grid::new(&held.board)), SHOWN_HORIZON).into_iter().filter(|time| *time > 0) {
+            seen[if time == NEVER { 2 } else { usize::from(time % held.ticks != 0) }] += 1;
+        }
     }
+    assert!(seen.iter().all(|cells| *cells > 5_000), "on a turn's end, with ticks to go, never: {:?}", seen);
 }
 
 /// One file in four is whole.

@@ -129,7 +129,7 @@ fn a_file_that_is_written_holds_the_board() {
 fn rings_of_the_three_by_three_board_are_those_worked_by_hand() {
     let file = file_of(&three_by_three(), 10, 10);
     assert_eq!(file.len(), 24);
-    assert_eq!(rings(&file), "3 3 10\n0 1 2\n1 1 2\n2 2 3\n");
+    assert_eq!(rings(&file), "3 3 10\n0 1 2\n1 2 3\n2 3 4\n");
     assert_eq!(rings(&file[..23]), "refused 1\n");
 }
 

@@ -156,7 +156,10 @@ fn number_cases() -> Vec<Case> {
         }),
         Case::new("murgolab_diagonal", "kept".to_string(), || one(diagonal(255))),
         Case::new("murgolab_diagonal", "worked out".to_string(), || one(diagonal(4_095))),
-        Case::new("murgolab_turn", String::new(), || one(turn(LARGEST, 1))),
+        Case::new("murgolab_turn", String::new(), || {
+            let reply = turn(LARGEST, 7);
+            one(Reply { number: reply.number, count: reply.turn + reply.to_go })
+        }),
     ]
 }
 

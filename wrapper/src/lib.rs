@@ -15,7 +15,10 @@
 //! // the same tile by tile, in rounds
 //! let run = tile_run(&board, Tiles { across: 2, down: 2 }, 20, 34)?;
 //! assert_eq!((run.times, run.rounds), (front.times, 4));
-//! assert_eq!(turn(34, 10)?, 3);
+//!
+//! // the last cell's token goes down when turn 4 of 10 ticks closes, 6 ticks later
+//! let last = turn(34, 10)?;
+//! assert_eq!((last.turn, last.to_go), (4, 6));
 //! # Ok::<(), murgolab::Refusal>(())
 //! ```
 //!
@@ -106,11 +109,15 @@ fn are_sides(one: u32, other: u32) -> bool {
     good.contains(&one) && good.contains(&other)
 }
 
-fn answer(reply: sys::Reply) -> Result<u32, Refusal> {
-    match Refusal::of(reply.number) {
-        None => Ok(reply.count),
+fn accepted(number: u32) -> Result<(), Refusal> {
+    match Refusal::of(number) {
+        None => Ok(()),
         Some(refusal) => Err(refusal),
     }
+}
+
+fn answer(reply: sys::Reply) -> Result<u32, Refusal> {
+    accepted(reply.number).map(|()| reply.count)
 }
 
 /// The time at a cell from its neighbours' times: the least whole t, not below the earlier of a and b,
@@ -145,19 +152,34 @@ pub fn diagonal(slowness: u32) -> Result<u32, Refusal> {
     answer(unsafe { sys::murgolab_diagonal(slowness) })
 }
 
-/// The turn of a time, the fraction dropped; [`NEVER`] for never.
+/// The turn of a time. Later versions may give more.
+#[derive(Clone, Copy, Debug, PartialEq, Eq, Hash)]
+#[non_exhaustive]
+pub struct Turn {
+    /// The turn at whose end the token goes down; [`NEVER`] for never.
+    pub turn: u32,
+    /// The ticks still to go until then, fewer than a turn has; 0 for never.
+    pub to_go: u32,
+}
+
+/// The turn of a time: the time divided by the ticks per turn, rounded up, so that turn × ticks is the time and the
+/// ticks still to go. Times above 300,000,000 count as never.
 ///
 /// ```
 /// use murgolab::{turn, Refusal, NEVER};
-/// assert_eq!(turn(29, 10), Ok(2));
-/// assert_eq!(turn(NEVER, 10), Ok(NEVER));
-/// assert_eq!(turn(29, 0), Err(Refusal::Ticks));
+/// for (time, number, to_go) in [(28, 3, 2), (30, 3, 0), (31, 4, 9), (NEVER, NEVER, 0)] {
+///     let turn = turn(time, 10)?;
+///     assert_eq!((turn.turn, turn.to_go), (number, to_go));
+/// }
+/// assert_eq!(turn(28, 0), Err(Refusal::Ticks));
+/// # Ok::<(), Refusal>(())
 /// ```
 ///
 /// # Errors
 ///
 /// [`Ticks`](Refusal::Ticks) for ticks that are not 1 to 65,535.
-pub fn turn(time: u32, ticks: u32) -> Result<u32, Refusal> {
+pub fn turn(time: u32, ticks: u32) -> Result<Turn, Refusal> {
     // SAFETY: numbers alone
-    answer(unsafe { sys::murgolab_turn(time, ticks) })
+    let reply = unsafe { sys::murgolab_turn(time, ticks) };
+    accepted(reply.number).map(|()| Turn { turn: reply.turn, to_go: reply.to_go })
 }

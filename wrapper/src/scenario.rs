@@ -1,6 +1,6 @@
 //! Scenario files: reader, writer and the tablet's call.
 
-use crate::{answer, sys, Board, Refusal, Run, Start, Tiles, MOST_CELLS};
+use crate::{accepted, answer, sys, Board, Refusal, Run, Start, Tiles, MOST_CELLS};
 
 /// What a scenario file holds. Callers build it, so it is not `#[non_exhaustive]`: see [`Board`].
 #[derive(Clone, Debug, PartialEq, Eq, Hash)]
@@ -42,9 +42,7 @@ pub fn read_scenario(file: &[u8]) -> Result<Scenario, Refusal> {
             file.as_ptr(), file.len(), slow.as_mut_ptr(), slow.len(), starts.as_mut_ptr(), starts.len(),
         )
     };
-    if let Some(refusal) = Refusal::of(said.number) {
-        return Err(refusal);
-    }
+    accepted(said.number)?;
     let mut board = Board { width: said.width, height: said.height, slow, starts };
     board.slow.truncate(board.size());
     board.slow.shrink_to_fit();

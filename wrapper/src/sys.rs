@@ -9,6 +9,13 @@ pub struct Reply {
 }
 
 #[repr(C)]
+pub struct TurnReply {
+    pub number: u32,
+    pub turn: u32,
+    pub to_go: u32,
+}
+
+#[repr(C)]
 pub struct Scenario {
     pub number: u32,
     pub width: u32,
@@ -22,7 +29,7 @@ pub struct Scenario {
 extern "C" {
     pub fn murgolab_local_rule(slowness: u32, left: u32, right: u32, above: u32, below: u32) -> Reply;
     pub fn murgolab_diagonal(slowness: u32) -> Reply;
-    pub fn murgolab_turn(time: u32, ticks: u32) -> Reply;
+    pub fn murgolab_turn(time: u32, ticks: u32) -> TurnReply;
     pub fn murgolab_march(
         width: u32, height: u32, slow: *const u32, slow_len: usize, starts: *const Start, starts_len: usize,
         horizon: u32,

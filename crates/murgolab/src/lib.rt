@@ -1,12 +1,14 @@
 // What others call: the C interface that include/murgolab.h declares. A call with plain lists meets the contract of the function that it hands over to;
 // one with start records is a straight line of calls, of which few are lent the records.
 ghost use Rattle.eikonal.specs.Entry.{plain, Local-says, Diagonal-says, March-says, Round-says, Run-says};
-ghost use Rattle.scenario.specs.Calls.{Turn-says, Reads, Writes};
+ghost use Rattle.scenario.specs.Calls.{Reads, Writes};
+ghost use Rattle.scenario.specs.Turns.{Turn-says};
 ghost use Rattle.tablet.specs.Tablet.{Tablet-says};
 ghost use Rattle.records.specs.Records.{cells-of, begins-of};
 use eikonal::Reply;
 use records::Start;
 use scenario::Scenario;
+use scenario::TurnReply;
 
 #[no_mangle]
 pub extern "C" fn murgolab_local_rule(
@@ -109,7 +111,7 @@ pub extern "C" fn murgolab_tile_run_plain(
 }
 
 #[no_mangle]
-pub extern "C" fn murgolab_turn(time: u32, ticks: u32) -> Reply
+pub extern "C" fn murgolab_turn(time: u32, ticks: u32) -> TurnReply
     ensures { λ x. ⌜ Turn-says time ticks x ⌝ }
 {
     scenario::turn(time, ticks)

@@ -1,4 +1,5 @@
--- WHAT `rings` PRINTS ("The scenario file" and "Turned down" of document 01), byte for byte. Assumes nothing: these are definitions.
+-- WHAT `rings` PRINTS, byte for byte: "The scenario file" and "Turned down" of document 01, turns as Card 3 of document 02 has them.
+-- Assumes nothing: these are definitions.
 use mathlib.Core.Path.{_≡_}
 use mathlib.Core.Bool.{cond}
 use mathlib.Core.List.{List, [], _∷_, _++_}
@@ -7,11 +8,11 @@ use lib.Dec.{ltb, eqb}
 use lib.ListN.{length, take, drop}
 use Rattle.eikonal.specs.Board.{never, marched}
 use Rattle.scenario.specs.File.{width-in, height-in, ticks-in, held}
-use Rattle.scenario.specs.Calls.{turn-of}
+use Rattle.scenario.specs.Turns.{turn-of}
 use Rattle.tablet.specs.Small.{horizon, small-refusal}
 use Rattle.rings_lines.specs.Text.{decimal}
 
--- the turn of a time, `-` for never. 32 is a space, 10 a newline, 45 is `-`
+-- the turn of a time, rounded up, `-` for never. 32 is a space, 10 a newline, 45 is `-`
 unfoldable pub turn-text : (ticks time : ℕ) → List ℕ
 turn-text k t = cond (eqb (turn-of t k) never) (45 ∷ []) (decimal (turn-of t k))
 

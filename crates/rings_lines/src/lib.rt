@@ -35,7 +35,7 @@ fn put_turn(out: &mut [u8], at: usize, time: u32, ticks: u32, last: u8) -> usize
     ensures most { λ r. ⌜ r ≤ at + 11 ⌝ }
 {
     let reply = scenario::turn(time, ticks);
-    let turn = reply.count;
+    let turn = reply.turn;
     if turn == NEVER {
         out[at] = 45;
         out[at + 1] = last;

@@ -1,8 +1,9 @@
--- What is promised of the scenario file, proved. Assumes nothing.
-use Rattle.scenario.specs.Promise.{Accepted-is-file-of, One-file, File-of-is-accepted, Read-then-write, Write-then-read}
+-- What is promised of the scenario file and of turns, proved. Assumes nothing.
+use Rattle.scenario.specs.Promise.{Accepted-is-file-of, One-file, File-of-is-accepted, Read-then-write, Write-then-read, Turn-closes, One-turn}
 use Rattle.scenario.proofs.Accepted.{accepted-is-file-of, one-file}
 use Rattle.scenario.proofs.Written.{file-of-is-accepted}
 use Rattle.scenario.proofs.Composed.{read-then-write, write-then-read}
+use Rattle.scenario.proofs.Turns.{turn-closes, one-turn}
 
 pub record Promises : Type 0 where
   pub accepted : Accepted-is-file-of
@@ -10,6 +11,16 @@ pub record Promises : Type 0 where
   pub written : File-of-is-accepted
   pub read-write : Read-then-write
   pub write-read : Write-then-read
+  pub closes : Turn-closes
+  pub one-turn : One-turn
 
 pub promises : Promises
-promises = record { accepted = accepted-is-file-of; one = one-file; written = file-of-is-accepted; read-write = read-then-write; write-read = write-then-read }
+promises = record {
+  accepted = accepted-is-file-of;
+  one = one-file;
+  written = file-of-is-accepted;
+  read-write = read-then-write;
+  write-read = write-then-read;
+  closes = turn-closes;
+  one-turn = one-turn;
+}

@@ -4,10 +4,10 @@ use mathlib.Core.Bool.{true, false, _&&_, not}
 use mathlib.Core.List.{List, [], _++_, map, append-assoc, append-nil}
 use Prim.Native.Nat.{ℕ, _+_, _*_, _≤_, _<_}
 use native.Mathlib.Omega.{arith}
-use lib.Dec.{leb, eqb}
+use lib.Dec.{eqb}
 use lib.ListN.{length, drop, length-append}
 use lib.Seq.{drop-at, drop-drop}
-use borrow.Author.Tests.{eqb-true, leb-true, not-false}
+use borrow.Author.Tests.{eqb-true, not-false}
 use Rattle.eikonal.specs.Board.{Board, Start, size}
 use Rattle.eikonal.specs.Refusals.{side-good, any-above, starts-refusal, board-refusal}
 use Rattle.eikonal.proofs.Good.{and-true}
@@ -22,7 +22,7 @@ use Rattle.scenario.proofs.GoodRuns as GoodRuns
 use Rattle.scenario.proofs.GoodRuns.{runs-of-good, runs-of-above, runs-of-count}
 use Rattle.scenario.proofs.Painted.{painted-runs}
 use Rattle.scenario.proofs.Causes as Causes
-use Rattle.scenario.proofs.Causes.{accepts, Sound, sound, passed, rise-count, side-most, size-most}
+use Rattle.scenario.proofs.Causes.{accepts, Sound, sound, passed, rise-count, side-most, size-most, some-ticks}
 
 -- ---- a record comes back from its bytes
 pub run-length : (x : Run) → length (run-bytes x) ≡ 10
@@ -119,10 +119,6 @@ given b e =
     let r4 = passed (not (eqb (length (b .slow)) (size b))) 3 _ (r2 .1) in
     let r5 = passed (any-above 4095 (b .slow)) 4 _ (r4 .1) in
     record { wide = sides .0; high = sides .1; long = eqb-true (length (b .slow)) (size b) (not-false _ (r4 .0)); slows = r5 .0; starts = r5 .1 }
-
-ticks-most : (t : ℕ) → ticks-good t ≡ true → t ≤ 65535
-unfolding ticks-good
-ticks-most t e = leb-true t 65535 (and-true (leb 1 t) (leb t 65535) e .1)
 
 -- the file in two pieces: the numbers in front, and the rest
 pub in-front : (w h t g : ℕ) (ss : List ℕ) (xs : List Start)
@@ -225,6 +221,6 @@ pub file-of-is-accepted : File-of-is-accepted
 unfolding File-of-is-accepted body f rs
 file-of-is-accepted b t g file e tg gl q =
     let a = given b e in
-    let tl = ticks-most t tg in
+    let tl = some-ticks t tg .1 in
     rw (q ∙ in-front (b .wide) (b .high) t g (b .slow) (b .starts))
     (is-accepted b t g a tl gl tg, holds b t g a tl gl, holds-ticks b t g a tl gl, holds-ground b t g a tl gl)

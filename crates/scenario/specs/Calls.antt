@@ -1,26 +1,16 @@
--- What the reader, the writer and the turn answer, and what they leave in lent lists. Assumes nothing: these are definitions.
+-- What the reader and the writer answer, and what they leave in lent lists. Assumes nothing: these are definitions.
 use mathlib.Core.Path.{_≡_}
 use mathlib.Core.Bool.{Bool, _&&_, not, cond}
 use mathlib.Core.List.{List, _∷_, _++_, map}
-use Prim.Native.Nat.{ℕ, _*_, _/_, min}
+use Prim.Native.Nat.{ℕ, _*_, min}
 use lib.Dec.{ltb, leb, eqb}
 use lib.ListN.{length, drop}
-use Rattle.eikonal.specs.Board.{size, never, largest}
+use Rattle.eikonal.specs.Board.{size}
 use Rattle.eikonal.specs.Refusals.{or-else, any-above, starts-refusal, Plain, board, starts-of}
 use Rattle.eikonal.specs.Ledger.{answered}
 use Rattle.eikonal.specs.declared.Reply.{Reply}
 use Rattle.scenario.specs.File.{file-of, held, width-in, height-in, ticks-in, ground-in, start-count, starts-in, sides-good, ticks-good, file-refusal}
 use Rattle.scenario.specs.declared.Scenario.{Scenario}
-
--- TURN: the time divided by the ticks, the fraction dropped; never for never, and for a time above 300,000,000
-unfoldable pub turn-of : (time ticks : ℕ) → ℕ
-turn-of t k = cond (ltb largest t) never (t / k)
-
-unfoldable pub turn-refusal : (ticks : ℕ) → ℕ
-turn-refusal k = cond (not (ticks-good k)) 3 0
-
-unfoldable pub Turn-says : (time ticks : ℕ) → Reply → Type 0
-Turn-says t k x = x ≡ answered (turn-refusal k) (turn-of t k)
 
 -- a list that is lent to a call begins with what the call enters, and its later entries stay; a refused call leaves it as it was
 unfoldable pub filled : (refusal : ℕ) → (entered old : List ℕ) → List ℕ

@@ -1,10 +1,10 @@
--- What is promised of the scenario file. Each statement is a type; proofs/Promises.antt has their proofs. Assumes nothing: these are definitions.
+-- What is promised of the scenario file and of turns. Each statement is a type; proofs/Promises.antt has their proofs. Assumes nothing: these are definitions.
 use mathlib.Core.Path.{_≡_}
 use mathlib.Core.Bool.{true}
 use mathlib.Core.List.{List, _++_}
-use Prim.Native.Nat.{ℕ, _*_, _≤_}
+use Prim.Native.Nat.{ℕ, _+_, _*_, _≤_, _<_}
 use lib.ListN.{length, take, drop}
-use Rattle.eikonal.specs.Board.{Board}
+use Rattle.eikonal.specs.Board.{Board, largest}
 use Rattle.eikonal.specs.Refusals.{board-refusal}
 use Rattle.eikonal.specs.Ledger.{answer}
 use Rattle.eikonal.specs.Entry.{plain}
@@ -12,6 +12,7 @@ use Rattle.eikonal.specs.declared.Reply.{Reply}
 use Rattle.scenario.specs.Bytes.{Bytes}
 use Rattle.scenario.specs.File.{file-of, held, width-in, height-in, ticks-in, ground-in, ticks-good, file-refusal}
 use Rattle.scenario.specs.Calls.{Reads, Writes, scenario}
+use Rattle.scenario.specs.Turns.{turn-of, to-go}
 use Rattle.scenario.specs.declared.Scenario.{Scenario}
 
 -- EVERY ACCEPTED FILE is the file of what it holds
@@ -48,3 +49,12 @@ Write-then-read =
     Writes (plain w h slow cells begins) t g out out-now y → y .number ≡ 0 → Reads (take (y .count) out-now) s s-now c c-now b b-now x →
     length slow ≤ length s → length cells ≤ length c → length cells ≤ length b →
     (x ≡ scenario 0 w h t g (length cells)) × (s-now ≡ slow ++ drop (length slow) s) × (c-now ≡ cells ++ drop (length cells) c) × (b-now ≡ begins ++ drop (length begins) b)
+
+-- A TURN CLOSES at the time or less than a turn behind it: turn × ticks is exactly the time and the ticks to go
+unfoldable pub Turn-closes : Type 0
+Turn-closes = (t k : ℕ) → ticks-good k ≡ true → t ≤ largest → (turn-of t k * k ≡ t + to-go t k) × (to-go t k < k)
+
+-- no other turn does, and no other ticks to go
+unfoldable pub One-turn : Type 0
+One-turn =
+    (t k n g : ℕ) → ticks-good k ≡ true → t ≤ largest → n * k ≡ t + g → g < k → (n ≡ turn-of t k) × (g ≡ to-go t k)

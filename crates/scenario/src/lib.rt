@@ -4,8 +4,7 @@ pub mod runs;
 
 ghost use mathlib.Core.Path.{_≡_};
 ghost use Rattle.scenario.specs.File.{sides-good, ticks-good};
-ghost use Rattle.scenario.specs.Calls.{Turn-says};
-use eikonal::Reply;
+ghost use Rattle.scenario.specs.Turns.{turn-reply, Turn-says};
 use eikonal::refusals::side_good;
 
 // What a file holds besides its lists: number 0 and the rest, or a refusal's number and zeros.
@@ -17,6 +16,14 @@ pub struct Scenario {
     pub ticks: u32,
     pub ground: u32,
     pub starts: u32,
+}
+
+// The turn of a time, and the ticks still to go until it closes: number 0 and both, or 3 and zeros.
+#[repr(C)]
+pub struct TurnReply {
+    pub number: u32,
+    pub turn: u32,
+    pub to_go: u32,
 }
 
 // So many cells from an offset on, with one slowness.
@@ -46,21 +53,27 @@ pub fn ticks_good(ticks: u32) -> bool
     ticks <= 65535
 }
 
-// The turn of a time: never for never, and for a time above 300,000,000.
-pub fn turn(time: u32, ticks: u32) -> Reply
+fn turn_reply(number: u32, turn: u32, left: u32) -> TurnReply
+    ensures { λ x. ⌜ x ≡ turn-reply number turn left ⌝ }
+{
+    TurnReply {
+        number: number,
+        turn: turn,
+        to_go: left,
+    }
+}
+
+// The turn of a time, rounded up: a token goes down when it closes. Never, with nothing to go, for never, and for a time above
+// 300,000,000.
+pub fn turn(time: u32, ticks: u32) -> TurnReply
     ensures { λ x. ⌜ Turn-says time ticks x ⌝ }
 {
     if !ticks_good(ticks) {
-        return eikonal::refused(3);
+        return turn_reply(3, 0, 0);
     }
     if time > 300000000 {
-        return Reply {
-            number: 0,
-            count: NEVER,
-        };
+        return turn_reply(0, NEVER, 0);
     }
-    Reply {
-        number: 0,
-        count: time / ticks,
-    }
+    let turn = (time + ticks - 1) / ticks;
+    turn_reply(0, turn, turn * ticks - time)
 }

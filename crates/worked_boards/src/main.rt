@@ -1,4 +1,5 @@
-// Goes through the boards worked by hand in document 01 that are not starred: what each gives, and whether it is what the page says.
+// Goes through the boards worked by hand that are not starred, those of document 01 and the turns of Card 3 of document 02: what each gives, and
+// whether it is what the page says.
 use eikonal::Reply;
 use libc::STDOUT_FILENO;
 
@@ -169,6 +170,42 @@ fn starts() {
     march(b"start at 1,000,001: ", &[0u32], &[1000001u32], 8, 0, &zero);
 }
 
+fn tell_turn(name: &[u8], time: u32, turn: u32, to_go: u32) {
+    let reply = scenario::turn(time, 10);
+    let got = [reply.number, reply.turn, reply.to_go];
+    let want = [0, turn, to_go];
+    tell(name, &got, &want);
+}
+
+// Two cells of 3 by 3, slowness 10, start cell 0 at 0; a turn has 10 ticks.
+fn turns() {
+    let slow = [10u32; 9];
+    let mut times = [0u32; 9];
+    let mut work = [0u32; 36];
+    engine::calls::march(
+        3,
+        3,
+        &slow,
+        &[0u32],
+        &[0u32],
+        300000000,
+        &mut times,
+        &mut work,
+    );
+    tell_turn(
+        b"middle cell, refusal, turn and ticks to go: ",
+        times[4],
+        2,
+        2,
+    );
+    tell_turn(
+        b"last cell, refusal, turn and ticks to go: ",
+        times[8],
+        4,
+        6,
+    );
+}
+
 // 3 by 3, 10 ticks, ground 10, no runs, start cell 0 at 0.
 fn rings() {
     let file =
@@ -177,7 +214,7 @@ fn rings() {
     let n = rings_lines::rings_lines(file, &mut text);
     io::write_all(STDOUT_FILENO, b"rings:\n");
     io::write_all(STDOUT_FILENO, &text[..n]);
-    judge(check::same(&text[..n], b"3 3 10\n0 1 2\n1 1 2\n2 2 3\n"));
+    judge(check::same(&text[..n], b"3 3 10\n0 1 2\n1 2 3\n2 3 4\n"));
 }
 
 fn main() {
@@ -194,5 +231,6 @@ fn main() {
     side(b"1 by 256: ", 1, 256, 0, 256);
     side(b"257 by 1: ", 257, 1, 2, 0);
     side(b"0 by 256: ", 0, 256, 2, 0);
+    turns();
     rings();
 }

@@ -1,43 +1,72 @@
 -- `scenario::turn` meets its contract. Assumes nothing.
+use Prim.Native.Nat.{_≤_}
 use native.Mathlib.Omega.{arith}
-use lib.Dec.{leb}
 use borrow.Author.Needs.{needs}
-use borrow.Author.Tests.{lt-ltb, le-ltb, leb-true}
-use Rattle.eikonal.specs.Ledger.{answer, answered}
-use Rattle.eikonal.proofs.Good.{and-true}
-use Rattle.scenario.specs.File.{ticks-good}
-use Rattle.scenario.specs.Calls.{turn-of, turn-refusal, Turn-says}
-use Rattle.scenario.proofs.Causes.{holds, fails}
+use Rattle.eikonal.proofs.Up.{multiple-covers, multiple-below}
+use Rattle.scenario.proofs.Causes.{holds, fails, some-ticks}
+use Rattle.scenario.proofs.Turns.{says-refused, says-never, says-turn}
 use Rattle.scenario.proofs.turn.Statement.{statement}
 use Rattle.scenario.proofs.turn.Tie as tie
 
 ticks-good-requires : tie.Need-ticks-good-requires
 ticks-good-requires c κs = search needs
 
-refused-requires : tie.Need-refused-requires
-refused-requires c κs = search needs
+turn-reply-requires : tie.Need-turn-reply-requires
+turn-reply-requires c κs = search needs
 
 returns : tie.Need-returns
-unfolding Turn-says turn-refusal answered
-returns c = rw (fails (c .before .before .ticks-good .ensures) (c .before .if1 .taken)) (c .refused .ensures)
+returns c = says-refused _ _ _ (c .turn-reply .ensures) (fails (c .before .before .ticks-good .ensures) (c .before .if1 .taken))
+
+turn-reply-requires-2 : tie.Need-turn-reply-requires-2
+turn-reply-requires-2 c κs = search needs
 
 returns-2 : tie.Need-returns-2
-unfolding Turn-says turn-refusal turn-of answered answer
 returns-2 c =
-    let t = c .before .before .before .args .time in
-    rw (holds (c .before .before .ticks-good .ensures) (c .before .if1 .left), lt-ltb 300000000 t (omega arith))
+    let good = holds (c .before .before .before .ticks-good .ensures) (c .before .before .if1 .left) in
+    says-never _ _ _ _ _ (c .turn-reply2 .ensures) good (omega arith) (omega arith) (omega arith)
 
-div-t5 : tie.Need-div-t5
-unfolding ticks-good
-div-t5 c =
-    let k = c .before .before .before .args .ticks in
-    leb-true 1 k (and-true (leb 1 k) (leb k 65535) (holds (c .before .before .ticks-good .ensures) (c .before .if1 .left)) .0)
+-- the ticks, once they have passed
+some : (c : tie.Else2) → (1 ≤ c .before .before .before .args .ticks) × (c .before .before .before .args .ticks ≤ 65535)
+some c = some-ticks _ (holds (c .before .before .ticks-good .ensures) (c .before .if1 .left))
+
+add-turn : tie.Need-add-turn
+add-turn c = omega (arith, some c .1)
+
+sub-turn : tie.Need-sub-turn
+sub-turn c = omega (arith, some c .0)
+
+div-turn : tie.Need-div-turn
+div-turn c = some c .0
+
+mul-turn-reply : tie.Need-mul-turn-reply
+mul-turn-reply c = record { fits = multiple-below _ _ _ (omega (arith, some c .1)) }
+
+sub-turn-reply : tie.Need-sub-turn-reply
+sub-turn-reply c = multiple-covers _ _ _ (some c .0) (omega (arith, some c .0))
+
+turn-reply-requires-3 : tie.Need-turn-reply-requires-3
+turn-reply-requires-3 c κs = search needs
 
 returns-3 : tie.Need-returns-3
-unfolding Turn-says turn-refusal turn-of answered answer
 returns-3 c =
-    let t = c .before .before .before .args .time in
-    rw (holds (c .before .before .ticks-good .ensures) (c .before .if1 .left), le-ltb 300000000 t (omega arith))
+    let b = c .before in
+    let good = holds (b .before .before .ticks-good .ensures) (b .before .if1 .left) in
+    let k = some b .0 in
+    says-turn _ _ _ _ _ (c .turn-reply3 .ensures) good (omega arith) (omega (arith, k)) (omega (arith, k)) (omega arith)
 
 pub turn-spec : {M : Type 1} → statement M
-turn-spec = tie.close (tie.spec ticks-good-requires refused-requires returns returns-2 div-t5 returns-3)
+turn-spec =
+    tie.close
+    (tie.spec
+    ticks-good-requires
+    turn-reply-requires
+    returns
+    turn-reply-requires-2
+    returns-2
+    add-turn
+    sub-turn
+    div-turn
+    mul-turn-reply
+    sub-turn-reply
+    turn-reply-requires-3
+    returns-3)

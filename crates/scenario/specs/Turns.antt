@@ -1,0 +1,29 @@
+-- TURNS: tokens go down when a turn closes (Card 3 of document 02). Assumes nothing: these are definitions.
+use mathlib.Core.Path.{_≡_}
+use mathlib.Core.Bool.{not, cond}
+use Prim.Native.Nat.{ℕ, _*_, _-_}
+use lib.Dec.{ltb, eqb}
+use Rattle.eikonal.specs.Board.{never, largest}
+use Rattle.eikonal.specs.Tiles.{up}
+use Rattle.scenario.specs.File.{ticks-good}
+use Rattle.scenario.specs.declared.TurnReply.{TurnReply}
+
+-- the time divided by the ticks, rounded up; never for never, which a time above 300,000,000 counts as
+unfoldable pub turn-of : (time ticks : ℕ) → ℕ
+turn-of t k = cond (ltb largest t) never (up t k)
+
+-- the ticks still to go until that turn closes; never has none
+unfoldable pub to-go : (time ticks : ℕ) → ℕ
+to-go t k = cond (ltb largest t) 0 (turn-of t k * k - t)
+
+unfoldable pub turn-refusal : (ticks : ℕ) → ℕ
+turn-refusal k = cond (not (ticks-good k)) 3 0
+
+unfoldable pub turn-reply : (number turn to-go : ℕ) → TurnReply
+turn-reply n t g = record { number = n; turn = t; «to_go» = g }
+
+unfoldable pub turn-answer : (refusal time ticks : ℕ) → TurnReply
+turn-answer n t k = cond (eqb n 0) (turn-reply 0 (turn-of t k) (to-go t k)) (turn-reply n 0 0)
+
+unfoldable pub Turn-says : (time ticks : ℕ) → TurnReply → Type 0
+Turn-says t k x = x ≡ turn-answer (turn-refusal k) t k
