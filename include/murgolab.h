@@ -21,8 +21,9 @@
  *   stride    of a tile run, 1 to 300,000,000: by how much the bound rises from one round to the next.
  *   horizon   of a march or a tile run, 0 to 300,000,000: times past it are left out, as never. A cell is reached if
  *             its time is at most the horizon.
- *   turn      so many ticks of play, 1 to 65,535 ("ticks per turn"). Turn n closes at the time n * ticks; the token of
- *             a cell goes down when the turn of its time closes, the first that closes then or later. Time 0 is turn 0.
+ *   turn      so many ticks of play, 1 to 65,535 ("ticks per turn"). Turn n closes at the time n * ticks; then players
+ *             put tokens down on the cells that were reached in it. The turn of a time is the first that closes then or
+ *             later: turn 0 for time 0, turn 1 for 1 to ticks.
  *   scenario  a file that stores a board, its ticks per turn and its starts. A run of the file is a first cell, a
  *             length and the slowness of so many cells from there on; the ground is the slowness of all other cells.
  *   tablet    what players hold. It plays scenarios by one call, for boards with sides to 32.

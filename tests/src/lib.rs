@@ -76,7 +76,8 @@ impl Reply {
     }
 }
 
-/// What the call `turn` answers: number 0, the turn and the ticks to go until it closes, or a refusal's number and zeros.
+/// What the call `turn` answers: number 0, the turn and the ticks to go until it closes, or a refusal's number and
+/// zeros.
 #[repr(C)]
 #[derive(Clone, Copy, Debug, PartialEq, Eq)]
 pub struct TurnReply {

@@ -45,7 +45,7 @@ fn random_scenario(r: &mut Random, longest: u32) -> Held {
     generate::scenario(r, board)
 }
 
-/// Cells that are reached as a turn closes, later than at 0, with ticks to go, and never are among them.
+/// Among their cells are ones reached as a turn closes, those at 0 not counted, ones with ticks to go, and never ones.
 #[test]
 fn good_files_are_shown_as_the_second_solver_shows_them() {
     let mut seen = [0; 3];

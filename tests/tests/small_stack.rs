@@ -158,7 +158,7 @@ fn number_cases() -> Vec<Case> {
         Case::new("murgolab_diagonal", "worked out".to_string(), || one(diagonal(4_095))),
         Case::new("murgolab_turn", String::new(), || {
             let reply = turn(LARGEST, 7);
-            one(Reply { number: reply.number, count: reply.turn + reply.to_go })
+            one(Reply { number: reply.number, count: reply.turn })
         }),
     ]
 }

@@ -7,7 +7,7 @@ use second_solver::{TurnReply, LARGEST, NEVER};
 
 /// What the call answers is what the second solver does; and turn × ticks is the time and the ticks to go, which are
 /// fewer than a turn has.
-fn check(time: u32, ticks: u32) {
+fn check(time: u32, ticks: u32) -> TurnReply {
     let got = turn(time, ticks);
     assert_eq!(got, rule::turn(time, ticks), "time {}, ticks {}", time, ticks);
     if got.number == 0 && time <= LARGEST {
@@ -15,6 +15,7 @@ fn check(time: u32, ticks: u32) {
         assert_eq!(closes, u64::from(time) + u64::from(got.to_go), "time {}, ticks {}", time, ticks);
         assert!(got.to_go < ticks, "time {}, ticks {}: {:?}", time, ticks, got);
     }
+    got
 }
 
 /// The times of the three-by-three board, the first and the last of a turn, and the ends of what is a time.
@@ -38,8 +39,7 @@ fn every_time_of_a_long_game_has_the_turn_of_a_clock() {
     for ticks in [1, 2, 9, 10, 65_535] {
         let mut clock = TurnReply::accepted(0, 0);
         for time in 0..=200_000 {
-            check(time, ticks);
-            assert_eq!(turn(time, ticks), clock, "time {}, ticks {}", time, ticks);
+            assert_eq!(check(time, ticks), clock, "time {}, ticks {}", time, ticks);
             clock = match clock.to_go {
                 0 => TurnReply::accepted(clock.turn + 1, ticks - 1),
                 to_go => TurnReply::accepted(clock.turn, to_go - 1),
@@ -79,8 +79,7 @@ fn random_times_have_their_turns() {
     for _ in 0..1_000_000 {
         let time = if r.once_in(2) { r.any() } else { r.spread(LARGEST) };
         let ticks = if r.once_in(20) { r.any() } else { r.spread(65_535) };
-        check(time, ticks);
-        let got = turn(time, ticks);
+        let got = check(time, ticks);
         seen[if got.number != 0 { 0 } else { 1 + usize::from(got.turn == NEVER) }] += 1;
     }
     assert!(seen.iter().all(|count| *count > 10_000), "refused, in time, never: {:?}", seen);

@@ -16,7 +16,7 @@
 //! let run = tile_run(&board, Tiles { across: 2, down: 2 }, 20, 34)?;
 //! assert_eq!((run.times, run.rounds), (front.times, 4));
 //!
-//! // the last cell's token goes down when turn 4 of 10 ticks closes, 6 ticks later
+//! // the last cell is reached 6 ticks before turn 4, of 10 ticks, closes
 //! let last = turn(34, 10)?;
 //! assert_eq!((last.turn, last.to_go), (4, 6));
 //! # Ok::<(), murgolab::Refusal>(())
@@ -156,9 +156,9 @@ pub fn diagonal(slowness: u32) -> Result<u32, Refusal> {
 #[derive(Clone, Copy, Debug, PartialEq, Eq, Hash)]
 #[non_exhaustive]
 pub struct Turn {
-    /// The turn at whose end the token goes down; [`NEVER`] for never.
+    /// The first turn that closes at the time or later; [`NEVER`] for never.
     pub turn: u32,
-    /// The ticks still to go until then, fewer than a turn has; 0 for never.
+    /// The ticks still to go until it closes, fewer than a turn has; 0 for never.
     pub to_go: u32,
 }
 

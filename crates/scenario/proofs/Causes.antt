@@ -47,13 +47,14 @@ or-else-zero a b e = elim (ℕ-discrete a 0) [
   | no q ↦ absurd (q (sym (or-else-first a b q) ∙ e))
 ]
 
--- ---- files
+-- ---- ticks
 pub some-ticks : (k : ℕ) → ticks-good k ≡ true → (1 ≤ k) × (k ≤ 65535)
 unfolding ticks-good
 some-ticks k g =
     let both = and-true (leb 1 k) (leb k 65535) g in
     (leb-true 1 k (both .0), leb-true k 65535 (both .1))
 
+-- ---- files
 -- 1, 2, 3
 pub record Headed (f : List ℕ) : Type 0 where
   pub head : 16 ≤ length f

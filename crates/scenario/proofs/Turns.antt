@@ -20,14 +20,13 @@ in-time t k h = let e = le-ltb largest t h in (rw e, rw e)
 
 pub turn-closes : Turn-closes
 unfolding Turn-closes
-turn-closes t k good h =
-    let l = some-ticks k good .0 in
+turn-closes t k l h =
     let e = in-time t k h in
     rw (e .0, e .1) (omega (arith, up-covers t k l), omega (arith, up-covers t k l, up-close t k l))
 
 pub one-turn : One-turn
 unfolding One-turn
-one-turn t k n g good h c l =
+one-turn t k n g h c l =
     let e = in-time t k h in
     let n-is : n ≡ up t k = up-is t k n (omega arith) (omega arith) in
     (n-is ∙ sym (e .0), rw (e .1, ← n-is) (omega arith))
@@ -55,7 +54,7 @@ module _ (t k : ℕ) (x : TurnReply) where
   says-turn y g e good h low high i =
       let covers = multiple-covers t k y (some-ticks k good .0) low in
       let below = multiple-below (t + k) k y high in
-      says (y / k) g e good (one-turn t k (y / k) g good h (omega (arith, covers)) (omega (arith, covers, below)))
+      says (y / k) g e good (one-turn t k (y / k) g h (omega (arith, covers)) (omega (arith, covers, below)))
 
   pub turn-said : ticks-good k ≡ true → Turn-says t k x → x .turn ≡ turn-of t k
   unfolding Turn-says turn-refusal turn-answer turn-reply

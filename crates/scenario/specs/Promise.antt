@@ -50,11 +50,10 @@ Write-then-read =
     length slow ≤ length s → length cells ≤ length c → length cells ≤ length b →
     (x ≡ scenario 0 w h t g (length cells)) × (s-now ≡ slow ++ drop (length slow) s) × (c-now ≡ cells ++ drop (length cells) c) × (b-now ≡ begins ++ drop (length begins) b)
 
--- A TURN CLOSES at the time or less than a turn behind it: turn × ticks is exactly the time and the ticks to go
+-- THE TURN OF A TIME that is not never closes then, or less than a turn later: turn × ticks is exactly the time and the ticks to go
 unfoldable pub Turn-closes : Type 0
-Turn-closes = (t k : ℕ) → ticks-good k ≡ true → t ≤ largest → (turn-of t k * k ≡ t + to-go t k) × (to-go t k < k)
+Turn-closes = (t k : ℕ) → 1 ≤ k → t ≤ largest → (turn-of t k * k ≡ t + to-go t k) × (to-go t k < k)
 
--- no other turn does, and no other ticks to go
+-- no other turn and no other ticks to go meet these two
 unfoldable pub One-turn : Type 0
-One-turn =
-    (t k n g : ℕ) → ticks-good k ≡ true → t ≤ largest → n * k ≡ t + g → g < k → (n ≡ turn-of t k) × (g ≡ to-go t k)
+One-turn = (t k n g : ℕ) → t ≤ largest → n * k ≡ t + g → g < k → (n ≡ turn-of t k) × (g ≡ to-go t k)

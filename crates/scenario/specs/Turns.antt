@@ -16,14 +16,17 @@ turn-of t k = cond (ltb largest t) never (up t k)
 unfoldable pub to-go : (time ticks : ℕ) → ℕ
 to-go t k = cond (ltb largest t) 0 (turn-of t k * k - t)
 
+-- ticks that are not 1 to 65,535 are 3, and nothing else is refused
 unfoldable pub turn-refusal : (ticks : ℕ) → ℕ
 turn-refusal k = cond (not (ticks-good k)) 3 0
 
 unfoldable pub turn-reply : (number turn to-go : ℕ) → TurnReply
 turn-reply n t g = record { number = n; turn = t; «to_go» = g }
 
+-- number 0, the turn and the ticks to go; or the refusal's number and zeros
 unfoldable pub turn-answer : (refusal time ticks : ℕ) → TurnReply
 turn-answer n t k = cond (eqb n 0) (turn-reply 0 (turn-of t k) (to-go t k)) (turn-reply n 0 0)
 
+-- THE CALL answers so, whatever the time and the ticks are
 unfoldable pub Turn-says : (time ticks : ℕ) → TurnReply → Type 0
 Turn-says t k x = x ≡ turn-answer (turn-refusal k) t k

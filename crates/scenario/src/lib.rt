@@ -53,18 +53,17 @@ pub fn ticks_good(ticks: u32) -> bool
     ticks <= 65535
 }
 
-fn turn_reply(number: u32, turn: u32, left: u32) -> TurnReply
-    ensures { λ x. ⌜ x ≡ turn-reply number turn left ⌝ }
+fn turn_reply(number: u32, turn: u32, rest: u32) -> TurnReply
+    ensures { λ x. ⌜ x ≡ turn-reply number turn rest ⌝ }
 {
     TurnReply {
         number: number,
         turn: turn,
-        to_go: left,
+        to_go: rest,
     }
 }
 
-// The turn of a time, rounded up: a token goes down when it closes. Never, with nothing to go, for never, and for a time above
-// 300,000,000.
+// The turn of a time, rounded up, and the ticks to go until it closes: never and none for never, which a time above 300,000,000 counts as.
 pub fn turn(time: u32, ticks: u32) -> TurnReply
     ensures { λ x. ⌜ Turn-says time ticks x ⌝ }
 {

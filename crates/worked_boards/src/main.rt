@@ -1,5 +1,5 @@
 // Goes through the boards worked by hand that are not starred, those of document 01 and the turns of Card 3 of document 02: what each gives, and
-// whether it is what the page says.
+// whether it is what the pages say.
 use eikonal::Reply;
 use libc::STDOUT_FILENO;
 

@@ -6,7 +6,7 @@ use Prim.Native.Nat.{ℕ, suc, _+_, _*_, _-_, _≤_, _<_, min}
 use mathlib.Core.Bool.{true, false, true≢false}
 use native.Mathlib.Omega.{arith}
 use native.Mathlib.Decide.{ℕ-discrete}
-use native.Mathlib.Nat.{div-le-self, mul-le-mul-right}
+use native.Mathlib.Nat.{mul-le-mul-right}
 use lib.Dec.{leb}
 use borrow.Author.Tests.{leb-true, leb-false}
 use lib.ListN.{length, getD}
@@ -16,6 +16,7 @@ use Rattle.eikonal.specs.Tiles.{tile-of, counts-as, altered, after-rounds, last
 use Rattle.eikonal.specs.Inner.Good.{Good}
 use Rattle.eikonal.proofs.Good.{size-most}
 use Rattle.eikonal.proofs.Levels.{order}
+use Rattle.eikonal.proofs.Up.{up-most}
 use Rattle.eikonal.proofs.Passes.{solved-length}
 use Rattle.eikonal.proofs.Solution.{plain, solved-plain}
 use Rattle.eikonal.proofs.Rounds.{after-length, rounds-low, rounds-few, rounds-last, rounds-march, rounds-is}
@@ -175,10 +176,6 @@ module _ (s : Shape) (slow : List ℕ) (xs : List Start) (good : Good (whole s s
   abbrev pub total-rounds : ℕ
   total-rounds = rounds (whole s slow xs) (s .across) (s .down) S H
 
-  up-most : up H S ≤ H + S
-  unfolding up
-  up-most = omega (arith, div-le-self (H + S - 1) S)
-
   solved-long : length (solved (whole s slow xs)) ≡ size (whole s slow xs)
   solved-long = ap length (solved-plain (whole s slow xs)) ∙ solved-length (whole s slow xs) plain
 
@@ -188,7 +185,7 @@ module _ (s : Shape) (slow : List ℕ) (xs : List Start) (good : Good (whole s s
       omega (
         arith,
         rounds-few (whole s slow xs) good (s .across) (s .down) S H stride horizon,
-        up-most,
+        up-most H S stride,
         reached-most H (solved (whole s slow xs)),
         solved-long,
         size-most good,

@@ -12,6 +12,7 @@ use Rattle.eikonal.specs.Board.{Board, never, size}
 use Rattle.eikonal.specs.Tiles.{tile-of, up}
 use Rattle.eikonal.specs.Promise.{Neighbour, Beside}
 use Rattle.eikonal.specs.Inner.Good.{Good}
+use Rattle.eikonal.proofs.Up.{up-some}
 use Rattle.eikonal.proofs.Grid.{next-column, wraps, below-off, above-on, above-off, column-some, row-low}
 use Rattle.front.specs.Front.{Out, ghosted}
 use Rattle.front.specs.Seams.{edge, border, inside, seam, across, beyond, near}
@@ -67,13 +68,6 @@ module _ {b : Board} (good : Good b) (tw th : ℕ) (tw1 : 1 ≤ tw) (th1 : 1 ≤
       let row : (c + b .wide) / b .wide ≡ suc (c / b .wide) = omega (arith, add-div-right c (good .wide-low)) in
       rw (row, add-mod-right c (b .wide))
 
-  many : 1 ≤ up (b .wide) tw
-  unfolding up
-  many = elim (ℕ-discrete ((b .wide + tw - 1) / tw) 0) [
-    | yes q ↦ absurd (omega (arith, good .wide-low, ap (λ (u : ℕ). u * tw) q, div-add-mod' (b .wide + tw - 1) tw, mod-lt (b .wide + tw - 1) tw1))
-    | no q ↦ omega arith
-  ]
-
   -- two neighbours in a row, the left one c
   pub row-own : (c : ℕ) → suc (c % b .wide) ≢ b .wide → suc (c % b .wide) % tw ≢ 0 → tile-of b tw th (suc c) ≡ tile-of b tw th c
   unfolding tile-of
@@ -91,7 +85,7 @@ module _ {b : Board} (good : Good b) (tw th : ℕ) (tw1 : 1 ≤ tw) (th1 : 1 ≤
   pub column-apart : (c : ℕ) → suc (c / b .wide) % th ≡ 0 → tile-of b tw th (c + b .wide) ≢ tile-of b tw th c
   unfolding tile-of
   column-apart c e z =
-      omega (arith, many, sym (below-tile c) ∙ z, ap (λ (u : ℕ). u * up (b .wide) tw) (next-other th (c / b .wide) th1 e))
+      omega (arith, up-some (b .wide) tw tw1 (good .wide-low), sym (below-tile c) ∙ z, ap (λ (u : ℕ). u * up (b .wide) tw) (next-other th (c / b .wide) th1 e))
 
   -- ---- what lies between a cell and a neighbour
   data Kind (s c e : ℕ) : Type 0 where

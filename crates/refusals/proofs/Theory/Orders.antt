@@ -4,7 +4,7 @@ use mathlib.Core.Bool.{Bool, true, false, _&&_, _||_, and-false, or-true, or-fal
 use mathlib.Core.List.{List, [], _∷_, _++_}
 use mathlib.Core.Logic.{_≢_}
 use Prim.Native.Nat.{ℕ, zero, suc, _+_, _*_, _-_, _≤_, _<_}
-use native.Mathlib.Nat.{add-suc, add-zero, mul-le-mul, le-refl, div-lt-iff-lt-mul}
+use native.Mathlib.Nat.{add-suc, add-zero}
 use native.Mathlib.Omega.{arith}
 use native.Mathlib.Decide.{ℕ-discrete}
 use lib.Dec.{eqb}
@@ -90,16 +90,7 @@ inside a x ms l h = record { many = length-set ms (x - a) 1; marks = mark }
           rw (ne-eqb x (a + j) miss, or-false (marked ms j), getD-set-other ms (x - a) j 1 0 q)
     ]
 
--- ---- the tiles of a board
-pub up-most : (n s : ℕ) → 1 ≤ s → up n s ≤ n
-unfolding up
-up-most n s h =
-    let pos : 0 < s = omega arith in
-    let wide : n * 1 ≤ n * s = mul-le-mul (le-refl n) h in
-    let low : n + s - 1 < suc n * s = omega arith in
-    omega (arith, div-lt-iff-lt-mul {k = s} {x = n + s - 1} {y = suc n} pos .1 low)
-
--- with n tiles across and m down, the length is judged first
+-- ---- the tiles of a board: with n across and m down, the length is judged first
 module _ (w h tw th : ℕ) (xs : List ℕ) (n m : ℕ) (across : n ≡ up w tw) (down : m ≡ up h th) where
   pub order-uneven : length xs ≢ n * m → false ≡ order-good (board (sides w h)) tw th xs
   unfolding order-good tile-count board plain

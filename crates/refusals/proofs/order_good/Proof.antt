@@ -3,7 +3,8 @@ use Prim.Native.Nat.{_*_, _≤_}
 use native.Mathlib.Nat.{mul-le-mul}
 use native.Mathlib.Omega.{arith}
 use borrow.Author.Needs.{needs}
-use Rattle.refusals.proofs.Theory.Orders.{up-most, order-uneven, order-even}
+use Rattle.eikonal.proofs.Up.{up-most}
+use Rattle.refusals.proofs.Theory.Orders.{order-uneven, order-even}
 use Rattle.refusals.proofs.order_good.Statement.{statement}
 use Rattle.refusals.proofs.order_good.Tie as tie
 

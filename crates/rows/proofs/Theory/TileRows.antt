@@ -18,6 +18,7 @@ use Rattle.eikonal.specs.Tiles.{up, tile-of, tile-count}
 use Rattle.eikonal.specs.Refusals.{member, all-there, order-good}
 use Rattle.eikonal.specs.Inner.Clip.{clip}
 use Rattle.eikonal.proofs.Levels.{order}
+use Rattle.eikonal.proofs.Up.{up-short, up-past, up-some}
 use Rattle.eikonal.proofs.Good.{and-true}
 use Rattle.eikonal.proofs.Grid.{row-low}
 use Rattle.front.specs.Board.{land}
@@ -87,24 +88,6 @@ part-read bound n a e work j l =
     ∙ ap (λ (u : ℕ). getD work u 0) s)
 
 -- ---- quotients
-pub quotient-low : (x n s : ℕ) → 1 ≤ s → x < n → x / s < up n s
-unfolding up
-quotient-low x n s l h = go (order (x / s) ((n + s - 1) / s))
-  where
-    go : (x / s < (n + s - 1) / s) ⊎ ((n + s - 1) / s ≤ x / s) → x / s < (n + s - 1) / s
-    go (inl i) = i
-    go (inr i) = absurd (omega (arith, mul-le-mul-right s i, div-add-mod' x s, div-add-mod' (n + s - 1) s, mod-lt (n + s - 1) l))
-
-pub up-some : (n s : ℕ) → 1 ≤ s → 1 ≤ n → 1 ≤ up n s
-up-some n s l h = omega (arith, quotient-low 0 n s l h)
-
--- so many sides of s, less one, are short of n
-pub side-low : (q n s : ℕ) → 1 ≤ s → q < up n s → q * s < n
-unfolding up
-side-low q n s l h =
-    let i : suc q ≤ (n + s - 1) / s = h in
-    omega (arith, mul-le-mul-right s i, div-add-mod' (n + s - 1) s)
-
 -- a quotient says between which multiples a number lies
 quotient-from : (x s : ℕ) → x / s * s ≤ x
 quotient-from x s = omega (arith, div-add-mod' x s)
@@ -124,13 +107,13 @@ corner {s} r tile =
     record {
       some = some;
       top = mul-le-mul (div-le-self tile (up (s .width) (s .across))) (r .down-high);
-      left = side-low (tile % up (s .width) (s .across)) (s .width) (s .across) (r .across-low) (mod-lt tile some);
+      left = up-short (s .width) (s .across) (r .across-low) (tile % up (s .width) (s .across)) (mod-lt tile some);
     }
 
 -- ---- tiles of a board
 module _ (b : Board) (tw th : ℕ) (wide : 1 ≤ b .wide) (tw1 : 1 ≤ tw) (th1 : 1 ≤ th) (c : ℕ) where
   column-low : c % b .wide / tw < up (b .wide) tw
-  column-low = quotient-low (c % b .wide) (b .wide) tw tw1 (mod-lt c wide)
+  column-low = up-past (b .wide) tw tw1 (c % b .wide) (mod-lt c wide)
 
   tile-across : tile-of b tw th c % up (b .wide) tw ≡ c % b .wide / tw
   unfolding tile-of
@@ -159,7 +142,7 @@ module _ (b : Board) (tw th : ℕ) (wide : 1 ≤ b .wide) (tw1 : 1 ≤ tw) (th1 
   pub tile-low : c < b .wide * b .high → tile-of b tw th c < tile-count b tw th
   unfolding tile-of tile-count
   tile-low on =
-      let row : suc (c / b .wide / th) ≤ up (b .high) th = quotient-low (c / b .wide) (b .high) th th1 (row-low (b .wide) (b .high) c wide on) in
+      let row : suc (c / b .wide / th) ≤ up (b .high) th = up-past (b .high) th th1 (c / b .wide) (row-low (b .wide) (b .high) c wide on) in
       omega (arith, column-low, mul-le-mul-right (up (b .wide) tw) row)
 
 -- ---- orders

@@ -1,8 +1,11 @@
 -- `scenario::turn` meets its contract. Assumes nothing.
+use mathlib.Core.Path.{_≡_}
+use mathlib.Core.Bool.{true}
 use Prim.Native.Nat.{_≤_}
 use native.Mathlib.Omega.{arith}
 use borrow.Author.Needs.{needs}
 use Rattle.eikonal.proofs.Up.{multiple-covers, multiple-below}
+use Rattle.scenario.specs.File.{ticks-good}
 use Rattle.scenario.proofs.Causes.{holds, fails, some-ticks}
 use Rattle.scenario.proofs.Turns.{says-refused, says-never, says-turn}
 use Rattle.scenario.proofs.turn.Statement.{statement}
@@ -22,12 +25,15 @@ turn-reply-requires-2 c κs = search needs
 
 returns-2 : tie.Need-returns-2
 returns-2 c =
-    let good = holds (c .before .before .before .ticks-good .ensures) (c .before .before .if1 .left) in
-    says-never _ _ _ _ _ (c .turn-reply2 .ensures) good (omega arith) (omega arith) (omega arith)
+    let passed = holds (c .before .before .before .ticks-good .ensures) (c .before .before .if1 .left) in
+    says-never _ _ _ _ _ (c .turn-reply2 .ensures) passed (omega arith) (omega arith) (omega arith)
 
--- the ticks, once they have passed
+-- the ticks, behind both tests
+good : (c : tie.Else2) → ticks-good (c .before .before .before .args .ticks) ≡ true
+good c = holds (c .before .before .ticks-good .ensures) (c .before .if1 .left)
+
 some : (c : tie.Else2) → (1 ≤ c .before .before .before .args .ticks) × (c .before .before .before .args .ticks ≤ 65535)
-some c = some-ticks _ (holds (c .before .before .ticks-good .ensures) (c .before .if1 .left))
+some c = some-ticks _ (good c)
 
 add-turn : tie.Need-add-turn
 add-turn c = omega (arith, some c .1)
@@ -49,10 +55,8 @@ turn-reply-requires-3 c κs = search needs
 
 returns-3 : tie.Need-returns-3
 returns-3 c =
-    let b = c .before in
-    let good = holds (b .before .before .ticks-good .ensures) (b .before .if1 .left) in
-    let k = some b .0 in
-    says-turn _ _ _ _ _ (c .turn-reply3 .ensures) good (omega arith) (omega (arith, k)) (omega (arith, k)) (omega arith)
+    let k = some (c .before) .0 in
+    says-turn _ _ _ _ _ (c .turn-reply3 .ensures) (good (c .before)) (omega arith) (omega (arith, k)) (omega (arith, k)) (omega arith)
 
 pub turn-spec : {M : Type 1} → statement M
 turn-spec =
