@@ -5,6 +5,7 @@ use crate::board::Board;
 use crate::calls::Call;
 use crate::lent::{difference, Lent};
 use crate::scenario::{self, Held, Scenario};
+use crate::shown;
 use crate::Reply;
 use std::collections::BTreeMap;
 use std::fmt::Debug;
@@ -97,6 +98,22 @@ pub fn write_both(writer: Writer, held: &Held, out: &[u8], seed: u64) -> (Reply,
     let told = || format!("seed {}: {} bytes lent for {:?}", seed, out.len(), held);
     assert_eq!(got, want, "the answer, {}", told());
     assert_same("bytes", lent.back(), &want_out, told);
+    (want, want_out)
+}
+
+/// The library's way to play the tablet's call: that of `ffi`.
+pub type Tablet = fn(&[u8], u32, u32, u32, &mut [u8]) -> u64;
+
+/// Plays the tablet's call on a list that holds `out`; answers what both answer, and the bytes that both leave.
+pub fn tablet_both(tablet: Tablet, file: &[u8], stride: u32, tile: [u32; 2], out: &[u8], seed: u64) -> (u64, Vec<u8>) {
+    let mut want_out = out.to_vec();
+    let want = shown::tablet(file, stride, tile[0], tile[1], &mut want_out);
+    let mut lent = Lent::new(out);
+    let got = tablet(file, stride, tile[0], tile[1], lent.lend());
+    let told =
+        || format!("seed {}: stride {}, tiles {:?}, {} bytes lent, file {:?}", seed, stride, tile, out.len(), file);
+    assert_eq!(got, want, "the answer, {}", told());
+    assert_same("out", lent.back(), &want_out, told);
     (want, want_out)
 }
 

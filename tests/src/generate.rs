@@ -72,6 +72,18 @@ pub fn board(r: &mut Random, longest: u32) -> Board {
     board_of(r, width, height)
 }
 
+/// One winding corridor from the top left, with the latest start there.
+pub fn snake(width: u32, height: u32, slowness: u32) -> Board {
+    let mut slow = vec![slowness; (width * height) as usize];
+    for row in (1..height).step_by(2) {
+        let gap = if row % 4 == 1 { width - 1 } else { 0 };
+        for column in (0..width).filter(|&column| column != gap) {
+            slow[(row * width + column) as usize] = 0;
+        }
+    }
+    Board { width, height, slow, cells: vec![0], begins: vec![1_000_000] }
+}
+
 /// What a list of times may hold before a call: anything at all.
 pub fn stored(r: &mut Random, board: &Board) -> Vec<u32> {
     let times = solved(&Grid::new(board));

@@ -11,7 +11,7 @@
 //! | `rule` | the local rule and D by search, turn numbers by quotient and remainder |
 //! | `board` | boards with plain start lists, and refusals 2, 4, 5, 7, 8, 9 |
 //! | `march` | the times of a whole board: by passes, and by an advancing front |
-//! | `tiles` | one round over tiles, and a tile run with every round worked out |
+//! | `tiles` | one round over tiles, a tile run with every round worked out, how many rounds a single tile takes |
 //! | `leap` | a tile run that skips idle rounds, written apart from `tiles` |
 //! | `calls` | march, round and run as calls: refusals, answers, what lent lists hold afterwards |
 //! | `scenario` | the scenario file's reader and writer |

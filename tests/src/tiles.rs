@@ -1,4 +1,4 @@
-//! One round over tiles, and a tile run with every round worked out.
+//! One round over tiles, a tile run with every round worked out, and how many rounds a single tile takes.
 
 use crate::board::Grid;
 use crate::march::{cut, settle};
@@ -78,4 +78,14 @@ pub fn run_every_round(grid: &Grid, tiling: &Tiling, stride: u32, horizon: u32) 
         }
         k += 1;
     }
+}
+
+/// The number of rounds of a run in which one tile covers the board, as card 8 has it, from the board's times. K is the
+/// horizon divided by the stride, rounded up, at least 1; there is one round more where some time is above (K - 1) ×
+/// stride and at most the horizon, and for K = 1 the span starts at 0 and includes it.
+pub fn rounds_of_one_tile(times: &[u32], stride: u32, horizon: u32) -> u64 {
+    let k = u64::from(up(horizon, stride)).max(1);
+    let below = (k - 1) * u64::from(stride);
+    let in_span = |&t: &u32| (k == 1 || u64::from(t) > below) && t <= horizon;
+    k + u64::from(times.iter().any(in_span))
 }

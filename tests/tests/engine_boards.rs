@@ -4,7 +4,7 @@ use second_solver::board::{Board, Grid};
 use second_solver::calls::{Call, Kind};
 use second_solver::compare::play_both;
 use second_solver::ffi::engine::play;
-use second_solver::generate;
+use second_solver::generate::{self, snake};
 use second_solver::march::solved_by_passes;
 use second_solver::random::Random;
 use second_solver::tiles::tile_count;
@@ -131,17 +131,6 @@ fn a_round_forgets_what_the_tile_held() {
     let call = Call { board, kind };
     let (reply, after) = play_both(play, &call, &[3, 13], &[1; 8], 0);
     assert_eq!((reply, after), (Reply::accepted(2), vec![40, NEVER]));
-}
-
-fn snake(width: u32, height: u32, slowness: u32) -> Board {
-    let mut slow = vec![slowness; (width * height) as usize];
-    for row in (1..height).step_by(2) {
-        let gap = if row % 4 == 1 { width - 1 } else { 0 };
-        for column in (0..width).filter(|&column| column != gap) {
-            slow[(row * width + column) as usize] = 0;
-        }
-    }
-    Board { width, height, slow, cells: vec![0], begins: vec![1_000_000] }
 }
 
 /// The largest boards: even, scattered, walled, a snake with the latest times that there are.

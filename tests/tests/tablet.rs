@@ -1,18 +1,16 @@
 //! The tablet's call beside the second solver, on seeded files, damaged ones among them.
 
 use second_solver::board::Board;
-use second_solver::compare::{assert_same, Tally};
+use second_solver::compare::{tablet_both, Tally};
 use second_solver::drafts::{spoil_byte, Draft};
 use second_solver::ffi::tablet::tablet_run;
 use second_solver::generate;
-use second_solver::lent::Lent;
 use second_solver::random::Random;
 use second_solver::scenario::{file_of, Held};
-use second_solver::shown::{self, SHOWN_HORIZON, SHOWN_SIDE};
+use second_solver::shown::{SHOWN_HORIZON, SHOWN_SIDE};
 use second_solver::{LARGEST, NEVER};
 
 /// What is handed to the tablet's call.
-#[derive(Clone, Debug)]
 struct Handed {
     file: Vec<u8>,
     stride: u32,
@@ -24,14 +22,7 @@ struct Handed {
 impl Handed {
     /// Plays it on the library and on the second solver; answers what both answer.
     fn play(&self, seed: u64) -> u64 {
-        let mut want_out = self.out.clone();
-        let want = shown::tablet(&self.file, self.stride, self.across, self.down, &mut want_out);
-        let mut out = Lent::new(&self.out);
-        let got = tablet_run(&self.file, self.stride, self.across, self.down, out.lend());
-        let told = || format!("seed {}: {:?}", seed, self);
-        assert_eq!(got, want, "the answer, {}", told());
-        assert_same("out", out.back(), &want_out, told);
-        want
+        tablet_both(tablet_run, &self.file, self.stride, [self.across, self.down], &self.out, seed).0
     }
 }
 
