@@ -125,8 +125,13 @@ murgolab_reply murgolab_one_round(uint32_t width, uint32_t height, const uint32_
 
 /* The tile run: rounds from all never, the j-th, from 1, with the bound j * stride or the horizon, the lesser, until
  * one at the horizon alters nothing. times, which may hold anything at first, is then what the march gives. The count
- * is the number of rounds, the last among them: at least horizon / stride, rounded up, however early the last cell is
- * reached. Rounds that end before the front's next step are counted without being worked out.
+ * is the number of rounds, the last among them. Rounds that end before the front's next step are counted without being
+ * worked out.
+ * How many rounds: let K be horizon / stride, rounded up, at least 1. There are at least K, however early the last cell
+ * is reached, and at most K and as many more as cells are reached. Where one tile covers the board (across is at least
+ * width, and down at least height) they are exactly K + 1 if some entry of times is then above (K - 1) * stride and at
+ * most the horizon, else exactly K; for K = 1 that span starts at 0 and includes it. After its round j such a run holds
+ * what the march to that round's bound gives.
  * Refused by 2 4 5 7 8 9 10 11 12 13 14. */
 murgolab_reply murgolab_tile_run(uint32_t width, uint32_t height, const uint32_t *slow, size_t slow_len,
     const murgolab_start *starts, size_t starts_len,
@@ -153,6 +158,10 @@ murgolab_reply murgolab_write_scenario(uint32_t width, uint32_t height, uint32_t
  * fills the first 4N bytes of out with its N times, 4 bytes each, the lowest first; later bytes stay. The tiles are
  * across by down cells. The answer is the number of rounds times 256; where the call is refused, the bare number, 1 to
  * 15.
+ * How many rounds: as many as murgolab_tile_run makes. Where one tile covers the board, as a tile of 32 by 32 always
+ * does, they are so exactly K + 1 if some time is above (K - 1) * stride, else exactly K, K being 6,000,000 / stride,
+ * rounded up; for K = 1 that span starts at 0 and includes it. For a stride of at most 810,815 they are exactly K,
+ * whatever the file holds, so that a progress bar knows them before the call.
  * Refused by 1 2 15 3 5 6 7 8 9 10 11 14: by 10 for the stride, by 14 where out is under 4N long. */
 uint64_t murgolab_tablet_run(const uint8_t *file, size_t file_len, uint32_t stride, uint32_t across, uint32_t down,
     uint8_t *out, size_t out_len);

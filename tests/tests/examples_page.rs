@@ -1,6 +1,7 @@
 //! The commands and the map of examples/README.md, run as they stand there.
 
 use second_solver::declared::{read, repository};
+use second_solver::pages::blocks;
 use second_solver::programs::{printed, run, told};
 use std::process::{Command, Output};
 
@@ -27,6 +28,9 @@ fn the_commands_run() {
         assert_eq!(output.status.code(), Some(status), "{}\n{}", command, told(&output));
         lines += &told(&output);
     }
+    let shown: Vec<String> = blocks(&read("examples/README.md")).into_iter().map(|(_, block)| block).collect();
+    assert_eq!(shown.len(), 1, "a block that nothing prints");
+    assert!(lines.contains(&shown[0]), "{} is not in\n{}", shown[0], lines);
     for due in ["\n9: start on a wall\n", "\nrefused 9: start on a wall\n", "\n60000 rounds\n", "\nusage: shell FILE "]
     {
         assert!(lines.contains(due), "{} is not in\n{}", due.trim(), lines);

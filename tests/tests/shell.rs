@@ -5,11 +5,12 @@ use second_solver::board::{Board, Grid};
 use second_solver::calls::rounds;
 use second_solver::declared::{files, refusals, repository};
 use second_solver::generate;
+use second_solver::march::{cut, solved};
 use second_solver::programs::{compiled, empty_folder, printed, run, run_into_full, told, valgrind};
 use second_solver::random::Random;
 use second_solver::scenario::{file_of, judge, Held};
 use second_solver::shown::{tablet, turns, SHOWN_HORIZON, SHOWN_SIDE};
-use second_solver::tiles::Tiling;
+use second_solver::tiles::{bound_of, round, Tiling};
 use second_solver::NEVER;
 use std::fs;
 use std::path::{Path, PathBuf};
@@ -116,22 +117,38 @@ fn what_cannot_be_written_ends_the_shell_badly() {
     }
 }
 
+/// The cells reached before any round of one tile and after each, the stride being 100, until no more will be.
+fn progress(grid: &Grid) -> Vec<usize> {
+    let (tiling, end) = (Tiling::new(grid, SHOWN_SIDE, SHOWN_SIDE), cut(solved(grid), SHOWN_HORIZON));
+    let (mut times, mut reached) = (vec![NEVER; grid.size()], vec![0]);
+    while times != end {
+        times = round(grid, &tiling, bound_of(reached.len() as u64, 100, SHOWN_HORIZON), &times);
+        reached.push(times.iter().filter(|&&t| t != NEVER).count());
+    }
+    reached
+}
+
 /// What the tablet's example must print of a file, and its status.
-fn tablet_line(file: &[u8]) -> (String, i32) {
+fn tablet_lines(file: &[u8]) -> (String, i32) {
     let mut out = vec![0; 4 * 1_024];
-    let answer = tablet(file, 100, 4, 4, &mut out);
+    let answer = tablet(file, 100, SHOWN_SIDE, SHOWN_SIDE, &mut out);
     if answer < 256 {
         return (refused_by(answer as u32), 1);
     }
-    let held = judge(file, None).expect("a good file");
-    let end = 4 * held.board.size();
+    let grid = Grid::new(&judge(file, None).expect("a good file").board);
+    let reached = progress(&grid);
+    let line =
+        |k: usize| format!("round {} of 60000: {} of {} cells\n", k, reached[k.min(reached.len() - 1)], grid.size());
+    let mut lines: String = (1..reached.len()).filter(|&k| reached[k] > reached[k - 1]).map(line).collect();
+    lines += &line(60_000);
+    let end = 4 * grid.size();
     let time = u32::from_le_bytes([out[end - 4], out[end - 3], out[end - 2], out[end - 1]]);
-    let reached = if time == NEVER { "never reached".to_string() } else { format!("reached at {}", time) };
-    (format!("{} rounds; the last cell is {}\n", answer / 256, reached), 0)
+    let last = if time == NEVER { "never reached".to_string() } else { format!("reached at {}", time) };
+    (format!("{}{} rounds; the last cell is {}\n", lines, answer / 256, last), 0)
 }
 
 #[test]
-fn the_tablets_example_says_rounds_and_the_last_time_or_the_refusal() {
+fn the_tablets_example_shows_its_progress_or_says_the_refusal() {
     let tablet = program("examples/tablet.c", "tablet_example");
     let large = tablet.with_extension("scenario");
     let side = SHOWN_SIDE + 1;
@@ -140,8 +157,8 @@ fn the_tablets_example_says_rounds_and_the_last_time_or_the_refusal() {
     let mut seen = [0; 2];
     for path in files(&repository().join("examples"), ".scenario").into_iter().chain([large]) {
         let output = run(Command::new(&tablet).arg(&path), &[]);
-        let (line, status) = tablet_line(&fs::read(&path).expect("a scenario"));
-        assert_eq!((told(&output), output.status.code()), (line, Some(status)), "{}", path.display());
+        let (lines, status) = tablet_lines(&fs::read(&path).expect("a scenario"));
+        assert_eq!((told(&output), output.status.code()), (lines, Some(status)), "{}", path.display());
         seen[status as usize] += 1;
     }
     assert!(seen[0] >= 4 && seen[1] >= 2, "{:?}", seen);

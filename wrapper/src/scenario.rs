@@ -86,6 +86,10 @@ pub fn write_scenario(scenario: &Scenario) -> Result<Vec<u8>, Refusal> {
 
 /// The tablet's call: the tile run of a scenario file of at most 32 by 32 cells, up to 6,000,000.
 ///
+/// Where one tile covers the board, as one of 32 by 32 always does, the rounds are exactly those that
+/// [`tile_run`](crate::tile_run) names. For a stride of at most 810,815 they are 6,000,000 divided by the stride,
+/// rounded up, whatever the file holds: known before the call.
+///
 /// ```
 /// use murgolab::{tablet_run, write_scenario, Board, Scenario, Start, Tiles};
 /// let board = Board { width: 3, height: 3, slow: vec![10; 9], starts: vec![Start { cell: 0, time: 0 }] };

@@ -187,6 +187,10 @@ pub fn one_round(board: &Board, tiles: Tiles, bound: u32, times: &mut [u32]) -> 
 /// Rounds from all never, the j-th with the bound j × stride or the horizon, the lesser, until one at
 /// the horizon alters nothing. The stride is 1 to 300,000,000.
 ///
+/// Let K be the horizon divided by the stride, rounded up, at least 1. There are at least K rounds, and at most K and
+/// as many more as cells are reached. Where one tile covers the board there are exactly K + 1 if some time is above
+/// (K − 1) × stride and at most the horizon, else exactly K; for K = 1 that span starts at 0 and includes it.
+///
 /// ```
 /// use murgolab::{march, tile_run, Board, Start, Tiles};
 /// let starts = vec![Start { cell: 0, time: 0 }, Start { cell: 99, time: 40 }];
@@ -194,6 +198,10 @@ pub fn one_round(board: &Board, tiles: Tiles, bound: u32, times: &mut [u32]) -> 
 /// let run = tile_run(&board, Tiles { across: 3, down: 4 }, 25, 5_000)?;
 /// assert_eq!(run.times, march(&board, 5_000)?.times);
 /// assert!(run.rounds >= 200 && run.rounds <= 300);
+/// // one tile covers the board: K is 2, and the last cell is reached at 34
+/// let board = Board { width: 3, height: 3, slow: vec![10; 9], starts: vec![Start { cell: 0, time: 0 }] };
+/// assert_eq!(tile_run(&board, Tiles { across: 3, down: 3 }, 20, 34)?.rounds, 3);
+/// assert_eq!(tile_run(&board, Tiles { across: 3, down: 3 }, 20, 25)?.rounds, 2);
 /// # Ok::<(), murgolab::Refusal>(())
 /// ```
 ///

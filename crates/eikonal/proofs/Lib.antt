@@ -15,9 +15,11 @@ pub mod Solution
 pub mod Clip
 pub mod Altered
 pub mod Ghosts
+pub mod LastRound
 pub mod Rounds
 pub mod CutRule
 pub mod Accepted
+pub mod Answers
 pub mod Ledger
 pub mod Grid
 pub mod Never

@@ -7,12 +7,12 @@ use mathlib.Core.Logic.{_⊎_, inl, inr}
 use Prim.Native.Nat.{ℕ, zero, suc, _+_, _*_, _-_, _≤_, _<_, min, max}
 use native.Mathlib.Omega.{arith}
 use native.Mathlib.Nat.{add-suc, mul-le-mul-right}
-use lib.Dec.{leb, eqb}
+use lib.Dec.{eqb}
 use lib.ListN.{length, length-replicate}
 use lib.Seq.{ext-getD}
-use borrow.Author.Tests.{leb-true, eqb-true, le-leb}
+use borrow.Author.Tests.{eqb-true}
 use Rattle.eikonal.specs.Board.{Board, never, largest, size, slowness, time, solved, least-from, marched, reached, all-never}
-use Rattle.eikonal.specs.Tiles.{tile-of, counts-as, tiled, Meets-in-tiles, solved-in-tiles, round, altered}
+use Rattle.eikonal.specs.Tiles.{tile-of, counts-as, tiled, Meets-in-tiles, solved-in-tiles, round}
 use Rattle.eikonal.specs.Tiles.{after-rounds, last-round, rounds, rounds-from, up}
 use Rattle.eikonal.specs.Promise.{Round-is-solution, Run-is-march, Rounds-least, Few-rounds}
 use Rattle.eikonal.specs.Inner.Good.{Good}
@@ -21,12 +21,13 @@ use Rattle.eikonal.proofs.Levels.{order, lower, Agree, Under, worked, c
 use Rattle.eikonal.proofs.Least.{Least, least, least-bound}
 use Rattle.eikonal.proofs.Up.{up-covers}
 use Rattle.eikonal.proofs.Clip.{clip-agree, clip-under, clip-late, clip-low, clip-same, clip-most, cut-time, cut-length, reached-count}
-use Rattle.eikonal.proofs.Altered.{altered-none, altered-same}
-use Rattle.eikonal.proofs.Good.{good, and-true}
+use Rattle.eikonal.proofs.Altered.{altered-same}
+use Rattle.eikonal.proofs.Good.{good}
 use Rattle.eikonal.proofs.Local.{local-of, Answers, stays, comes, local-answers, earlier-min}
 use Rattle.eikonal.proofs.Rule.{along, down, met-is}
 use Rattle.eikonal.proofs.Passes.{never-time, rule, rule-on, rule-off, rule-under, levels, time-off, solved-by, solved-is, solved-length, solved-fixed}
-use Rattle.eikonal.proofs.Solution.{plain, plain-sound, solved-plain, one-solution-by}
+use Rattle.eikonal.proofs.Solution.{plain, plain-sound, solved-plain, solved-long, one-solution-by}
+use Rattle.eikonal.proofs.LastRound.{is-last, last-is}
 use Rattle.eikonal.proofs.Ghosts.{tiled-sound, stored, stored-agree, stored-late}
 
 -- ---- ONE ROUND on a good board, beside the march
@@ -149,7 +150,7 @@ module _ (b : Board) (g : Good b) (tw th : ℕ) where
 
     march-length : length (marched b h) ≡ size b
     unfolding marched
-    march-length = cut-length h (solved b) ∙ rw (solved-plain b) (solved-length b plain)
+    march-length = cut-length h (solved b) ∙ solved-long b
 
     march-count : reached h (solved b) ≡ count (size b) never (time (marched b h))
     unfolding marched
@@ -196,19 +197,14 @@ module _ (b : Board) (g : Good b) (tw th : ℕ) where
 
     -- ---- the last round
     last-march : (k j : ℕ) → h ≤ suc k * s → reached h (solved b) ≤ j → last-round b tw th s h (suc (k + j)) ≡ true
-    unfolding last-round
     last-march k j i r =
-        let one : suc (k + j) - 1 ≡ k + j = omega arith in
         let more : after (suc (k + j)) ≡ marched b h = rw add-suc at (soon-march k (suc j) i (omega arith)) in
-        rw (one, le-leb h (suc (k + j) * s) (omega arith), soon-march k j i r, more, altered-none (marched b h))
+        is-last b tw th s h (k + j) (omega arith) (more ∙ sym (soon-march k j i r))
 
     march-last : (k : ℕ) → last-round b tw th s h (suc k) ≡ true → after (suc k) ≡ marched b h
-    unfolding last-round
     march-last k e =
-        let both = and-true (leb h (suc k * s)) (eqb (altered (after (suc k - 1)) (after (suc k))) 0) e in
-        let one : suc k - 1 ≡ k = omega arith in
-        let none = rw one at (eqb-true (altered (after (suc k - 1)) (after (suc k))) 0 (both .1)) in
-        still-march k (leb-true h (suc k * s) (both .0)) (altered-same (after k) (after (suc k)) (after-length k ∙ sym (after-length (suc k))) none)
+        let last = last-is b tw th s h k e in
+        still-march k (last .0) (altered-same (after k) (after (suc k)) (after-length k ∙ sym (after-length (suc k))) (last .1))
 
     rounds-from-least : (f k : ℕ) → rounds-from f k b tw th s h ≡ least-from f k (λ k. last-round b tw th s h k)
     unfolding rounds-from least-from

@@ -3,7 +3,7 @@ use mathlib.Core.Path.{_≡_, refl, sym, _∙_}
 use mathlib.Core.Bool.{Bool, true, false, cond}
 use mathlib.Core.List.{List}
 use mathlib.Core.Logic.{_⊎_, inl, inr}
-use Prim.Native.Nat.{ℕ, zero, suc, _+_, _*_, _-_, _≤_, _<_}
+use Prim.Native.Nat.{ℕ, zero, suc, _+_, _*_, _≤_, _<_}
 use native.Mathlib.Omega.{arith}
 use lib.Dec.{ltb}
 use lib.ListN.{length}
@@ -44,6 +44,9 @@ module _ (b : Board) (look : Look) (sound : Sound look) (g : Good b) where
 pub solved-plain : (b : Board) → solved b ≡ solved-by b plain
 unfolding solved solved-by
 solved-plain b = refl
+
+pub solved-long : (b : Board) → length (solved b) ≡ size b
+solved-long b = rw (solved-plain b) (solved-length b plain)
 
 pub one-solution : One-solution
 unfolding One-solution Meets
@@ -93,9 +96,13 @@ worked-known {b} g (suc j) c =
     known-up _ (995905 + suc j * 4095) (rule b plain (worked never (rule b plain) j) c) (omega arith)
     (rule-known g plain (995905 + j * 4095) c (worked never (rule b plain) j) (omega arith) (worked-known g j))
 
+-- a start is at most 1,000,000, and each further cell adds at most 4,095
+pub solved-known : {b : Board} → Good b → (c : ℕ) → Known (995905 + size b * 4095) (time (solved b) c)
+solved-known {b} g c = rw (← solved-is b plain c, ← solved-plain b) at (worked-known g (size b) c)
+
 pub times-below : Times-below
-unfolding Times-below time
-times-below b c e h = go (rw (← solved-is b plain c, ← solved-plain b) at (worked-known (good b e) (size b) c)) (size-most (good b e))
+unfolding Times-below
+times-below b c e h = go (solved-known (good b e) c) (size-most (good b e))
   where
     go : Known (995905 + size b * 4095) (time (solved b) c) → size b ≤ 65536 → (time (solved b) c < 269369920) ⊎ (time (solved b) c ≡ never)
     go (inl e) n = inr e

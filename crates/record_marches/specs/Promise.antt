@@ -1,12 +1,15 @@
 -- What is promised of the calls over start records. Each statement is a type; proofs/Promises.antt has their proofs. Assumes nothing: these are definitions.
 use mathlib.Core.Path.{_≡_}
 use mathlib.Core.List.{List, [], _∷_}
-use Prim.Native.Nat.{ℕ}
+use Prim.Native.Nat.{ℕ, _≤_}
 use lib.ListN.{length}
+use Rattle.eikonal.specs.Board.{solved}
+use Rattle.eikonal.specs.Refusals.{board}
 use Rattle.eikonal.specs.Ledger.{Call, march, tile-run, one-round, book, ledger}
 use Rattle.eikonal.specs.Entry.{plain, March-says, Round-says, Run-says}
 use Rattle.eikonal.specs.Promise.{Round-is-solution, Run-is-march, Rounds-least, Few-rounds, Order-free, Run-is-rounds, Run-order-free, Step}
 use Rattle.eikonal.specs.declared.Reply.{Reply}
+use Rattle.one_tile.specs.Rounds.{exact-rounds}
 use Rattle.records.specs.declared.Start.{Start}
 use Rattle.records.specs.Records.{cells-of, begins-of}
 
@@ -37,6 +40,13 @@ joined (c ∷ cs) (t ∷ ts) = record { cell = c; time = t } ∷ joined cs ts
 
 unfoldable pub Lists-are-records : Type 0
 Lists-are-records = (cs ts : List ℕ) → length cs ≡ length ts → (cs ≡ cells-of (joined cs ts)) × (ts ≡ begins-of (joined cs ts))
+
+-- ---- A TILE RUN OVER RECORDS that is accepted, where one tile covers the board, counts its rounds exactly, as one over plain lists does
+unfoldable pub Record-run-counts : Type 0
+Record-run-counts =
+    (w h : ℕ) (ss : List ℕ) (ys : List Start) (tw th s z : ℕ) (os : List ℕ) (x : Reply) (a b d e : List ℕ) →
+    Run-says w h ss (cells-of ys) (begins-of ys) tw th s z os x a b d e → x .number ≡ 0 → w ≤ tw → h ≤ th →
+    (x .count ≡ exact-rounds s z (solved (board (plain w h ss (cells-of ys) (begins-of ys))))) × (x .count ≡ exact-rounds s z b)
 
 -- ---- THE THIRD CONDITION for calls of both kinds: a call that meets its contract, between the times that it was lent and those that it left
 pub data Any-step : (times times-now : List ℕ) → Call → Reply → Type 0 where

@@ -1,28 +1,12 @@
--- What is answered beside a number: the rest where it is 0, zeros where it is not. Assumes nothing.
+-- What a reader answers beside a number: the rest where it is 0, zeros where it is not; and what it leaves. Assumes nothing.
 use mathlib.Core.Path.{_≡_, refl, sym}
 use mathlib.Core.List.{List, _++_}
 use Prim.Native.Nat.{ℕ}
 use native.Mathlib.Decide.{ℕ-discrete}
 use lib.ListN.{length, drop}
 use borrow.Author.Tests.{eq-eqb, ne-eqb}
-use Rattle.eikonal.specs.Ledger.{answer, answered}
 use Rattle.scenario.specs.File.{width-in, height-in, ticks-in, ground-in, start-count}
 use Rattle.scenario.specs.Calls.{filled, scenario, reader-answer}
-
-pub answered-number : (k c : ℕ) → answered k c .number ≡ k
-unfolding answered answer
-answered-number k c = elim (ℕ-discrete k 0) [
-  | yes q ↦ rw (eq-eqb k 0 q) (sym q)
-  | no q ↦ rw (ne-eqb k 0 q) refl
-]
-
-pub answered-zero : (k c : ℕ) → k ≡ 0 → answered k c ≡ answer 0 c
-unfolding answered
-answered-zero k c e = rw (eq-eqb k 0 e)
-
-pub answered-refused : (n k c : ℕ) → n ≡ k → (k ≡ 0 → ⊥) → answered n c ≡ answer k 0
-unfolding answered
-answered-refused n k c e h = rw (e, ne-eqb k 0 h)
 
 pub reader-number : (k : ℕ) (f : List ℕ) → reader-answer k f .number ≡ k
 unfolding reader-answer scenario

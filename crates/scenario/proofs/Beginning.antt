@@ -2,7 +2,7 @@
 use mathlib.Core.Path.{_≡_, refl, sym, ap, ap₂, _∙_}
 use mathlib.Core.Bool.{_&&_}
 use mathlib.Core.List.{List, [], _++_, append-assoc}
-use Prim.Native.Nat.{ℕ, _+_, _-_, _*_, _≤_, _<_}
+use Prim.Native.Nat.{ℕ, _+_, _*_, _≤_, _<_}
 use native.Mathlib.Omega.{arith}
 use lib.Dec.{ltb, eqb}
 use lib.ListN.{length, take, drop, length-append, length-drop}
@@ -17,6 +17,7 @@ use Rattle.eikonal.specs.declared.Reply.{Reply}
 use Rattle.eikonal.specs.declared.refusals.Judged.{Judged}
 use Rattle.eikonal.proofs.Good.{and-true}
 use Rattle.eikonal.proofs.Judging.{judge-refuses}
+use Rattle.eikonal.proofs.Answers.{answered-number, answered-zero}
 use Rattle.scenario.specs.Bytes.{bytes-of}
 use Rattle.scenario.specs.Runs.{runs-of}
 use Rattle.scenario.specs.File.{run-bytes, start-bytes, head-bytes, file-of, sides-good, ticks-good}
@@ -24,7 +25,7 @@ use Rattle.scenario.specs.Calls.{filled, given-refusal, written, writer-
 use Rattle.scenario.specs.Inner.Begin.{front, Begins}
 use Rattle.scenario.proofs.Records.{length-bytes}
 use Rattle.scenario.proofs.Causes.{met, passed, or-else-first, or-else-next, or-else-zero, size-most, sound, rise-count}
-use Rattle.scenario.proofs.Answers.{answered-number, answered-zero, entered, kept}
+use Rattle.scenario.proofs.Answers.{entered, kept}
 use Rattle.scenario.proofs.Written.{run-length, start-length, head-length}
 use Rattle.scenario.proofs.Writing.{Taken, took-written, given-long, length-starts, taken, written-length, writes-refused, writes-short, writes-done}
 

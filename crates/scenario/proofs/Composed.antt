@@ -12,6 +12,7 @@ use Rattle.eikonal.specs.Refusals.{or-else, any-above, Plain, board, starts-of}
 use Rattle.eikonal.specs.Ledger.{answer, answered}
 use Rattle.eikonal.specs.Entry.{plain}
 use Rattle.eikonal.specs.declared.Reply.{Reply}
+use Rattle.eikonal.proofs.Answers.{answered-number}
 use Rattle.scenario.specs.Bytes.{Bytes}
 use Rattle.scenario.specs.File.{width-in, height-in, ticks-in, ground-in, start-count, runs-in, starts-in, held, sides-good, file-refusal}
 use Rattle.scenario.specs.Calls.{filled, scenario, room-good, reader-refusal, reader-answer, Reads, given-refusal, written, writer-refusal, Writes}
@@ -19,7 +20,7 @@ use Rattle.scenario.specs.Promise.{Accepted-is-file-of, File-of-is-accep
 use Rattle.scenario.specs.declared.Scenario.{Scenario}
 use Rattle.scenario.proofs.Painted.{painted-above}
 use Rattle.scenario.proofs.Causes.{Accepted, accepted}
-use Rattle.scenario.proofs.Answers.{answered-number, reader-number, reader-zero, entered}
+use Rattle.scenario.proofs.Answers.{reader-number, reader-zero, entered}
 use Rattle.scenario.proofs.Reading.{slow-length, count-starts, read-zero}
 use Rattle.scenario.proofs.Writing.{Taken, took-written, board-taken, length-starts}
 use Rattle.scenario.proofs.Accepted.{accepted-is-file-of}

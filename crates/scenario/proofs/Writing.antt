@@ -13,12 +13,13 @@ use Rattle.eikonal.specs.Refusals.{or-else, side-good, any-above, starts-refusa
 use Rattle.eikonal.specs.Ledger.{answer}
 use Rattle.eikonal.specs.declared.Reply.{Reply}
 use Rattle.eikonal.proofs.Good.{and-true, or-false}
+use Rattle.eikonal.proofs.Answers.{answered-zero, answered-refused}
 use Rattle.scenario.specs.Runs.{runs-of}
 use Rattle.scenario.specs.File.{sides-good, ticks-good}
 use Rattle.scenario.specs.Calls.{filled, given-refusal, written, writer-refusal, Writes}
 use Rattle.scenario.proofs.GoodRuns.{runs-of-count}
 use Rattle.scenario.proofs.Causes.{met, passed, or-else-first, or-else-next, or-else-zero, size-most, sound, rise-count}
-use Rattle.scenario.proofs.Answers.{answered-zero, answered-refused, kept}
+use Rattle.scenario.proofs.Answers.{kept}
 use Rattle.scenario.proofs.Written.{length-file}
 
 pub record Taken (p : Plain) (t g : ℕ) : Type 0 where

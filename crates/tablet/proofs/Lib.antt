@@ -4,3 +4,4 @@ mod Orders
 mod Runs
 mod TimesBytes
 mod Answers
+pub mod Promises

@@ -77,7 +77,7 @@ pub handed-board : (f : List ℕ) → board (handed f) ≡ held f
 unfolding handed board plain held
 handed-board f = rw (starts-back (starts-in f))
 
-board-taken : (f : List ℕ) → Accepted f → board-refusal (held f) ≡ 0
+pub board-taken : (f : List ℕ) → Accepted f → board-refusal (held f) ≡ 0
 unfolding board-refusal held size
 board-taken f a =
     rw (

@@ -1,2 +1,3 @@
 pub mod Small
 pub mod Tablet
+pub mod Promise

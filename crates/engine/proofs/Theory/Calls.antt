@@ -3,24 +3,18 @@ use mathlib.Core.Path.{_≡_, refl, sym, ap, subst, _∙_}
 use mathlib.Core.Bool.{Bool, true, false, cond, _||_}
 use mathlib.Core.Logic.{inl}
 use mathlib.Core.List.{List, [], _∷_, _++_}
-use Prim.Native.Nat.{ℕ, _+_, _*_, _-_, _/_, _%_, _≤_, _<_, min}
+use Prim.Native.Nat.{ℕ, _+_, _*_, _-_, _≤_, _<_}
 use native.Mathlib.Omega.{arith}
-use native.Mathlib.Nat.{div-eq-of-lt, mod-lt}
 use lib.Dec.{ltb, leb, eqb}
 use lib.ListN.{length, getD, drop, replicate, length-drop, length-replicate, getD-replicate}
 use lib.Seq.{ext-getD, getD-drop}
-use borrow.Author.Tests.{lt-leb, eq-eqb}
-use Rattle.eikonal.specs.Board.{Start, never, largest, size, slowness, start-time, arrival, met, time, solved, cut, marched, reached, all-never}
-use Rattle.eikonal.specs.Tiles.{tile-of, counts-as, tiled, round, altered, after-rounds, rounds, up}
+use borrow.Author.Tests.{lt-leb}
+use Rattle.eikonal.specs.Board.{Start, never, largest, size, slowness, start-time, arrival, time, solved, cut, marched, reached, all-never}
+use Rattle.eikonal.specs.Tiles.{tile-of, counts-as, round, altered, after-rounds, rounds, up}
 use Rattle.eikonal.specs.Promise.{Neighbour}
 use Rattle.eikonal.specs.Inner.Good.{Good}
-use Rattle.eikonal.specs.Inner.Clip.{clip}
-use Rattle.eikonal.proofs.Clip.{cut-length}
-use Rattle.eikonal.proofs.Grid.{row-low}
-use Rattle.eikonal.proofs.Neighbours.{arrival-same, met-capped}
-use Rattle.eikonal.proofs.Passes.{never-time, solved-length, rule-on}
-use Rattle.eikonal.proofs.Solution.{plain, plain-sound, solved-plain}
-use Rattle.eikonal.proofs.CutRule.{cut-meets, round-by-rule}
+use Rattle.eikonal.proofs.Passes.{never-time}
+use Rattle.one_tile.proofs.March.{same-tile, round-is-march}
 use Rattle.queue.specs.Tree.{keys}
 use Rattle.front.specs.Front.{ghosted, heard, Tied, Out, Settled, Midway, Upheld, Drift}
 use Rattle.front.specs.Board.{land, rule-by, rule-at, tentative, noted, Laid, Ground}
@@ -148,17 +142,6 @@ module _ (s : Shape) (slow : List ℕ) (xs : List Start) (times work : List ℕ)
 
   -- ---- A WHOLE MARCH is a round with one tile
   module _ (wide : s .width ≤ s .across) (high : s .height ≤ s .down) where
-    one-tile : (c : ℕ) → c < size (whole s slow xs) → tile-of (whole s slow xs) (s .across) (s .down) c ≡ 0
-    unfolding tile-of size
-    one-tile c l =
-        let row : c / s .width / s .down ≡ 0 = div-eq-of-lt (omega (arith, row-low (s .width) (s .height) c (fit .good .wide-low) l)) in
-        let col : c % s .width / s .across ≡ 0 = div-eq-of-lt (omega (arith, mod-lt c (fit .good .wide-low))) in
-        rw (row, col) (omega arith)
-
-    same-tile : (c e : ℕ) → c < size (whole s slow xs) → e < size (whole s slow xs)
-        → eqb (tile-of (whole s slow xs) (s .across) (s .down) c) (tile-of (whole s slow xs) (s .across) (s .down) e) ≡ true
-    same-tile c e l m = eq-eqb _ _ (one-tile c l ∙ sym (one-tile e m))
-
     reached-cut : (h : ℕ) → h < never → (xs : List ℕ) → reached h (cut h xs) ≡ reached h xs
     unfolding reached cut
     reached-cut h l [] = refl
@@ -168,32 +151,11 @@ module _ (s : Shape) (slow : List ℕ) (xs : List Start) (times work : List ℕ)
         go true e r = rw (e, r)
         go false e r = rw (lt-leb never h l, r)
 
-    round-is-march : (h : ℕ) → h ≤ largest → (ts : List ℕ) → marched (whole s slow xs) h ≡ round (whole s slow xs) (s .across) (s .down) h ts
-    unfolding marched
-    round-is-march h l ts =
-        round-by-rule (whole s slow xs) (fit .good) (s .across) (s .down) h l ts (marched (whole s slow xs) h) long meets
-      where
-        long : length (marched (whole s slow xs) h) ≡ size (whole s slow xs)
-        long = cut-length h (solved (whole s slow xs)) ∙ ap length (solved-plain (whole s slow xs)) ∙ solved-length (whole s slow xs) plain
-
-        fixed : (c : ℕ) → c < size (whole s slow xs) → time (marched (whole s slow xs) h) c ≡ clip h (met (whole s slow xs) c (time (marched (whole s slow xs) h)))
-        fixed c m = rw (solved-plain (whole s slow xs)) (cut-meets (whole s slow xs) plain plain-sound (fit .good) h (omega arith) c ∙ ap (clip h) (rule-on (whole s slow xs) plain _ c m))
-
-        meets : (c : ℕ) → c < size (whole s slow xs)
-            → time (marched (whole s slow xs) h) c ≡ clip h (met (whole s slow xs) c (tiled (whole s slow xs) (s .across) (s .down) ts (time (marched (whole s slow xs) h)) c))
-        meets c m =
-            fixed c m
-            ∙ ap (clip h)
-            (met-capped (fit .good) c _
-            ∙ ap (λ (u : ℕ). min (start-time c xs) (min never u))
-            (arrival-same (fit .good) c m _ _ (λ e k n. rw (same-tile c e m k)))
-            ∙ sym (met-capped (fit .good) c _))
-
     module _ (be : Standing (s .cells) xs work) (ts : List ℕ) where
       quiet-march : (c : ℕ) → c < size (whole s slow xs) → rule-by (whole s slow xs) (s .across) (s .down) ts c (heard (tentative work (s .cells)) (keys work (s .cells))) ≡ never
       quiet-march c l =
           rw (arrival-quiet (fit .good) c l (ghosted (whole s slow xs) (s .across) (s .down) (λ d e. counts-as (whole s slow xs) ts e) (heard (tentative work (s .cells)) (keys work (s .cells))) c)
-          (λ e on n. rw (same-tile c e l on) (standing-silent be e (rw size-is on))))
+          (λ e on n. rw (same-tile (whole s slow xs) (fit .good) (s .across) (s .down) wide high c e l on) (standing-silent be e (rw size-is on))))
 
       pub march-ready : Ready (s .cells) (rule-at s slow ts) work
       unfolding arrival slowness tile-of counts-as
@@ -217,7 +179,8 @@ module _ (s : Shape) (slow : List ℕ) (xs : List Start) (times work : List ℕ)
           counted-cut = reached-cut h (omega arith) (solved (whole s slow xs))
 
           is : us ≡ marched (whole s slow xs) h
-          is = drained-writes ts work v1 us m h i dr (standing-upheld be (rule-at s slow ts)) (fin .long) (fin .each) ∙ sym (round-is-march h i ts)
+          is = drained-writes ts work v1 us m h i dr (standing-upheld be (rule-at s slow ts)) (fin .long) (fin .each)
+              ∙ round-is-march (whole s slow xs) (fit .good) (s .across) (s .down) wide high h i ts
 
   -- ---- A SINGLE ROUND: every cell hears the stored times first
   module _ (be : Standing (s .cells) xs work) (ts w cols rows : List ℕ) (gr : Ground s slow ts cols rows)

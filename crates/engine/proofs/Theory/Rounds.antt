@@ -1,23 +1,22 @@
 -- From the front to rounds: what a drained front writes is the round, rounds before the least key alter nothing, and the count is the tile run's. Assumes nothing.
 use mathlib.Core.Path.{_≡_, refl, sym, ap, subst, _∙_}
-use mathlib.Core.Bool.{Bool, true, false, cond, _&&_}
+use mathlib.Core.Bool.{Bool, true, false, cond}
 use mathlib.Core.Logic.{_⊎_, inl, inr, ⊎-elim, _≢_}
 use mathlib.Core.List.{List}
 use Prim.Native.Nat.{ℕ, zero, suc, _+_, _*_, _-_, _≤_, _<_, min}
 use native.Mathlib.Omega.{arith}
 use native.Mathlib.Decide.{ℕ-discrete}
 use native.Mathlib.Nat.{zero-add, suc-add, mul-le-mul-right}
-use lib.Dec.{leb, eqb}
-use borrow.Author.Tests.{lt-leb, le-leb, ne-eqb}
+use lib.Dec.{eqb}
 use lib.ListN.{length}
 use Rattle.eikonal.specs.Board.{Board, never, largest, size, met, time}
-use Rattle.eikonal.specs.Tiles.{tile-of, counts-as, tiled, round, altered, after-rounds, last-round}
+use Rattle.eikonal.specs.Tiles.{tile-of, counts-as, tiled, round, altered, after-rounds}
 use Rattle.eikonal.specs.Inner.Good.{Good}
 use Rattle.eikonal.specs.Inner.Clip.{clip}
 use Rattle.eikonal.proofs.Clip.{Clipped, kept, lost, clipped, clip-keeps, clip-loses, clip-never}
 use Rattle.eikonal.proofs.Neighbours.{arrival-same, met-capped}
 use Rattle.eikonal.proofs.Passes.{never-time}
-use Rattle.eikonal.proofs.Altered.{altered-none, altered-same}
+use Rattle.eikonal.proofs.Altered.{altered-same}
 use Rattle.eikonal.proofs.Rounds.{round-time, after-length}
 use Rattle.eikonal.proofs.CutRule.{round-by-rule}
 use Rattle.front.specs.Front.{ghosted, Tied, Settled, Upheld, total, fallen, Drift, Written}
@@ -196,24 +195,3 @@ module _ {b : Board} (good : Good b) (tw th s h : ℕ) (stride : 1 ≤ s) (horiz
       (leap-one (i + j) ts y k
       (leap i j ts y k be (λ c l. omega (arith, past c l, mul-le-mul-right {m = i + j} {n = suc i + j} s (omega arith))))
       (λ c l. rw (← suc-add i j) (past c l)))
-
-  -- ---- the last round
-  pub not-yet : (j : ℕ) → j * s < h → last-round b tw th s h j ≡ false
-  unfolding last-round
-  not-yet j l = rw (lt-leb h (j * s) l)
-
-  pub not-last : (j : ℕ) → altered (after-rounds j b tw th s h) (after-rounds (suc j) b tw th s h) ≢ 0 → last-round b tw th s h (suc j) ≡ false
-  unfolding last-round
-  not-last j e =
-      let one : suc j - 1 ≡ j = omega arith in
-      rw (one, ne-eqb (altered (after-rounds j b tw th s h) (after-rounds (suc j) b tw th s h)) 0 e) (and-false (leb h (suc j * s)))
-    where
-      and-false : (p : Bool) → p && false ≡ false
-      and-false true = refl
-      and-false false = refl
-
-  pub is-last : (j : ℕ) → h ≤ suc j * s → after-rounds (suc j) b tw th s h ≡ after-rounds j b tw th s h → last-round b tw th s h (suc j) ≡ true
-  unfolding last-round
-  is-last j l e =
-      let one : suc j - 1 ≡ j = omega arith in
-      rw (one, le-leb h (suc j * s) l, e, altered-none (after-rounds j b tw th s h))

@@ -17,8 +17,8 @@ use Rattle.eikonal.specs.Inner.Good.{Good}
 use Rattle.eikonal.proofs.Good.{size-most}
 use Rattle.eikonal.proofs.Levels.{order}
 use Rattle.eikonal.proofs.Up.{up-most}
-use Rattle.eikonal.proofs.Passes.{solved-length}
-use Rattle.eikonal.proofs.Solution.{plain, solved-plain}
+use Rattle.eikonal.proofs.Solution.{solved-long}
+use Rattle.eikonal.proofs.LastRound.{not-yet, not-last, is-last}
 use Rattle.eikonal.proofs.Rounds.{after-length, rounds-low, rounds-few, rounds-last, rounds-march, rounds-is}
 use Rattle.queue.specs.Tree.{keys}
 use Rattle.front.specs.Front.{Settled, Upheld, Drift, Written}
@@ -29,7 +29,7 @@ use Rattle.engine.specs.Run.{starts, Between, whole, At-round, One-round
 use Rattle.front.specs.declared.Shape.{Shape}
 use Rattle.front.proofs.Theory.Sight.{gives-lawful}
 use Rattle.front.proofs.Theory.Drift.{notes-fit}
-use Rattle.engine.proofs.Theory.Rounds.{written-drift, written-falls, round-written, round-altered, leap, not-yet, not-last, is-last}
+use Rattle.engine.proofs.Theory.Rounds.{written-drift, written-falls, round-written, round-altered, leap}
 use Rattle.rows.proofs.Theory.Lists.{reached-most}
 use Rattle.front.proofs.Theory.Commit.{none-new, all-new, upheld-new}
 use Rattle.front.proofs.Theory.Announcing.{announced-held, announced-long, announced-rest, announced-upheld, announced-fresh, announced-settled}
@@ -176,9 +176,6 @@ module _ (s : Shape) (slow : List ℕ) (xs : List Start) (good : Good (whole s s
   abbrev pub total-rounds : ℕ
   total-rounds = rounds (whole s slow xs) (s .across) (s .down) S H
 
-  solved-long : length (solved (whole s slow xs)) ≡ size (whole s slow xs)
-  solved-long = ap length (solved-plain (whole s slow xs)) ∙ solved-length (whole s slow xs) plain
-
   -- the rounds are fewer than a thousand million
   rounds-short : total-rounds ≤ 1000000000
   rounds-short =
@@ -187,7 +184,7 @@ module _ (s : Shape) (slow : List ℕ) (xs : List Start) (good : Good (whole s s
         rounds-few (whole s slow xs) good (s .across) (s .down) S H stride horizon,
         up-most H S stride,
         reached-most H (solved (whole s slow xs)),
-        solved-long,
+        solved-long (whole s slow xs),
         size-most good,
       )
 
@@ -213,7 +210,7 @@ module _ (s : Shape) (slow : List ℕ) (xs : List Start) (good : Good (whole s s
       -- the last one: at the horizon, and it took no cell
       pub run-ends : m ≡ 0 → leb H (suc done * S) ≡ true → {limit : ℕ} → done < limit → Ran s slow xs S H limit (suc done) ts₀ ts' v₀ v'
       run-ends e l below =
-          let last = is-last good (s .across) (s .down) S H stride horizon done (leb-true H (suc done * S) l) (one .idle e) in
+          let last = is-last (whole s slow xs) (s .across) (s .down) S H done (leb-true H (suc done * S) l) (one .idle e) in
           let is = rounds-is (whole s slow xs) good (s .across) (s .down) S H stride horizon (suc done) (omega arith) last (λ k a b. md .more k a (omega arith)) in
           record {
             counted = omega (arith, is);
@@ -257,15 +254,15 @@ module _ (s : Shape) (slow : List ℕ) (xs : List Start) (good : Good (whole s s
             go k a b (inl h) = md .more k a (omega arith)
             go k a b (inr h) = elim (ℕ-discrete k (suc done)) [
               | yes q ↦ subst (λ u. last-round (whole s slow xs) (s .across) (s .down) S H u ≡ false) (sym q) other
-              | no q ↦ not-yet good (s .across) (s .down) S H stride horizon k (omega (arith, lp .short (omega arith), mul-le-mul-right S b))
+              | no q ↦ not-yet (whole s slow xs) (s .across) (s .down) S H k (omega (arith, lp .short (omega arith), mul-le-mul-right S b))
             ]
 
       -- not the last one: before the horizon, or it took cells
       pub run-early : leb H (suc done * S) ≡ false → last-round (whole s slow xs) (s .across) (s .down) S H (suc done) ≡ false
-      run-early l = not-yet good (s .across) (s .down) S H stride horizon (suc done) (leb-false H (suc done * S) l)
+      run-early l = not-yet (whole s slow xs) (s .across) (s .down) S H (suc done) (leb-false H (suc done * S) l)
 
       pub run-busy : m ≢ 0 → last-round (whole s slow xs) (s .across) (s .down) S H (suc done) ≡ false
-      run-busy q = not-last good (s .across) (s .down) S H stride horizon done (one .busy (omega (arith, q)))
+      run-busy q = not-last (whole s slow xs) (s .across) (s .down) S H done (one .busy (omega (arith, q)))
 
   pub run-begins : {ts v : List ℕ} → At-round s slow xs S H 0 ts v → Mid-run s slow xs S H 0 ts ts v v
   run-begins at = record { long = refl; kept = refl; past = λ i l. refl; at = at; more = λ k a b. absurd (omega arith) }

@@ -1,0 +1,4 @@
+pub mod March
+pub mod LastSpan
+mod Counting
+pub mod Promises
