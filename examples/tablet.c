@@ -1,6 +1,6 @@
-/* The tablet's call: `tablet FILE` runs a scenario of at most 32 by 32 cells with the stride 100, as one tile, and
- * shows a progress in rounds: each round in which the front reaches cells, and the last. Then it says how many rounds
- * that took and when the front reaches the last cell. */
+/* The tablet's call: `tablet FILE` runs a scenario of at most 32 by 32 cells with the stride 100, as one tile. From the
+ * times that come back it plays the run's progress in rounds: each round in which the front reaches cells, and the
+ * last one. Then it says how many rounds there were and when the front reaches the last cell. */
 #include "refusals.h"
 
 #include <stdio.h>
@@ -36,7 +36,8 @@ int main(int count, char **words)
         for (uint32_t cell = 0; cell < cells; cell++)
             reached += time_of(out, cell) <= round * STRIDE;
         if (reached > before || round == rounds)
-            printf("round %u of %u: %u of %u cells\n", round, rounds, reached, cells);
+            printf("round %u of %u: %u of %u cells\n", (unsigned)round, (unsigned)rounds, (unsigned)reached,
+                (unsigned)cells);
         before = reached;
     }
     uint32_t last = time_of(out, cells - 1);
@@ -44,6 +45,6 @@ int main(int count, char **words)
     if (last == MURGOLAB_NEVER)
         printf("never reached\n");
     else
-        printf("reached at %u\n", last);
+        printf("reached at %u\n", (unsigned)last);
     return fflush(stdout) == 0 ? 0 : 1;
 }

@@ -158,10 +158,10 @@ murgolab_reply murgolab_write_scenario(uint32_t width, uint32_t height, uint32_t
  * fills the first 4N bytes of out with its N times, 4 bytes each, the lowest first; later bytes stay. The tiles are
  * across by down cells. The answer is the number of rounds times 256; where the call is refused, the bare number, 1 to
  * 15.
- * How many rounds: as many as murgolab_tile_run makes. Where one tile covers the board, as a tile of 32 by 32 always
- * does, they are so exactly K + 1 if some time is above (K - 1) * stride, else exactly K, K being 6,000,000 / stride,
- * rounded up; for K = 1 that span starts at 0 and includes it. For a stride of at most 810,815 they are exactly K,
- * whatever the file holds, so that a progress bar knows them before the call.
+ * How many rounds: as many as murgolab_tile_run makes. Let K be 6,000,000 / stride, rounded up. Where one tile covers
+ * the board, as a tile of 32 by 32 always does, they are exactly K + 1 if some time in out is above (K - 1) * stride
+ * and at most 6,000,000, else exactly K; for K = 1 that span starts at 0 and includes it. With such a tile and a stride
+ * of at most 810,815 they are exactly K, whatever the file holds, so that a progress bar knows them before the call.
  * Refused by 1 2 15 3 5 6 7 8 9 10 11 14: by 10 for the stride, by 14 where out is under 4N long. */
 uint64_t murgolab_tablet_run(const uint8_t *file, size_t file_len, uint32_t stride, uint32_t across, uint32_t down,
     uint8_t *out, size_t out_len);

@@ -110,8 +110,10 @@ pub fn tablet_both(tablet: Tablet, file: &[u8], stride: u32, tile: [u32; 2], out
     let want = shown::tablet(file, stride, tile[0], tile[1], &mut want_out);
     let mut lent = Lent::new(out);
     let got = tablet(file, stride, tile[0], tile[1], lent.lend());
-    let told =
-        || format!("seed {}: stride {}, tiles {:?}, {} bytes lent, file {:?}", seed, stride, tile, out.len(), file);
+    let told = || {
+        let (lent, begin) = (out.len(), start_of(file));
+        format!("seed {}: stride {}, tiles {:?}, {} bytes lent, a file {:?}..", seed, stride, tile, lent, begin)
+    };
     assert_eq!(got, want, "the answer, {}", told());
     assert_same("out", lent.back(), &want_out, told);
     (want, want_out)

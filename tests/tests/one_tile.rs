@@ -12,15 +12,18 @@ use second_solver::shown::{SHOWN_HORIZON, SHOWN_SIDE};
 use second_solver::tiles::{rounds_of_one_tile, tile_count, up};
 use second_solver::{LARGEST, LONGEST_SIDE};
 
+/// The seed of what lent lists hold at first.
+const GARBAGE: u64 = 92_000_000;
+
 /// The rounds of a run and the times that it leaves on lists that held garbage: over plain lists and over start
 /// records, each beside the second solver.
 fn run(board: &Board, [across, down]: [u32; 2], stride: u32, horizon: u32) -> (u64, Vec<u32>) {
     let order = (0..tile_count(board.width, board.height, across, down)).collect();
     let call = Call { board: board.clone(), kind: Kind::Run { across, down, stride, horizon, order } };
-    let mut r = Random::new(92_000_000);
+    let mut r = Random::new(GARBAGE);
     let (times, work) = (garbage(&mut r, board.size()), garbage(&mut r, 4 * board.size() + 3));
-    let plain = play_both(engine::play, &call, &times, &work, 0);
-    let records = play_both(engine_records::play, &call, &times, &work, 0);
+    let plain = play_both(engine::play, &call, &times, &work, GARBAGE);
+    let records = play_both(engine_records::play, &call, &times, &work, GARBAGE);
     assert!(plain == records && plain.0.number == 0, "refused, or not the same in both forms: {:?}", call);
     (plain.0.count.into(), plain.1)
 }
@@ -47,7 +50,7 @@ fn tablet_rounds(board: &Board, tile: [u32; 2], stride: u32) -> u64 {
     let (answer, out) = tablet_both(tablet::tablet_run, &file_of(board, 10, 10), stride, tile, &out, 0);
     let left: Vec<u32> = out.chunks_exact(4).map(|b| u32::from_le_bytes([b[0], b[1], b[2], b[3]])).collect();
     assert_formula(answer / 256, board, &left, tile, stride, SHOWN_HORIZON);
-    // the latest time of 1,024 cells is 5,189,185, so for these strides the rounds are known beforehand
+    // no time of 1,024 cells is past 5,189,185, so for these strides the rounds are known beforehand
     if stride <= 810_815 {
         assert_eq!(answer / 256, u64::from(up(SHOWN_HORIZON, stride)), "stride {}: {:?}", stride, board);
     }
@@ -83,10 +86,13 @@ fn the_three_by_three_board_takes_the_rounds_worked_by_hand() {
     ]);
 }
 
+/// One way only is not enough.
 #[test]
 fn tiles_that_do_not_cover_the_board_may_take_more_rounds() {
-    let (rounds, times) = run(&three_by_three(), [2, 2], 20, 34);
-    assert_eq!((rounds, rounds_of_one_tile(&times, 20, 34)), (4, 3));
+    for tile in [[2, 2], [3, 2], [2, 3], [3, 1], [1, 3]] {
+        let (rounds, times) = run(&three_by_three(), tile, 20, 34);
+        assert_eq!((rounds, rounds_of_one_tile(&times, 20, 34)), (4, 3), "tiles {:?}", tile);
+    }
 }
 
 #[test]
@@ -198,8 +204,9 @@ fn tiles_larger_than_the_board_take_the_same_rounds() {
 #[test]
 fn the_tablets_call_takes_the_rounds_worked_by_hand() {
     for tile in [[32, 32], [256, 256]] {
-        let typed = [(1, [6_000_000; 2]), (3_000_000, [2, 2]), (5_999_999, [2, 2]), (6_000_000, [2, 1])];
-        for (stride, want) in typed.into_iter().chain([(6_000_001, [2, 1]), (300_000_000, [2, 1])]) {
+        let typed = [(1, [6_000_000; 2]), (810_815, [8, 8]), (3_000_000, [2, 2]), (5_999_999, [2, 2])];
+        let one_stride = [(6_000_000, [2, 1]), (6_000_001, [2, 1]), (300_000_000, [2, 1])];
+        for (stride, want) in typed.into_iter().chain(one_stride) {
             let boards = [board(4, 1, vec![10, 0, 10, 10], &[(0, 0)]), board(4, 1, vec![10; 4], &[])];
             assert_eq!(boards.map(|board| tablet_rounds(&board, tile, stride)), want, "stride {}", stride);
         }

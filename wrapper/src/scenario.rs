@@ -87,8 +87,8 @@ pub fn write_scenario(scenario: &Scenario) -> Result<Vec<u8>, Refusal> {
 /// The tablet's call: the tile run of a scenario file of at most 32 by 32 cells, up to 6,000,000.
 ///
 /// Where one tile covers the board, as one of 32 by 32 always does, the rounds are exactly those that
-/// [`tile_run`](crate::tile_run) names. For a stride of at most 810,815 they are 6,000,000 divided by the stride,
-/// rounded up, whatever the file holds: known before the call.
+/// [`tile_run`](crate::tile_run) names. With such a tile and a stride of at most 810,815 they are 6,000,000 divided by
+/// the stride, rounded up, whatever the file holds: known before the call.
 ///
 /// ```
 /// use murgolab::{tablet_run, write_scenario, Board, Scenario, Start, Tiles};

@@ -1,6 +1,7 @@
--- Which round of a tile run can be the last. Assumes nothing.
+-- Which round of a tile run can be the last: the first one is, says Rounds.antt. Assumes nothing.
 use mathlib.Core.Path.{_≡_}
 use mathlib.Core.Bool.{true, false, and-false}
+use mathlib.Core.List.{List}
 use mathlib.Core.Logic.{_≢_}
 use Prim.Native.Nat.{ℕ, suc, _*_, _-_, _≤_, _<_}
 use native.Mathlib.Omega.{arith}
@@ -12,30 +13,32 @@ use Rattle.eikonal.proofs.Altered.{altered-none}
 use Rattle.eikonal.proofs.Good.{and-true}
 
 module _ (b : Board) (tw th s h : ℕ) where
-  -- none before the horizon,
+  abbrev after : ℕ → List ℕ
+  after k = after-rounds k b tw th s h
+
+  -- none before the horizon
   pub not-yet : (k : ℕ) → k * s < h → last-round b tw th s h k ≡ false
   unfolding last-round
   not-yet k l = rw (lt-leb h (k * s) l)
 
-  -- none that alters something,
-  pub not-last : (k : ℕ) → altered (after-rounds k b tw th s h) (after-rounds (suc k) b tw th s h) ≢ 0 → last-round b tw th s h (suc k) ≡ false
-  unfolding last-round
-  not-last k n =
-      let one : suc k - 1 ≡ k = omega arith in
-      rw (one, ne-eqb (altered (after-rounds k b tw th s h) (after-rounds (suc k) b tw th s h)) 0 n, and-false)
+  module _ (k : ℕ) where
+    one-less : suc k - 1 ≡ k
+    one-less = omega arith
 
-  -- and every other one
-  pub is-last : (k : ℕ) → h ≤ suc k * s → after-rounds (suc k) b tw th s h ≡ after-rounds k b tw th s h → last-round b tw th s h (suc k) ≡ true
-  unfolding last-round
-  is-last k l e =
-      let one : suc k - 1 ≡ k = omega arith in
-      rw (one, le-leb h (suc k * s) l, e, altered-none (after-rounds k b tw th s h))
+    -- none that alters something
+    pub not-last : altered (after k) (after (suc k)) ≢ 0 → last-round b tw th s h (suc k) ≡ false
+    unfolding last-round
+    not-last n = rw (one-less, ne-eqb (altered (after k) (after (suc k))) 0 n, and-false)
 
-  pub last-is : (k : ℕ) → last-round b tw th s h (suc k) ≡ true
-      → (h ≤ suc k * s) × (altered (after-rounds k b tw th s h) (after-rounds (suc k) b tw th s h) ≡ 0)
-  unfolding last-round
-  last-is k e =
-      let one : suc k - 1 ≡ k = omega arith in
-      let both = and-true (leb h (suc k * s)) (eqb (altered (after-rounds (suc k - 1) b tw th s h) (after-rounds (suc k) b tw th s h)) 0) e in
-      let none = eqb-true (altered (after-rounds (suc k - 1) b tw th s h) (after-rounds (suc k) b tw th s h)) 0 (both .1) in
-      (leb-true h (suc k * s) (both .0), rw one at none)
+    -- each at the horizon that alters nothing
+    pub is-last : h ≤ suc k * s → after (suc k) ≡ after k → last-round b tw th s h (suc k) ≡ true
+    unfolding last-round
+    is-last l e = rw (one-less, le-leb h (suc k * s) l, e, altered-none (after k))
+
+    -- and no other
+    pub last-says : last-round b tw th s h (suc k) ≡ true → (h ≤ suc k * s) × (altered (after k) (after (suc k)) ≡ 0)
+    unfolding last-round
+    last-says e =
+        let both = and-true (leb h (suc k * s)) (eqb (altered (after (suc k - 1)) (after (suc k))) 0) e in
+        let none = eqb-true (altered (after (suc k - 1)) (after (suc k))) 0 (both .1) in
+        (leb-true h (suc k * s) (both .0), rw one-less at none)

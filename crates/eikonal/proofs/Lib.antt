@@ -11,8 +11,8 @@ pub mod Judging
 pub mod BoardRefusals
 pub mod Rule
 pub mod Passes
-pub mod Solution
 pub mod Clip
+pub mod Solution
 pub mod Altered
 pub mod Ghosts
 pub mod LastRound

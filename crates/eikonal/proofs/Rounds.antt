@@ -6,7 +6,7 @@ use mathlib.Core.List.{List}
 use mathlib.Core.Logic.{_⊎_, inl, inr}
 use Prim.Native.Nat.{ℕ, zero, suc, _+_, _*_, _-_, _≤_, _<_, min, max}
 use native.Mathlib.Omega.{arith}
-use native.Mathlib.Nat.{add-suc, mul-le-mul-right}
+use native.Mathlib.Nat.{add-suc}
 use lib.Dec.{eqb}
 use lib.ListN.{length, length-replicate}
 use lib.Seq.{ext-getD}
@@ -19,15 +19,15 @@ use Rattle.eikonal.specs.Inner.Good.{Good}
 use Rattle.eikonal.specs.Inner.Clip.{clip}
 use Rattle.eikonal.proofs.Levels.{order, lower, Agree, Under, worked, count, count-most, settles}
 use Rattle.eikonal.proofs.Least.{Least, least, least-bound}
-use Rattle.eikonal.proofs.Up.{up-covers}
+use Rattle.eikonal.proofs.Up.{up-enough}
 use Rattle.eikonal.proofs.Clip.{clip-agree, clip-under, clip-late, clip-low, clip-same, clip-most, cut-time, cut-length, reached-count}
 use Rattle.eikonal.proofs.Altered.{altered-same}
 use Rattle.eikonal.proofs.Good.{good}
 use Rattle.eikonal.proofs.Local.{local-of, Answers, stays, comes, local-answers, earlier-min}
 use Rattle.eikonal.proofs.Rule.{along, down, met-is}
 use Rattle.eikonal.proofs.Passes.{never-time, rule, rule-on, rule-off, rule-under, levels, time-off, solved-by, solved-is, solved-length, solved-fixed}
-use Rattle.eikonal.proofs.Solution.{plain, plain-sound, solved-plain, solved-long, one-solution-by}
-use Rattle.eikonal.proofs.LastRound.{is-last, last-is}
+use Rattle.eikonal.proofs.Solution.{plain, plain-sound, solved-plain, solved-long, marched-long, one-solution-by}
+use Rattle.eikonal.proofs.LastRound.{is-last, last-says}
 use Rattle.eikonal.proofs.Ghosts.{tiled-sound, stored, stored-agree, stored-late}
 
 -- ---- ONE ROUND on a good board, beside the march
@@ -148,13 +148,9 @@ module _ (b : Board) (g : Good b) (tw th : ℕ) where
     after-length zero = length-replicate (size b) never
     after-length (suc k) = round-length (min (suc k * s) h) (after k)
 
-    march-length : length (marched b h) ≡ size b
-    unfolding marched
-    march-length = cut-length h (solved b) ∙ solved-long b
-
     march-count : reached h (solved b) ≡ count (size b) never (time (marched b h))
     unfolding marched
-    march-count = rw (sym (cut-length h (solved b)) ∙ march-length) at (reached-count h (solved b) (omega arith))
+    march-count = rw (solved-long b) at (reached-count h (solved b) (omega arith))
 
     -- a round at the horizon
     after-step : (k t : ℕ) → h ≤ suc k * s → t < never → Agree t (time (after k)) (time (marched b h)) → Agree (suc t) (time (after (suc k))) (time (marched b h))
@@ -175,7 +171,7 @@ module _ (b : Board) (g : Good b) (tw th : ℕ) where
     -- a state that agrees with the march is the march
     is-march : (k : ℕ) → Agree never (time (after k)) (time (marched b h)) → after k ≡ marched b h
     unfolding time
-    is-march k a = ext-getD never (after k) (marched b h) (after-length k ∙ sym march-length) (λ c i. omega (arith, a c, march-most c, after-most k c))
+    is-march k a = ext-getD never (after k) (marched b h) (after-length k ∙ sym (marched-long b h)) (λ c i. omega (arith, a c, march-most c, after-most k c))
 
     -- WHERE A ROUND AT THE HORIZON ALTERS NOTHING the march's times are reached
     pub still-march : (k : ℕ) → h ≤ suc k * s → after k ≡ after (suc k) → after (suc k) ≡ marched b h
@@ -190,7 +186,7 @@ module _ (b : Board) (g : Good b) (tw th : ℕ) where
     soon-march k j i r = is-march (k + j) (settles (size b) never (time (marched b h)) (λ j. time (after (k + j))) off (λ j. after-march (k + j)) step never j (omega arith) (omega (arith, march-count)))
       where
         off : (c : ℕ) → size b ≤ c → never ≤ time (marched b h) c
-        off c n = omega (arith, time-off (marched b h) c (rw march-length n))
+        off c n = omega (arith, time-off (marched b h) c (rw (marched-long b h) n))
 
         step : (j t : ℕ) → t < never → Agree t (time (after (k + j))) (time (marched b h)) → Agree (suc t) (time (after (k + suc j))) (time (marched b h))
         step j t n a = rw add-suc (after-step (k + j) t (omega arith) n a)
@@ -203,7 +199,7 @@ module _ (b : Board) (g : Good b) (tw th : ℕ) where
 
     march-last : (k : ℕ) → last-round b tw th s h (suc k) ≡ true → after (suc k) ≡ marched b h
     march-last k e =
-        let last = last-is b tw th s h k e in
+        let last = last-says b tw th s h k e in
         still-march k (last .0) (altered-same (after k) (after (suc k)) (after-length k ∙ sym (after-length (suc k))) (last .1))
 
     rounds-from-least : (f k : ℕ) → rounds-from f k b tw th s h ≡ least-from f k (λ k. last-round b tw th s h k)
@@ -221,8 +217,7 @@ module _ (b : Board) (g : Good b) (tw th : ℕ) where
     pub rounds-few : rounds b tw th s h ≤ max 1 (up h s) + reached h (solved b)
     rounds-few =
         let k : ℕ = max 1 (up h s) - 1 in
-        let more : up h s ≤ suc k = omega arith in
-        let covers : h ≤ suc k * s = omega (arith, up-covers h s low, mul-le-mul-right s more) in
+        let covers = up-enough h s low (suc k) (omega arith) in
         omega (arith, least-bound rounds-found (suc (k + reached h (solved b))) (omega arith) (last-march k (reached h (solved b)) covers (omega arith)))
 
     pub rounds-last : last-round b tw th s h (rounds b tw th s h) ≡ true

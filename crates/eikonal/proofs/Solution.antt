@@ -7,7 +7,7 @@ use Prim.Native.Nat.{ℕ, zero, suc, _+_, _*_, _≤_, _<_}
 use native.Mathlib.Omega.{arith}
 use lib.Dec.{ltb}
 use lib.ListN.{length}
-use Rattle.eikonal.specs.Board.{Board, never, size, slowness, start-time, met, time, solved, Meets, earlier}
+use Rattle.eikonal.specs.Board.{Board, never, size, slowness, start-time, met, time, solved, marched, Meets, earlier}
 use Rattle.eikonal.specs.Promise.{One-solution, Times-below}
 use Rattle.eikonal.specs.Inner.Good.{Good, Known}
 use Rattle.eikonal.proofs.Levels.{order, worked}
@@ -15,6 +15,7 @@ use Rattle.eikonal.proofs.Good.{good, size-most}
 use Rattle.eikonal.proofs.Local.{local-of, Answers, stays, comes, local-answers}
 use Rattle.eikonal.proofs.Rule.{sides, along, down, met-is}
 use Rattle.eikonal.proofs.Passes.{Look, Sound, rule, rule-on, rule-off, time-off, solved-by, solved-is, solved-length, solved-fixed, solved-only}
+use Rattle.eikonal.proofs.Clip.{cut-length}
 
 -- a board by itself: each cell sees the state as it is
 abbrev pub plain : Look
@@ -47,6 +48,10 @@ solved-plain b = refl
 
 pub solved-long : (b : Board) → length (solved b) ≡ size b
 solved-long b = rw (solved-plain b) (solved-length b plain)
+
+pub marched-long : (b : Board) (h : ℕ) → length (marched b h) ≡ size b
+unfolding marched
+marched-long b h = cut-length h (solved b) ∙ solved-long b
 
 pub one-solution : One-solution
 unfolding One-solution Meets

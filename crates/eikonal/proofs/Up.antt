@@ -36,6 +36,9 @@ module _ (a b : ℕ) (l : 1 ≤ b) where
   pub up-short : (n : ℕ) → n < up a b → n * b < a
   up-short n h = let more : suc n * b ≤ up a b * b = mul-le-mul-right b h in omega (arith, more, up-close)
 
+  pub up-enough : (n : ℕ) → up a b ≤ n → a ≤ n * b
+  up-enough n h = omega (arith, up-covers, mul-le-mul-right b h)
+
   pub up-past : (x : ℕ) → x < a → x / b < up a b
   up-past x h = no-greater b (up a b) (suc (x / b)) (omega (arith, multiple-below a b x h, up-covers))
 

@@ -18,22 +18,21 @@ use Rattle.eikonal.proofs.Solution.{solved-long}
 use Rattle.eikonal.proofs.LastRound.{not-yet, not-last, is-last}
 use Rattle.eikonal.proofs.Rounds.{rounds-is, after-length}
 use Rattle.one_tile.specs.Rounds.{strides, span-start, some-within, exact-rounds}
-use Rattle.one_tile.proofs.March.{round-is-march}
-use Rattle.one_tile.proofs.LastSpan.{strides-low, left, comes, before, still, moves, none-within, one-within}
+use Rattle.one_tile.proofs.March.{after-is}
+use Rattle.one_tile.proofs.LastSpan.{strides-some, time-after, comes, before, still, moves, none-within, one-within}
 
 module _ (b : Board) (g : Good b) (tw th : ℕ) (wide : b .wide ≤ tw) (high : b .high ≤ th) (s h : ℕ) (low : 1 ≤ s) (far : h ≤ largest) where
   abbrev after : ℕ → List ℕ
   after k = after-rounds k b tw th s h
 
-  after-is : (k : ℕ) → after (suc k) ≡ marched b (min (suc k * s) h)
-  unfolding after-rounds
-  after-is k = round-is-march b g tw th wide high (min (suc k * s) h) (omega arith) (after k)
+  after-march : (k : ℕ) → after (suc k) ≡ marched b (min (suc k * s) h)
+  after-march = after-is b g tw th wide high s h far
 
-  after-time : (k c : ℕ) → time (after k) c ≡ left s h k (time (solved b) c)
-  unfolding after-rounds left marched
+  after-time : (k c : ℕ) → time (after k) c ≡ time-after s h k (time (solved b) c)
+  unfolding after-rounds time-after marched
   after-time zero c = never-time b c
   after-time (suc k) c =
-      ap (λ (ts : List ℕ). time ts c) (after-is k) ∙ cut-time (min (suc k * s) h) (solved b) c (omega arith)
+      ap (λ (ts : List ℕ). time ts c) (after-march k) ∙ cut-time (min (suc k * s) h) (solved b) c (omega arith)
 
   long : (k : ℕ) → length (after k) ≡ size b
   long = after-length b g tw th s h low far
@@ -69,7 +68,7 @@ module _ (b : Board) (g : Good b) (tw th : ℕ) (wide : b .wide ≤ tw) (high : 
         let l = comes s h k low is in
         let first : min (suc k * s) h ≡ h = omega arith in
         let second : min (suc (suc k) * s) h ≡ h = omega arith in
-        after-is (suc k) ∙ rw (first, second) refl ∙ sym (after-is k)
+        after-march (suc k) ∙ rw (first, second) refl ∙ sym (after-march k)
 
     counted : rounds b tw th s h ≡ cond (some-within (span-start s (suc k)) h (solved b)) (suc (suc k)) (suc k)
     counted = go (some-within (span-start s (suc k)) h (solved b)) refl
@@ -88,4 +87,4 @@ module _ (b : Board) (g : Good b) (tw th : ℕ) (wide : b .wide ≤ tw) (high : 
 
   pub exact : rounds b tw th s h ≡ exact-rounds s h (solved b)
   unfolding exact-rounds
-  exact = let e : suc (strides s h - 1) ≡ strides s h = omega (arith, strides-low s h) in rw e at (counted (strides s h - 1) e)
+  exact = rw (strides-some s h) at (counted (strides s h - 1) (strides-some s h))

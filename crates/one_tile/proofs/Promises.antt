@@ -14,28 +14,32 @@ use Rattle.eikonal.proofs.Solution.{solved-known}
 use Rattle.eikonal.proofs.Accepted.{run-fits}
 use Rattle.eikonal.proofs.Answers.{answered-number, answered-zero}
 use Rattle.one_tile.specs.Rounds.{exact-rounds}
-use Rattle.one_tile.specs.Promise.{Round-is-march, One-tile-rounds, Rounds-beforehand, Run-counts}
-use Rattle.one_tile.proofs.March as march
+use Rattle.one_tile.specs.Promise.{One-tile-round-is-march, One-tile-holds, One-tile-rounds, One-tile-beforehand, One-tile-run-counts}
+use Rattle.one_tile.proofs.March.{round-is-march, after-is}
 use Rattle.one_tile.proofs.LastSpan.{exact-cut, exact-early}
 use Rattle.one_tile.proofs.Counting.{exact}
 
-pub round-is-march : Round-is-march
-unfolding Round-is-march
-round-is-march b tw th m ts e wide high l = march.round-is-march b (good b e) tw th wide high m l ts
+pub one-tile-round-is-march : One-tile-round-is-march
+unfolding One-tile-round-is-march
+one-tile-round-is-march b tw th m ts e wide high l = round-is-march b (good b e) tw th wide high m l ts
+
+pub one-tile-holds : One-tile-holds
+unfolding One-tile-holds
+one-tile-holds b tw th s h j e wide high far = after-is b (good b e) tw th wide high s h far j
 
 pub one-tile-rounds : One-tile-rounds
 unfolding One-tile-rounds
 one-tile-rounds b tw th s h e wide high low far = exact b (good b e) tw th wide high s h low far
 
-pub rounds-beforehand : Rounds-beforehand
-unfolding Rounds-beforehand One-tile-rounds
-rounds-beforehand b tw th s h e wide high low far early =
+pub one-tile-beforehand : One-tile-beforehand
+unfolding One-tile-beforehand One-tile-rounds
+one-tile-beforehand b tw th s h e wide high low far early =
     one-tile-rounds b tw th s h e wide high low far
     ∙ exact-early s h (995905 + size b * 4095) (omega arith) (solved b) (solved-known (good b e)) (omega arith) (omega arith)
 
-pub run-counts : Run-counts
-unfolding Run-counts One-tile-rounds Run-says ledger-answer ledger-after refusal entered counted answer marched board plain
-run-counts w h ss cs ts tw th s z os x a b d e says n wide high =
+pub one-tile-run-counts : One-tile-run-counts
+unfolding One-tile-run-counts One-tile-rounds Run-says ledger-answer ledger-after refusal entered counted answer marched board plain
+one-tile-run-counts w h ss cs ts tw th s z os x a b d e says n wide high =
     let p = plain w h ss cs ts in
     let k = run-refusal p tw th s z os (length a) (length d) in
     let r = rounds (board p) tw th s z in

@@ -2,9 +2,9 @@
 use mathlib.Core.Path.{_≡_}
 use mathlib.Core.Bool.{true}
 use mathlib.Core.List.{List}
-use Prim.Native.Nat.{ℕ, _+_, _*_, _-_, _≤_}
+use Prim.Native.Nat.{ℕ, suc, _+_, _*_, _-_, _≤_, min}
 use Rattle.eikonal.specs.Board.{Board, size, solved, marched, largest}
-use Rattle.eikonal.specs.Tiles.{round, rounds}
+use Rattle.eikonal.specs.Tiles.{round, after-rounds, rounds}
 use Rattle.eikonal.specs.Refusals.{board}
 use Rattle.eikonal.specs.Entry.{plain, Run-says}
 use Rattle.eikonal.specs.Promise.{board-good}
@@ -12,10 +12,16 @@ use Rattle.eikonal.specs.declared.Reply.{Reply}
 use Rattle.one_tile.specs.Rounds.{strides, exact-rounds}
 
 -- A ROUND is the march to its bound, whatever times are stored
-unfoldable pub Round-is-march : Type 0
-Round-is-march =
+unfoldable pub One-tile-round-is-march : Type 0
+One-tile-round-is-march =
     (b : Board) (tw th m : ℕ) (stored : List ℕ) → board-good b ≡ true → b .wide ≤ tw → b .high ≤ th → m ≤ largest →
     round b tw th m stored ≡ marched b m
+
+-- so that is what a tile run holds after each round
+unfoldable pub One-tile-holds : Type 0
+One-tile-holds =
+    (b : Board) (tw th s h j : ℕ) → board-good b ≡ true → b .wide ≤ tw → b .high ≤ th → h ≤ largest →
+    after-rounds (suc j) b tw th s h ≡ marched b (min (suc j * s) h)
 
 -- THE ROUNDS of a tile run, exactly
 unfoldable pub One-tile-rounds : Type 0
@@ -23,16 +29,17 @@ One-tile-rounds =
     (b : Board) (tw th s h : ℕ) → board-good b ≡ true → b .wide ≤ tw → b .high ≤ th → 1 ≤ s → h ≤ largest →
     rounds b tw th s h ≡ exact-rounds s h (solved b)
 
--- K of them where the last span starts after every time that a board of N cells can have: that is known before the run
-unfoldable pub Rounds-beforehand : Type 0
-Rounds-beforehand =
+-- K of them, known before the run, where the last span starts past every time that a board of N cells can have: a start is at most 1,000,000, and each cell
+-- after the first adds at most 4,095
+unfoldable pub One-tile-beforehand : Type 0
+One-tile-beforehand =
     (b : Board) (tw th s h : ℕ) → board-good b ≡ true → b .wide ≤ tw → b .high ≤ th → 1 ≤ s → h ≤ largest →
     995905 + 4095 * size b ≤ (strides s h - 1) * s →
     rounds b tw th s h ≡ strides s h
 
--- so a tile run that is accepted counts them: by the board's times, and by those that it leaves
-unfoldable pub Run-counts : Type 0
-Run-counts =
+-- A TILE RUN that is accepted counts them: by the board's times, and by those that it leaves
+unfoldable pub One-tile-run-counts : Type 0
+One-tile-run-counts =
     (w h : ℕ) (ss cs ts : List ℕ) (tw th s z : ℕ) (os : List ℕ) (x : Reply) (a b d e : List ℕ) →
     Run-says w h ss cs ts tw th s z os x a b d e → x .number ≡ 0 → w ≤ tw → h ≤ th →
     (x .count ≡ exact-rounds s z (solved (board (plain w h ss cs ts)))) × (x .count ≡ exact-rounds s z b)

@@ -8,10 +8,10 @@ use Rattle.eikonal.specs.Entry.{Keeps, March-says, Round-says, Run-says}
 use Rattle.eikonal.specs.Promise.{Step, by-march, by-run, by-round, Steps, done, then, Every-list}
 use Rattle.eikonal.specs.declared.Reply.{Reply}
 use Rattle.eikonal.proofs.Promises as eikonal
-use Rattle.one_tile.specs.Promise.{Run-counts}
-use Rattle.one_tile.proofs.Promises.{run-counts}
+use Rattle.one_tile.specs.Promise.{One-tile-run-counts}
+use Rattle.one_tile.proofs.Promises.{one-tile-run-counts}
 use Rattle.records.specs.Records.{cells-of, begins-of}
-use Rattle.record_marches.specs.Promise.{Same-march, Same-round, Same-run, joined, Lists-are-records, Record-run-counts}
+use Rattle.record_marches.specs.Promise.{Same-march, Same-round, Same-run, joined, Lists-are-records, One-tile-record-counts}
 use Rattle.record_marches.specs.Promise.{Any-step, over-lists, record-march, record-run, record-round, Any-steps, Every-mixed-list, Third-condition}
 use Rattle.record_marches.specs.Promise as p
 
@@ -40,9 +40,9 @@ lists-are-records (c ∷ cs) (t ∷ ts) e =
     let r = lists-are-records cs ts (omega arith) in
     (ap (λ (xs : List ℕ). c ∷ xs) (r .0), ap (λ (xs : List ℕ). t ∷ xs) (r .1))
 
-pub record-run-counts : Record-run-counts
-unfolding Record-run-counts Run-counts
-record-run-counts w h ss ys tw th s z os x a b d e k n wide high = run-counts w h ss (cells-of ys) (begins-of ys) tw th s z os x a b d e k n wide high
+pub one-tile-record-counts : One-tile-record-counts
+unfolding One-tile-record-counts One-tile-run-counts
+one-tile-record-counts w h ss ys tw th s z os x a b d e k n wide high = one-tile-run-counts w h ss (cells-of ys) (begins-of ys) tw th s z os x a b d e k n wide high
 
 -- a record call is a call over the plain lists of its records' cells and times
 as-step : {a b : List ℕ} {c : Call} {x : Reply} → Any-step a b c x → Step a b c x

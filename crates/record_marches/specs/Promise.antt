@@ -42,8 +42,8 @@ unfoldable pub Lists-are-records : Type 0
 Lists-are-records = (cs ts : List ℕ) → length cs ≡ length ts → (cs ≡ cells-of (joined cs ts)) × (ts ≡ begins-of (joined cs ts))
 
 -- ---- A TILE RUN OVER RECORDS that is accepted, where one tile covers the board, counts its rounds exactly, as one over plain lists does
-unfoldable pub Record-run-counts : Type 0
-Record-run-counts =
+unfoldable pub One-tile-record-counts : Type 0
+One-tile-record-counts =
     (w h : ℕ) (ss : List ℕ) (ys : List Start) (tw th s z : ℕ) (os : List ℕ) (x : Reply) (a b d e : List ℕ) →
     Run-says w h ss (cells-of ys) (begins-of ys) tw th s z os x a b d e → x .number ≡ 0 → w ≤ tw → h ≤ th →
     (x .count ≡ exact-rounds s z (solved (board (plain w h ss (cells-of ys) (begins-of ys))))) × (x .count ≡ exact-rounds s z b)

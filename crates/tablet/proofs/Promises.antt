@@ -2,7 +2,7 @@
 use mathlib.Core.Path.{_≡_, sym, ap, _∙_}
 use mathlib.Core.Bool.{true}
 use mathlib.Core.List.{List}
-use Prim.Native.Nat.{ℕ, suc, _+_, _*_, _-_, _≤_}
+use Prim.Native.Nat.{ℕ, _+_, _*_, _-_, _≤_}
 use native.Mathlib.Omega.{arith}
 use lib.ListN.{length}
 use borrow.Author.Tests.{eq-eqb}
@@ -11,13 +11,13 @@ use Rattle.eikonal.specs.Tiles.{rounds}
 use Rattle.eikonal.specs.Refusals.{board-refusal}
 use Rattle.eikonal.specs.Promise.{board-good}
 use Rattle.one_tile.specs.Rounds.{strides, exact-rounds}
-use Rattle.one_tile.specs.Promise.{One-tile-rounds, Rounds-beforehand}
-use Rattle.one_tile.proofs.LastSpan.{strides-low, comes, exact-cut}
-use Rattle.one_tile.proofs.Promises.{one-tile-rounds, rounds-beforehand}
+use Rattle.one_tile.specs.Promise.{One-tile-rounds, One-tile-beforehand}
+use Rattle.one_tile.proofs.LastSpan.{strides-some, comes, exact-cut}
+use Rattle.one_tile.proofs.Promises.{one-tile-rounds, one-tile-beforehand}
 use Rattle.scenario.specs.File.{held}
 use Rattle.tablet.specs.Small.{horizon}
 use Rattle.tablet.specs.Tablet.{tablet-refusal, tablet-answer, Tablet-says}
-use Rattle.tablet.specs.Promise.{Tablet-counts, Tablet-rounds-beforehand}
+use Rattle.tablet.specs.Promise.{One-tile-tablet-counts, One-tile-tablet-beforehand}
 use Rattle.tablet.proofs.SmallFiles.{small, board-taken, cells-few}
 use Rattle.tablet.proofs.Answers.{taken}
 
@@ -38,24 +38,23 @@ answers : (f : List ℕ) (s tw th : ℕ) (out out-now : List ℕ) (x : ℕ) → 
 unfolding tablet-answer
 answers f s tw th out out-now x says e = says .answers ∙ rw e
 
-pub tablet-counts : Tablet-counts
-unfolding Tablet-counts One-tile-rounds marched
-tablet-counts f s tw th out out-now x says e wide high =
+pub one-tile-tablet-counts : One-tile-tablet-counts
+unfolding One-tile-tablet-counts One-tile-rounds marched
+one-tile-tablet-counts f s tw th out out-now x says e wide high =
     let n = length out in
     let exact = one-tile-rounds (held f) tw th s horizon (legal f s tw th n e) wide high (low f s tw th n e) (omega arith) in
     let counts : x ≡ exact-rounds s horizon (solved (held f)) * 256 = answers f s tw th out out-now x says e ∙ ap (λ (r : ℕ). r * 256) exact in
     (counts, counts ∙ ap (λ (r : ℕ). r * 256) (sym (exact-cut s horizon (omega arith) (solved (held f)))))
 
--- the last span is shorter than what lies between the latest time of 1,024 cells, 5,189,185, and the horizon
+-- no time of 1,024 cells is past 5,189,185, and the last span is no longer than what lies between that and the horizon
 late-start : (s n : ℕ) → 1 ≤ s → s ≤ 810815 → n ≤ 1024 → 995905 + 4095 * n ≤ (strides s horizon - 1) * s
 late-start s n low most few =
-    let is : suc (strides s horizon - 1) ≡ strides s horizon = omega (arith, strides-low s horizon) in
-    omega (arith, comes s horizon (strides s horizon - 1) low is)
+    omega (arith, strides-some s horizon, comes s horizon (strides s horizon - 1) low (strides-some s horizon))
 
-pub tablet-rounds-beforehand : Tablet-rounds-beforehand
-unfolding Tablet-rounds-beforehand Rounds-beforehand
-tablet-rounds-beforehand f s tw th out out-now x says e wide high most =
+pub one-tile-tablet-beforehand : One-tile-tablet-beforehand
+unfolding One-tile-tablet-beforehand One-tile-beforehand
+one-tile-tablet-beforehand f s tw th out out-now x says e wide high most =
     let n = length out in
     let early = late-start s (size (held f)) (low f s tw th n e) most (few f s tw th n e) in
-    let exact = rounds-beforehand (held f) tw th s horizon (legal f s tw th n e) wide high (low f s tw th n e) (omega arith) early in
+    let exact = one-tile-beforehand (held f) tw th s horizon (legal f s tw th n e) wide high (low f s tw th n e) (omega arith) early in
     answers f s tw th out out-now x says e ∙ ap (λ (r : ℕ). r * 256) exact

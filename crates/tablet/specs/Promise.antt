@@ -11,15 +11,15 @@ use Rattle.tablet.specs.Small.{horizon}
 use Rattle.tablet.specs.Tablet.{tablet-refusal, Tablet-says}
 
 -- a call that is accepted counts the rounds exactly: by the board's times, and by those whose bytes it writes
-unfoldable pub Tablet-counts : Type 0
-Tablet-counts =
+unfoldable pub One-tile-tablet-counts : Type 0
+One-tile-tablet-counts =
     (f : List ℕ) (s tw th : ℕ) (out out-now : List ℕ) (x : ℕ) →
     Tablet-says f s tw th out out-now x → tablet-refusal f s tw th (length out) ≡ 0 → held f .wide ≤ tw → held f .high ≤ th →
     (x ≡ exact-rounds s horizon (solved (held f)) * 256) × (x ≡ exact-rounds s horizon (marched (held f) horizon) * 256)
 
 -- for strides to 810,815 they are K, whatever the file holds: known before the call
-unfoldable pub Tablet-rounds-beforehand : Type 0
-Tablet-rounds-beforehand =
+unfoldable pub One-tile-tablet-beforehand : Type 0
+One-tile-tablet-beforehand =
     (f : List ℕ) (s tw th : ℕ) (out out-now : List ℕ) (x : ℕ) →
     Tablet-says f s tw th out out-now x → tablet-refusal f s tw th (length out) ≡ 0 → held f .wide ≤ tw → held f .high ≤ th → s ≤ 810815 →
     x ≡ strides s horizon * 256

@@ -1,4 +1,5 @@
--- From the front to rounds: what a drained front writes is the round, rounds before the least key alter nothing, and the count is the tile run's. Assumes nothing.
+-- From the front to rounds: what a drained front writes is the round, a round that takes cells alters some, and rounds before the least key alter nothing.
+-- Assumes nothing.
 use mathlib.Core.Path.{_≡_, refl, sym, ap, subst, _∙_}
 use mathlib.Core.Bool.{Bool, true, false, cond}
 use mathlib.Core.Logic.{_⊎_, inl, inr, ⊎-elim, _≢_}
