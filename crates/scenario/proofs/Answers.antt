@@ -1,4 +1,4 @@
--- What a reader answers beside a number: the rest where it is 0, zeros where it is not; and what it leaves. Assumes nothing.
+-- What the reader answers beside a number: the rest where it is 0, zeros where it is not; and what lent lists hold then. Assumes nothing.
 use mathlib.Core.Path.{_≡_, refl, sym}
 use mathlib.Core.List.{List, _++_}
 use Prim.Native.Nat.{ℕ}
