@@ -1,5 +1,5 @@
 -- D two ways: one test over a list, which antt computes, shows that the list holds D at each place; and the root of the
--- local rule is D where both sides come at once. Assumes nothing.
+-- local rule is D where both sides come at once.
 use mathlib.Core.Path.{_≡_}
 use mathlib.Core.Bool.{Bool, true, _&&_}
 use mathlib.Core.List.{List, [], _∷_}

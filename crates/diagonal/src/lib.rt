@@ -31,7 +31,7 @@ pub fn diagonal(slowness: u32) -> Reply
     ensures { λ x. ⌜ Diagonal-says slowness x ⌝ }
 {
     if slowness > 4095 {
-        return eikonal::refused(5);
+        return eikonal::refused(eikonal::cause(5));
     }
     Reply {
         number: 0,

@@ -1,4 +1,4 @@
--- Entries that differ between two lists. Assumes nothing.
+-- Entries that differ between two lists.
 use mathlib.Core.Path.{_≡_, refl, ap₂}
 use mathlib.Core.Bool.{Bool, true, false, cond}
 use mathlib.Core.List.{List, [], _∷_}

@@ -1,21 +1,22 @@
--- What is answered beside a number: the count where it is 0, 0 where it is not. Assumes nothing.
+-- What is answered beside a refusal: the count where it is none, 0 where it is one.
 use mathlib.Core.Path.{_≡_, refl, sym}
 use Prim.Native.Nat.{ℕ}
 use native.Mathlib.Decide.{ℕ-discrete}
 use borrow.Author.Tests.{eq-eqb, ne-eqb}
 use Rattle.eikonal.specs.Ledger.{answer, answered}
+use Rattle.eikonal.specs.declared.Refusal.{Refusal}
 
-pub answered-number : (k c : ℕ) → answered k c .number ≡ k
+pub answered-number : (k : Refusal) (c : ℕ) → answered k c .number ≡ k .number
 unfolding answered answer
-answered-number k c = elim (ℕ-discrete k 0) [
-  | yes q ↦ rw (eq-eqb k 0 q) (sym q)
-  | no q ↦ rw (ne-eqb k 0 q) refl
+answered-number k c = elim (ℕ-discrete (k .number) 0) [
+  | yes q ↦ rw (eq-eqb (k .number) 0 q) (sym q)
+  | no q ↦ rw (ne-eqb (k .number) 0 q) refl
 ]
 
-pub answered-zero : (k c : ℕ) → k ≡ 0 → answered k c ≡ answer 0 c
+pub answered-zero : (k : Refusal) (c : ℕ) → k .number ≡ 0 → answered k c ≡ answer 0 c
 unfolding answered
-answered-zero k c e = rw (eq-eqb k 0 e)
+answered-zero k c e = rw (eq-eqb (k .number) 0 e)
 
-pub answered-refused : (n k c : ℕ) → n ≡ k → (k ≡ 0 → ⊥) → answered n c ≡ answer k 0
+pub answered-refused : (k : Refusal) (c : ℕ) → (k .number ≡ 0 → ⊥) → answered k c ≡ answer (k .number) 0
 unfolding answered
-answered-refused n k c e h = rw (e, ne-eqb k 0 h)
+answered-refused k c h = rw (ne-eqb (k .number) 0 h)

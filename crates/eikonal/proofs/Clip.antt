@@ -1,4 +1,4 @@
--- Times up to a bound, never elsewhere, as the cut of a list has them. Assumes nothing.
+-- Times up to a bound, never elsewhere, as the cut of a list has them.
 use mathlib.Core.Path.{_≡_, refl, ap}
 use mathlib.Core.Bool.{Bool, true, false, cond}
 use mathlib.Core.List.{List, [], _∷_}

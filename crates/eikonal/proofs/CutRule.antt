@@ -1,4 +1,4 @@
--- What code cites: times in which every cell meets the rule cut at a bound are the march's, are the round's. Assumes nothing.
+-- What code cites: times in which every cell meets the rule cut at a bound are the march's, are the round's.
 use mathlib.Core.Path.{_≡_, sym, ap, _∙_}
 use mathlib.Core.List.{List}
 use mathlib.Core.Logic.{_⊎_, inl, inr}
@@ -56,7 +56,8 @@ module _ (b : Board) (look : Look) (sound : Sound look) (g : Good b) (m : ℕ) (
       same c =
           omega (
             arith,
-            one-fixed never cut-rule cut-causal (time ts) (time (cut m (solved-by b look))) (λ e. ap (min never) (fixed e)) (λ e. ap (min never) (cut-meets e)) never (omega arith) c,
+            one-fixed never cut-rule cut-causal (time ts) (time (cut m (solved-by b look))) (λ e. ap (min never) (fixed e)) (λ e. ap (min never) (cut-meets e))
+                never (omega arith) c,
             fixed c,
             cut-meets c,
             clip-most m (rule b look (time ts) c) (omega arith),

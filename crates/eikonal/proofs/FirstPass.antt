@@ -1,4 +1,4 @@
--- The local rule's answer, at most never, is the first time that passes. Assumes nothing.
+-- The local rule's answer, at most never, is the first time that passes.
 use mathlib.Core.Path.{_≡_, sym, ap, ap₂, _∙_}
 use mathlib.Core.Bool.{true, false, true≢false}
 use Prim.Native.Nat.{ℕ, zero, suc, _+_, _*_, _-_, _≤_, _<_, min, max}

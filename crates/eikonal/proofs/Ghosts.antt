@@ -1,4 +1,4 @@
--- What the cells of a tile see: their own tile's times as they are met, ghosts as stored. Assumes nothing.
+-- What the cells of a tile see: their own tile's times as they are met, ghosts as stored.
 use mathlib.Core.Path.{_≡_, refl}
 use mathlib.Core.Bool.{Bool, true, false, cond, _||_}
 use mathlib.Core.List.{List}
@@ -43,7 +43,8 @@ stored b ts e = go (eqb (slowness b e) 0)
     go true = refl
     go false = clip-late-test (time ts e)
 
-pub stored-agree : (b : Board) (t : ℕ) (ts us : List ℕ) → t ≤ never → Agree t (time ts) (time us) → (e : ℕ) → min t (counts-as b ts e) ≡ min t (counts-as b us e)
+pub stored-agree : (b : Board) (t : ℕ) (ts us : List ℕ) → t ≤ never → Agree t (time ts) (time us) → (e : ℕ) → min t (counts-as b ts e)
+    ≡ min t (counts-as b us e)
 stored-agree b t ts us h a e = rw (stored b ts e, stored b us e) (go (eqb (slowness b e) 0))
   where
     go : (p : Bool) → min t (cond p never (clip largest (time ts e))) ≡ min t (cond p never (clip largest (time us e)))

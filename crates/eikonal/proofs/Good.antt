@@ -1,6 +1,6 @@
--- A board that is not refused is Good. Assumes nothing.
+-- A board that is not refused is Good.
 use mathlib.Core.Path.{_≡_, refl, ap, _∙_}
-use mathlib.Core.Bool.{Bool, true, false, cond, not, _&&_, _||_, false≢true, true≢false}
+use mathlib.Core.Bool.{Bool, true, false, cond, _&&_, _||_, false≢true, true≢false}
 use mathlib.Core.List.{List, [], _∷_}
 use mathlib.Core.Logic.{inl, inr}
 use Prim.Native.Nat.{ℕ, zero, suc, _≤_}
@@ -8,11 +8,13 @@ use native.Mathlib.Omega.{arith}
 use native.Mathlib.Nat.{mul-le-mul}
 use lib.Dec.{ltb, leb, eqb}
 use lib.ListN.{length, getD}
-use borrow.Author.Tests.{eqb-true, eqb-false, leb-true, ltb-false, not-false}
-use Rattle.eikonal.specs.Board.{Board, Start, size, slowness, never, start-time}
-use Rattle.eikonal.specs.Refusals.{board-refusal, starts-refusal, side-good, any-above, starts-rise, late, on-wall}
+use borrow.Author.Tests.{eqb-true, eqb-false, leb-true, ltb-false}
+use Rattle.eikonal.specs.Board.{Board, size, slowness, never, start-time}
+use Rattle.eikonal.specs.declared.Start.{Start}
+use Rattle.eikonal.specs.Refusals.{Handed, handed, handed-refusal, starts-refusal, side-good, sides-good, any-above, starts-rise, late, on-wall}
 use Rattle.eikonal.specs.Promise.{board-good}
 use Rattle.eikonal.specs.Inner.Good.{Known, Good}
+use Rattle.eikonal.proofs.Causes.{passed, fulfilled}
 
 pub and-true : (p q : Bool) → p && q ≡ true → (p ≡ true) × (q ≡ true)
 and-true true q e = (refl, e)
@@ -21,11 +23,6 @@ and-true false q e = absurd (false≢true e)
 pub or-false : (p q : Bool) → p || q ≡ false → (p ≡ false) × (q ≡ false)
 or-false true q e = absurd (true≢false e)
 or-false false q e = (refl, e)
-
--- a refusal that is 0 passes each test in turn
-pub passed : (p : Bool) (k q : ℕ) → cond p (suc k) q ≡ 0 → (p ≡ false) × (q ≡ 0)
-passed true k q e = absurd (omega arith)
-passed false k q e = (refl, e)
 
 pub side : (n : ℕ) → side-good n ≡ true → (1 ≤ n) × (n ≤ 256)
 unfolding side-good
@@ -59,28 +56,51 @@ none-on-wall b (x ∷ xs) e c w =
     go true q n k = absurd (n (ap (slowness b) (eqb-true (x .cell) c q) ∙ w))
     go false q n k = k
 
-pub good : (b : Board) → board-good b ≡ true → Good b
-unfolding board-good board-refusal starts-refusal slowness
-good b e =
-    let r2 = passed (not (side-good (b .wide) && side-good (b .high))) 1 _ (eqb-true (board-refusal b) 0 e) in
-    let r4 = passed (not (eqb (length (b .slow)) (size b))) 3 _ (r2 .1) in
-    let r5 = passed (any-above 4095 (b .slow)) 4 _ (r4 .1) in
-    let r7 = passed (not (starts-rise (size b) 0 (b .starts))) 6 _ (r5 .1) in
-    let r8 = passed (late (b .starts)) 7 _ (r7 .1) in
-    let r9 = passed (on-wall b (b .starts)) 8 _ (r8 .1) in
-    let both = and-true (side-good (b .wide)) (side-good (b .high)) (not-false _ (r2 .0)) in
-    let w = side (b .wide) (both .0) in
-    let h = side (b .high) (both .1) in
+-- both sides of a board, or of a tile
+pub sides-within : (w h : ℕ) → sides-good w h ≡ true → (1 ≤ w) × (w ≤ 256) × (1 ≤ h) × (h ≤ 256)
+unfolding sides-good
+sides-within w h e =
+    let both = and-true (side-good w) (side-good h) e in
+    (side w (both .0) .0, side w (both .0) .1, side h (both .1) .0, side h (both .1) .1)
+
+-- what is known of a board that was handed in and is not refused
+pub record Accepted (p : Handed) : Type 0 where
+  pub paired : p .paired ≡ true
+  pub good : Good (p .board)
+  pub rise : starts-rise (size (p .board)) 0 (p .board .starts) ≡ true
+  pub timely : late (p .board .starts) ≡ false
+
+pub accepted : (p : Handed) → handed-refusal p .number ≡ 0 → Accepted p
+unfolding handed-refusal starts-refusal slowness
+accepted p e =
+    let b = p .board in
+    let r2 = fulfilled (sides-good (b .wide) (b .high)) _ _ e in
+    let r4 = fulfilled (p .paired && eqb (length (b .slow)) (size b)) _ _ (r2 .1) in
+    let r5 = passed (any-above 4095 (b .slow)) _ _ (r4 .1) in
+    let r7 = fulfilled (starts-rise (size b) 0 (b .starts)) _ _ (r5 .1) in
+    let r8 = passed (late (b .starts)) _ _ (r7 .1) in
+    let r9 = passed (on-wall b (b .starts)) _ _ (r8 .1) in
+    let s = sides-within (b .wide) (b .high) (r2 .0) in
+    let even = and-true (p .paired) (eqb (length (b .slow)) (size b)) (r4 .0) in
     record {
-      wide-low = w .0;
-      wide-high = w .1;
-      high-low = h .0;
-      high-high = h .1;
-      slow-length = eqb-true (length (b .slow)) (size b) (not-false _ (r4 .0));
-      slow-most = none-above 4095 (b .slow) (r5 .0);
-      starts-known = none-late (b .starts) (r8 .0);
-      walls-free = none-on-wall b (b .starts) (r9 .0);
+      paired = even .0;
+      good = record {
+        wide-low = s .0;
+        wide-high = s .1;
+        high-low = s .2;
+        high-high = s .3;
+        slow-length = eqb-true (length (b .slow)) (size b) (even .1);
+        slow-most = none-above 4095 (b .slow) (r5 .0);
+        starts-known = none-late (b .starts) (r8 .0);
+        walls-free = none-on-wall b (b .starts) (r9 .0);
+      };
+      rise = r7 .0;
+      timely = r8 .0;
     }
+
+pub good : (b : Board) → board-good b ≡ true → Good b
+unfolding board-good
+good b e = accepted (handed b true) (eqb-true _ 0 e) .good
 
 pub size-most : {b : Board} → Good b → size b ≤ 65536
 unfolding size

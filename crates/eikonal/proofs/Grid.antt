@@ -1,4 +1,4 @@
--- Columns and rows of cells, and a cell's neighbours. Assumes nothing.
+-- Columns and rows of cells, and a cell's neighbours.
 use mathlib.Core.Path.{_≡_, refl, sym, ap, _∙_}
 use mathlib.Core.Bool.{Bool, true, false, cond}
 use mathlib.Core.Logic.{_⊎_, inl, inr, _≢_}
@@ -12,7 +12,7 @@ use Rattle.eikonal.specs.Promise.{Beside, Neighbour}
 use Rattle.eikonal.specs.Inner.Good.{Good}
 use Rattle.eikonal.proofs.Levels.{order}
 use Rattle.eikonal.proofs.Local.{earlier-min}
-use Rattle.eikonal.proofs.Rule.{sides, along, down}
+use Rattle.eikonal.proofs.Rule.{earlier-seen, along, down}
 
 -- one to the right: the column goes up by one, or back to 0
 pub wraps : (w c : ℕ) → suc (c % w) ≡ w → suc c % w ≡ 0
@@ -59,20 +59,20 @@ right-on w h c l k e =
     omega (arith, mul-le-mul-right w i, div-add-mod' c w, mod-lt c l, e)
 
 -- ---- the earlier of two sides is no later than either that is on the board, and is one of them
-sides-first : (q : Bool) (i j : ℕ) (f : ℕ → ℕ) → sides false q i j f ≤ f i
-unfolding sides
+sides-first : (q : Bool) (i j : ℕ) (f : ℕ → ℕ) → earlier-seen false q i j f ≤ f i
+unfolding earlier-seen
 sides-first q i j f = rw (earlier-min (f i) (cond q never (f j))) (omega arith)
 
-sides-second : (p : Bool) (i j : ℕ) (f : ℕ → ℕ) → sides p false i j f ≤ f j
-unfolding sides
+sides-second : (p : Bool) (i j : ℕ) (f : ℕ → ℕ) → earlier-seen p false i j f ≤ f j
+unfolding earlier-seen
 sides-second p i j f = rw (earlier-min (cond p never (f i)) (f j)) (omega arith)
 
 data Side (p q : Bool) (i j : ℕ) (f : ℕ → ℕ) : Type 0 where
-  one : p ≡ false → f i ≤ sides p q i j f → Side p q i j f
-  other : q ≡ false → f j ≤ sides p q i j f → Side p q i j f
+  one : p ≡ false → f i ≤ earlier-seen p q i j f → Side p q i j f
+  other : q ≡ false → f j ≤ earlier-seen p q i j f → Side p q i j f
 
-which-side : (p q : Bool) (i j : ℕ) (f : ℕ → ℕ) → sides p q i j f < never → Side p q i j f
-unfolding sides
+which-side : (p q : Bool) (i j : ℕ) (f : ℕ → ℕ) → earlier-seen p q i j f < never → Side p q i j f
+unfolding earlier-seen
 which-side true true i j f h = absurd (omega (arith, earlier-min never never))
 which-side true false i j f h = other refl (omega (arith, earlier-min never (f j)))
 which-side false true i j f h = one refl (omega (arith, earlier-min (f i) never))

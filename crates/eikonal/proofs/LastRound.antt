@@ -1,4 +1,4 @@
--- Which round of a tile run can be the last: the first one is, says Rounds.antt. Assumes nothing.
+-- Which round of a tile run can be the last: the first one is, says Rounds.antt.
 use mathlib.Core.Path.{_≡_}
 use mathlib.Core.Bool.{true, false, and-false}
 use mathlib.Core.List.{List}

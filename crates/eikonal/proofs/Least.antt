@@ -1,4 +1,4 @@
--- The least number that passes a test. Assumes nothing.
+-- The least number that passes a test.
 use mathlib.Core.Path.{_≡_, refl, sym, _∙_, subst}
 use mathlib.Core.Bool.{Bool, true, false, cond, true≢false}
 use mathlib.Core.Logic.{_⊎_, inl, inr}

@@ -6,9 +6,10 @@ pub mod Local
 pub mod LocalRule
 pub mod Root
 pub mod FirstPass
+pub mod Causes
 pub mod Good
 pub mod Judging
-pub mod BoardRefusals
+pub mod Above
 pub mod Rule
 pub mod Passes
 pub mod Clip

@@ -1,4 +1,4 @@
--- The local rule of a board: two axes of weight 1. Its laws are those of Axes.antt. Assumes nothing.
+-- The local rule of a board: two axes of weight 1. Its laws are those of Axes.antt.
 use mathlib.Core.Path.{_≡_, refl, sym, ap₂, _∙_, fun-ext}
 use mathlib.Core.Bool.{Bool, true, false, cond, _||_}
 use mathlib.Core.List.{List, [], _∷_}
@@ -9,7 +9,8 @@ use lib.Dec.{ltb, eqb}
 use borrow.Author.Tests.{ltb-true, ltb-false}
 use Rattle.eikonal.specs.Board.{never, earlier, least-from, passes, local}
 use Rattle.eikonal.proofs.Least.{Least}
-use Rattle.eikonal.proofs.Axes.{earliest, pull, passes-axes, local-axes, Enough, axes-on, axes-late, axes-step, Answers-axes, axes-answers, axes-comes, axes-passes, passes-local-axes, axes-under, axes-agree}
+use Rattle.eikonal.proofs.Axes.{earliest, pull, passes-axes, local-axes, Enough, axes-on, axes-late, axes-step, Answers-axes, axes-answers, axes-comes}
+use Rattle.eikonal.proofs.Axes.{axes-passes, passes-local-axes, axes-under, axes-agree}
 
 -- ---- the earlier of two
 pub earlier-min : (a b : ℕ) → earlier a b ≡ min a b

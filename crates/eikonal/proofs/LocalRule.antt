@@ -1,4 +1,4 @@
--- Local-least and Diagonal-step: what Promise.antt says of the local rule. Assumes nothing.
+-- Local-least and Diagonal-step: what Promise.antt says of the local rule.
 use mathlib.Core.Path.{_≡_, refl, ap, _∙_}
 use mathlib.Core.Bool.{Bool, true, false, cond}
 use mathlib.Core.Logic.{inl, inr}

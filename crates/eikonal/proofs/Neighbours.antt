@@ -1,4 +1,4 @@
--- What neighbours give a cell rests on them alone, level by level, and follows them. Assumes nothing.
+-- What neighbours give a cell rests on them alone, level by level, and follows them.
 use mathlib.Core.Path.{_≡_, refl, ap₂}
 use mathlib.Core.Bool.{Bool, true, false, cond}
 use Prim.Native.Nat.{ℕ, suc, _+_, _-_, _/_, _%_, _≤_, _<_, min}
@@ -8,12 +8,13 @@ use Rattle.eikonal.specs.Board.{Board, never, size, slowness, earlier, l
 use Rattle.eikonal.specs.Promise.{Neighbour}
 use Rattle.eikonal.specs.Inner.Good.{Good}
 use Rattle.eikonal.proofs.Good.{start-most}
-use Rattle.eikonal.proofs.Local.{local-of, earlier-min, earlier-agree, earlier-under, local-agree, local-under, Answers, stays, comes, local-answers, passes-late, step-passes}
-use Rattle.eikonal.proofs.Rule.{sides, along, down}
+use Rattle.eikonal.proofs.Local.{local-of, earlier-min, earlier-agree, earlier-under, local-agree, local-under, Answers, stays, comes, local-answers}
+use Rattle.eikonal.proofs.Local.{passes-late, step-passes}
+use Rattle.eikonal.proofs.Rule.{earlier-seen, along, down}
 use Rattle.eikonal.proofs.Grid.{left-near, right-near, above-near, below-near}
 
 pub arrival-is : (b : Board) (c : ℕ) (f : ℕ → ℕ) → arrival b c f ≡ local-of (slowness b c) (along b c f) (down b c f)
-unfolding arrival sides local local-of
+unfolding arrival earlier-seen local local-of
 arrival-is b c f = refl
 
 -- a relation of times that the earlier of two keeps
@@ -25,8 +26,9 @@ module _ (P : ℕ → ℕ → Type 0) (kept : Kept P) where
   side-by true x y h = kept .0
   side-by false x y h = h refl
 
-  sides-by : (p q : Bool) (i j : ℕ) (f g : ℕ → ℕ) → (p ≡ false → P (f i) (g i)) → (q ≡ false → P (f j) (g j)) → P (sides p q i j f) (sides p q i j g)
-  unfolding sides
+  sides-by : (p q : Bool) (i j : ℕ) (f g : ℕ → ℕ) → (p ≡ false → P (f i) (g i)) → (q ≡ false → P (f j) (g j))
+      → P (earlier-seen p q i j f) (earlier-seen p q i j g)
+  unfolding earlier-seen
   sides-by p q i j f g h k = kept .1 _ _ _ _ (side-by p (f i) (g i) h) (side-by q (f j) (g j) k)
 
   module _ {b : Board} (good : Good b) (c : ℕ) (on : c < size b) (f g : ℕ → ℕ) (h : (e : ℕ) → e < size b → Neighbour b c e → P (f e) (g e)) where
@@ -52,7 +54,8 @@ module _ {b : Board} (good : Good b) (c : ℕ) (on : c < size b) (f g : ℕ → 
   arrival-agree t l h =
       let kept : Kept (λ x y. min t x ≡ min t y) = (refl, earlier-agree t) in
       rw (arrival-is b c f, arrival-is b c g)
-      (local-agree (slowness b c) _ _ _ _ t l (along-by (λ x y. min t x ≡ min t y) kept good c on f g h) (down-by (λ x y. min t x ≡ min t y) kept good c on f g h))
+      (local-agree (slowness b c) _ _ _ _ t l (along-by (λ x y. min t x ≡ min t y) kept good c on f g h)
+      (down-by (λ x y. min t x ≡ min t y) kept good c on f g h))
 
   -- MONOTONE
   pub arrival-under : ((e : ℕ) → e < size b → Neighbour b c e → min never (f e) ≤ g e) → min never (arrival b c f) ≤ arrival b c g

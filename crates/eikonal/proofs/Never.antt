@@ -1,4 +1,4 @@
--- Never, exactly: Never-past-horizon and Never-unjoined. Assumes nothing.
+-- Never, exactly: Never-past-horizon and Never-unjoined.
 use mathlib.Core.Path.{_≡_, _∙_}
 use mathlib.Core.Bool.{true}
 use mathlib.Core.Logic.{_⊎_, inl, inr, _≢_}
@@ -35,8 +35,11 @@ module _ (b : Board) (legal : board-good b ≡ true) where
   unfolding Times-below
   joined-reached (begins c h w s) = (h, omega (arith, solved-met c h, start-most (good b legal) c, s))
   joined-reached (goes-on c e h w n j) =
-      let r = joined-reached j in
-      (h, go (times-below b e legal (r .0)) (r .1) (neighbour-seen (good b legal) (time (solved b)) c h e (r .0) n) (local-answers (slowness b c) (along b c (time (solved b))) (down b c (time (solved b)))))
+      let r = joined-reached j in (
+        h,
+        go (times-below b e legal (r .0)) (r .1) (neighbour-seen (good b legal) (time (solved b)) c h e (r .0) n)
+            (local-answers (slowness b c) (along b c (time (solved b))) (down b c (time (solved b)))),
+      )
     where
       go : (time (solved b) e < 269369920) ⊎ (time (solved b) e ≡ never) → time (solved b) e < never
           → min (along b c (time (solved b))) (down b c (time (solved b))) ≤ time (solved b) e
@@ -50,7 +53,8 @@ module _ (b : Board) (legal : board-good b ≡ true) where
   reached-joined : (t c : ℕ) → c < size b → time (solved b) c < t → t ≤ never → Joined b c
   reached-joined zero c h k l = absurd (omega arith)
   reached-joined (suc t) c h k l =
-      go (order (local-of (slowness b c) (along b c (time (solved b))) (down b c (time (solved b)))) (start-time c (b .starts))) (local-answers _ _ _) (λ e. reached-joined t e)
+      go (order (local-of (slowness b c) (along b c (time (solved b))) (down b c (time (solved b)))) (start-time c (b .starts))) (local-answers _ _ _)
+      (λ e. reached-joined t e)
     where
       go : (local-of (slowness b c) (along b c (time (solved b))) (down b c (time (solved b))) < start-time c (b .starts))
           ⊎ (start-time c (b .starts) ≤ local-of (slowness b c) (along b c (time (solved b))) (down b c (time (solved b))))
@@ -65,7 +69,8 @@ module _ (b : Board) (legal : board-good b ≡ true) where
           by (nearest (good b legal) (time (solved b)) c h (omega (arith, solved-met c h))) late
         where
           by : Nearest (good b legal) (time (solved b)) c h
-              → min (along b c (time (solved b))) (down b c (time (solved b))) < local-of (slowness b c) (along b c (time (solved b))) (down b c (time (solved b))) → Joined b c
+              → min (along b c (time (solved b))) (down b c (time (solved b))) < local-of (slowness b c) (along b c (time (solved b)))
+              (down b c (time (solved b))) → Joined b c
           by (near e on n f) late = goes-on c e h (λ z. omega arith) n (next e on (omega (arith, solved-met c h)) (omega arith))
 
 pub never-unjoined : Never-unjoined

@@ -1,4 +1,4 @@
--- Passes over lists are steps over states, and they come to the one solution. Assumes nothing.
+-- Passes over lists are steps over states, and they come to the one solution.
 use mathlib.Core.Path.{_≡_, refl, sym, ap, _∙_, fun-ext}
 use mathlib.Core.Bool.{Bool, true, false, cond}
 use mathlib.Core.List.{List}
@@ -138,8 +138,10 @@ module _ (b : Board) (look : Look) (sound : Sound look) where
   -- after n passes, and after any more, the state is the limit's
   pub worked-out : (j : ℕ) → size b ≤ j → Agree never (worked never (rule b look) j) (worked never (rule b look) (size b))
   worked-out j h c =
-      reached-limit never (rule b look) rule-causal rule-monotone (size b) j (off never) (omega (arith, count-most (size b) never (worked never (rule b look) never))) c
-      ∙ sym (reached-limit never (rule b look) rule-causal rule-monotone (size b) (size b) (off never) (count-most (size b) never (worked never (rule b look) never)) c)
+      reached-limit never (rule b look) rule-causal rule-monotone (size b) j (off never)
+      (omega (arith, count-most (size b) never (worked never (rule b look) never))) c
+      ∙ sym (reached-limit never (rule b look) rule-causal rule-monotone (size b) (size b) (off never)
+      (count-most (size b) never (worked never (rule b look) never)) c)
 
   module _ (g : Good b) where
     pub rule-most : (f : ℕ → ℕ) (c : ℕ) → rule b look f c ≤ never
@@ -169,7 +171,8 @@ module _ (b : Board) (look : Look) (sound : Sound look) where
         same c h =
             omega (
               arith,
-              one-fixed never (rule b look) rule-causal (time ts) (time (solved-by b look)) (λ c. ap (min never) (fixed c)) (λ c. ap (min never) (solved-fixed c)) never (omega arith) c,
+              one-fixed never (rule b look) rule-causal (time ts) (time (solved-by b look)) (λ c. ap (min never) (fixed c))
+                  (λ c. ap (min never) (solved-fixed c)) never (omega arith) c,
               fixed c,
               solved-fixed c,
               rule-most (time ts) c,

@@ -1,6 +1,8 @@
--- THE PROMISES, gathered: each statement of specs/Promise.antt with its proof. Assumes nothing.
+-- THE PROMISES, gathered: each statement of specs/Promise.antt with its proof.
 use Rattle.eikonal.specs.Promise.{Local-least, Diagonal-step, One-solution, Times-below, Never-past-horizon, Never-unjoined}
-use Rattle.eikonal.specs.Promise.{Round-is-solution, Run-is-march, Rounds-least, Few-rounds, Order-free, Run-order-free, Run-is-rounds, Every-list, Lists-keep}
+use Rattle.eikonal.specs.Promise.{Round-is-solution, Run-is-march, Rounds-least, Few-rounds, Order-free, Run-order-free, Run-is-rounds, Every-list}
+use Rattle.eikonal.specs.Promise.{Lists-keep}
+use Rattle.eikonal.specs.Promise.{Same-handed, Lists-are-records, Same-answers, Third-condition}
 use Rattle.eikonal.proofs.LocalRule as local-rule
 use Rattle.eikonal.proofs.Solution as solution
 use Rattle.eikonal.proofs.Never as never
@@ -54,3 +56,25 @@ every-list = ledger.every-list
 
 pub lists-keep : Lists-keep
 lists-keep = ledger.lists-keep
+
+pub third-condition : Third-condition
+third-condition = record {
+  every-list = every-list;
+  round-is-solution = round-is-solution;
+  run-is-march = run-is-march;
+  rounds-least = rounds-least;
+  few-rounds = few-rounds;
+  run-is-rounds = run-is-rounds;
+  order-free = order-free;
+  run-order-free = run-order-free;
+}
+
+-- records and plain lists
+pub same-handed : Same-handed
+same-handed = ledger.same-handed
+
+pub lists-are-records : Lists-are-records
+lists-are-records = ledger.lists-are-records
+
+pub same-answers : Same-answers
+same-answers = ledger.same-answers

@@ -1,4 +1,4 @@
--- The ticks past the later side: lines that clear a disc, and Newton's steps on a sum of two squares. Assumes nothing.
+-- The ticks past the later side: lines that clear a disc, and Newton's steps on a sum of two squares.
 use mathlib.Core.Path.{_≡_}
 use Prim.Native.Nat.{ℕ, zero, suc, _+_, _*_, _-_, _/_, _≤_, _<_, min}
 use native.Mathlib.Omega.{arith}

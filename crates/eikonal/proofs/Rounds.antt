@@ -1,5 +1,5 @@
 -- A round over tiles solves a board that is seen in part as stored, and rounds come to the march: Round-is-solution, Run-is-march, Rounds-least and
--- Few-rounds. Assumes nothing.
+-- Few-rounds.
 use mathlib.Core.Path.{_≡_, refl, sym, ap, _∙_}
 use mathlib.Core.Bool.{Bool, true, false, cond, true≢false}
 use mathlib.Core.List.{List}
@@ -82,7 +82,8 @@ module _ (b : Board) (g : Good b) (tw th : ℕ) where
 
   -- tiles that see the march have the march's times
   march-tiles : (h : ℕ) → h ≤ largest → Agree (suc h) (tiles (marched b h)) whole
-  march-tiles h l = levels b (tiled b tw th (marched b h)) plain (tiles (marched b h)) whole h (omega arith) (tiles-fixed (marched b h)) whole-fixed see (suc h) (omega arith)
+  march-tiles h l = levels b (tiled b tw th (marched b h)) plain (tiles (marched b h)) whole h (omega arith) (tiles-fixed (marched b h)) whole-fixed see (suc h)
+      (omega arith)
     where
       other : (p : Bool) (u e : ℕ) → u ≤ h → eqb (slowness b e) 0 ≡ p → min u (cond p never (clip largest (time (marched b h) e))) ≡ min u (whole e)
       other true u e i k = rw (wall-never e (eqb-true (slowness b e) 0 k)) refl
@@ -91,7 +92,8 @@ module _ (b : Board) (g : Good b) (tw th : ℕ) where
           ∙ ap (min u) (march-time h e (omega arith))
           ∙ clip-low h u (whole e) (omega arith) (omega arith)
 
-      pick : (p : Bool) (u e : ℕ) → u ≤ h → min u (tiles (marched b h) e) ≡ min u (whole e) → min u (cond p (tiles (marched b h) e) (counts-as b (marched b h) e)) ≡ min u (whole e)
+      pick : (p : Bool) (u e : ℕ) → u ≤ h → min u (tiles (marched b h) e) ≡ min u (whole e)
+          → min u (cond p (tiles (marched b h) e) (counts-as b (marched b h) e)) ≡ min u (whole e)
       pick true u e i k = k
       pick false u e i k = rw (stored b (marched b h) e) (other (eqb (slowness b e) 0) u e i refl)
 
@@ -99,7 +101,8 @@ module _ (b : Board) (g : Good b) (tw th : ℕ) where
       see u i k c e = pick (eqb (tile-of b tw th c) (tile-of b tw th e)) u e i (k e)
 
   -- A ROUND AT THE HORIZON has one level more of the march than it was lent
-  pub round-step : (h t : ℕ) (ts : List ℕ) → h ≤ largest → t < never → Agree t (time ts) (time (marched b h)) → Agree (suc t) (time (round b tw th h ts)) (time (marched b h))
+  pub round-step : (h t : ℕ) (ts : List ℕ) → h ≤ largest → t < never → Agree t (time ts) (time (marched b h))
+      → Agree (suc t) (time (round b tw th h ts)) (time (marched b h))
   round-step h t ts l k a c =
       ap (min (suc t)) (round-time h ts c (omega arith))
       ∙ clip-agree h (suc t) (tiles ts c) (tiles (marched b h) c) k (tiles-agree t ts (marched b h) k a c)
@@ -153,7 +156,8 @@ module _ (b : Board) (g : Good b) (tw th : ℕ) where
     march-count = rw (solved-long b) at (reached-count h (solved b) (omega arith))
 
     -- a round at the horizon
-    after-step : (k t : ℕ) → h ≤ suc k * s → t < never → Agree t (time (after k)) (time (marched b h)) → Agree (suc t) (time (after (suc k))) (time (marched b h))
+    after-step : (k t : ℕ) → h ≤ suc k * s → t < never → Agree t (time (after k)) (time (marched b h))
+        → Agree (suc t) (time (after (suc k))) (time (marched b h))
     unfolding after-rounds
     after-step k t i j a =
         let e : min (suc k * s) h ≡ h = omega arith in
@@ -183,7 +187,8 @@ module _ (b : Board) (g : Good b) (tw th : ℕ) where
 
     -- AS MANY ROUNDS at the horizon as cells are reached come to the march
     pub soon-march : (k j : ℕ) → h ≤ suc k * s → reached h (solved b) ≤ j → after (k + j) ≡ marched b h
-    soon-march k j i r = is-march (k + j) (settles (size b) never (time (marched b h)) (λ j. time (after (k + j))) off (λ j. after-march (k + j)) step never j (omega arith) (omega (arith, march-count)))
+    soon-march k j i r = is-march (k + j) (settles (size b) never (time (marched b h)) (λ j. time (after (k + j))) off (λ j. after-march (k + j)) step never j
+        (omega arith) (omega (arith, march-count)))
       where
         off : (c : ℕ) → size b ≤ c → never ≤ time (marched b h) c
         off c n = omega (arith, time-off (marched b h) c (rw (marched-long b h) n))

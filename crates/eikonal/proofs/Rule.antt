@@ -1,4 +1,4 @@
--- The rule on boards is causal and monotone. Assumes nothing.
+-- The rule on boards is causal and monotone.
 use mathlib.Core.Path.{_≡_, refl}
 use mathlib.Core.Bool.{Bool, true, false, cond}
 use Prim.Native.Nat.{ℕ, suc, _+_, _-_, _/_, _%_, _≤_, _<_, min}
@@ -20,25 +20,25 @@ cond-under true x y h = omega arith
 cond-under false x y h = h
 
 -- the earlier of two sides: never, or as seen
-unfoldable pub sides : (p q : Bool) (i j : ℕ) → (ℕ → ℕ) → ℕ
-sides p q i j f = earlier (cond p never (f i)) (cond q never (f j))
+unfoldable pub earlier-seen : (p q : Bool) (i j : ℕ) → (ℕ → ℕ) → ℕ
+earlier-seen p q i j f = earlier (cond p never (f i)) (cond q never (f j))
 
-sides-agree : (p q : Bool) (i j t : ℕ) (f g : ℕ → ℕ) → Agree t f g → min t (sides p q i j f) ≡ min t (sides p q i j g)
-unfolding sides
+sides-agree : (p q : Bool) (i j t : ℕ) (f g : ℕ → ℕ) → Agree t f g → min t (earlier-seen p q i j f) ≡ min t (earlier-seen p q i j g)
+unfolding earlier-seen
 sides-agree p q i j t f g a = earlier-agree t _ _ _ _ (cond-agree p t (f i) (g i) (a i)) (cond-agree q t (f j) (g j) (a j))
 
-sides-under : (p q : Bool) (i j : ℕ) (f g : ℕ → ℕ) → Under never f g → min never (sides p q i j f) ≤ sides p q i j g
-unfolding sides
+sides-under : (p q : Bool) (i j : ℕ) (f g : ℕ → ℕ) → Under never f g → min never (earlier-seen p q i j f) ≤ earlier-seen p q i j g
+unfolding earlier-seen
 sides-under p q i j f g a = earlier-under never _ _ _ _ (cond-under p (f i) (g i) (a i)) (cond-under q (f j) (g j) (a j))
 
 abbrev pub along : Board → (c : ℕ) → (ℕ → ℕ) → ℕ
-along b c f = sides (eqb (c % b .wide) 0) (eqb (suc (c % b .wide)) (b .wide)) (c - 1) (suc c) f
+along b c f = earlier-seen (eqb (c % b .wide) 0) (eqb (suc (c % b .wide)) (b .wide)) (c - 1) (suc c) f
 
 abbrev pub down : Board → (c : ℕ) → (ℕ → ℕ) → ℕ
-down b c f = sides (eqb (c / b .wide) 0) (eqb (suc (c / b .wide)) (b .high)) (c - b .wide) (c + b .wide) f
+down b c f = earlier-seen (eqb (c / b .wide) 0) (eqb (suc (c / b .wide)) (b .high)) (c - b .wide) (c + b .wide) f
 
 pub met-is : (b : Board) (c : ℕ) (f : ℕ → ℕ) → met b c f ≡ earlier (start-time c (b .starts)) (local-of (slowness b c) (along b c f) (down b c f))
-unfolding met arrival sides local local-of
+unfolding met arrival earlier-seen local local-of
 met-is b c f = refl
 
 pub met-agree : (b : Board) (c t : ℕ) (f g : ℕ → ℕ) → t < never → Agree t f g → min (suc t) (met b c f) ≡ min (suc t) (met b c g)

@@ -1,4 +1,4 @@
--- One-solution and Times-below of Promise.antt. Assumes nothing.
+-- One-solution and Times-below of Promise.antt.
 use mathlib.Core.Path.{_≡_, refl, sym, _∙_}
 use mathlib.Core.Bool.{Bool, true, false, cond}
 use mathlib.Core.List.{List}
@@ -13,7 +13,7 @@ use Rattle.eikonal.specs.Inner.Good.{Good, Known}
 use Rattle.eikonal.proofs.Levels.{order, worked}
 use Rattle.eikonal.proofs.Good.{good, size-most}
 use Rattle.eikonal.proofs.Local.{local-of, Answers, stays, comes, local-answers}
-use Rattle.eikonal.proofs.Rule.{sides, along, down, met-is}
+use Rattle.eikonal.proofs.Rule.{earlier-seen, along, down, met-is}
 use Rattle.eikonal.proofs.Passes.{Look, Sound, rule, rule-on, rule-off, time-off, solved-by, solved-is, solved-length, solved-fixed, solved-only}
 use Rattle.eikonal.proofs.Clip.{cut-length}
 
@@ -66,8 +66,8 @@ pub earlier-known : (m x y : ℕ) → Known m x → Known m y → Known m (earli
 unfolding earlier
 earlier-known m x y = cond-known (ltb x y) m x y
 
-sides-known : (m : ℕ) (p q : Bool) (i j : ℕ) (f : ℕ → ℕ) → ((e : ℕ) → Known m (f e)) → Known m (sides p q i j f)
-unfolding sides
+sides-known : (m : ℕ) (p q : Bool) (i j : ℕ) (f : ℕ → ℕ) → ((e : ℕ) → Known m (f e)) → Known m (earlier-seen p q i j f)
+unfolding earlier-seen
 sides-known m p q i j f k = earlier-known m _ _ (cond-known p m never (f i) (inl refl) (k i)) (cond-known q m never (f j) (inl refl) (k j))
 
 pub local-known : (m s a b : ℕ) → s ≤ 4095 → Known m a → Known m b → Known (m + 4095) (local-of s a b)

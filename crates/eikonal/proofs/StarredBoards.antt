@@ -1,4 +1,4 @@
--- The starred boards of document 01, one table and one proof over it: a test that is computed over the table, and what it shows of each row. Assumes nothing.
+-- The starred boards of document 01, one table and one proof over it: a test that is computed over the table, and what it shows of each row.
 use mathlib.Core.Path.{_≡_, refl, ap₂}
 use mathlib.Core.Bool.{Bool, true, false, _&&_, false≢true}
 use mathlib.Core.List.{List, [], _∷_}
@@ -6,7 +6,8 @@ use Prim.Native.Nat.{ℕ}
 use lib.Dec.{eqb}
 use lib.ListN.{replicate}
 use borrow.Author.Tests.{eqb-true}
-use Rattle.eikonal.specs.Board.{Board, never, largest, size, slowness, earlier, least-from, square, passes, local, diagonal, start-time, arrival, met, time, one-pass, passes-of, all-never, solved, cut, marched}
+use Rattle.eikonal.specs.Board.{Board, never, largest, size, slowness, earlier, least-from, square, passes, local, diagonal, start-time, arrival, met}
+use Rattle.eikonal.specs.Board.{time, one-pass, passes-of, all-never, solved, cut, marched}
 use Rattle.eikonal.specs.Ledger.{answer, answered}
 use Rattle.eikonal.specs.Entry.{slowness-refusal}
 use Rattle.eikonal.specs.declared.Reply.{Reply}
@@ -95,7 +96,8 @@ all-hold [] e = tt
 all-hold (r ∷ rs) e = let both = and-true (right r) (all-right rs) e in (holds r (both .0), all-hold rs (both .1))
 
 computed : all-right table ≡ true
-unfolding all-right right table same-list same-reply answered answer slowness-refusal local diagonal earlier least-from passes square marched cut solved passes-of one-pass all-never met arrival start-time size slowness time
+unfolding all-right right table same-list same-reply answered answer slowness-refusal local diagonal earlier least-from passes square marched cut solved
+    passes-of one-pass all-never met arrival start-time size slowness time
 computed = refl
 
 pub starred-boards : All-hold table

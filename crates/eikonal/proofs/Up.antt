@@ -1,4 +1,4 @@
--- Division rounded up: `up a b * b` is the first multiple of b that is not below a. Assumes nothing.
+-- Division rounded up: `up a b * b` is the first multiple of b that is not below a.
 use mathlib.Core.Path.{_≡_}
 use mathlib.Core.Logic.{_⊎_, inl, inr}
 use Prim.Native.Nat.{ℕ, suc, _+_, _*_, _/_, _-_, _≤_, _<_}

@@ -1,11 +1,12 @@
 -- Boards, the local rule, the solution and the march ("The board and its numbers", "The local rule" of document 01).
--- Assumes nothing: these are definitions.
 use mathlib.Core.Path.{_≡_}
 use mathlib.Core.Bool.{Bool, _||_, cond}
 use mathlib.Core.List.{List, [], _∷_}
 use Prim.Native.Nat.{ℕ, zero, suc, _+_, _*_, _-_, _/_, _%_, _<_}
 use lib.Dec.{ltb, leb, eqb}
 use lib.ListN.{length, getD, replicate}
+-- a Start, the code's own record: a front begins at a cell at a time
+use Rattle.eikonal.specs.declared.Start.{Start}
 
 -- the mark of a cell that no front reaches
 abbrev pub never : ℕ
@@ -15,17 +16,15 @@ never = 4294967295
 abbrev pub largest : ℕ
 largest = 300000000
 
--- a front begins at a cell at a time
-pub record Start : Type 0 where
-  pub cell : ℕ
-  pub time : ℕ
-
 -- slownesses by cell, row by row; 0 is a wall
 pub record Board : Type 0 where
   pub wide : ℕ
   pub high : ℕ
   pub slow : List ℕ
   pub starts : List Start
+
+abbrev pub board-of : (wide high : ℕ) → (slow : List ℕ) → List Start → Board
+board-of w h ss xs = record { wide = w; high = h; slow = ss; starts = xs }
 
 -- N, the number of cells
 unfoldable pub size : Board → ℕ

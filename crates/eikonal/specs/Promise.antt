@@ -1,4 +1,4 @@
--- What is promised. Each statement is a type; proofs/Promises.antt gathers their proofs. Assumes nothing: these are definitions.
+-- What is promised. Each statement is a type; proofs/Promises.antt gathers their proofs.
 use mathlib.Core.Path.{_≡_}
 use mathlib.Core.Bool.{Bool, true, false}
 use mathlib.Core.List.{List, [], _∷_, _++_}
@@ -6,15 +6,19 @@ use mathlib.Core.Logic.{_⊎_, _≢_}
 use Prim.Native.Nat.{ℕ, zero, suc, _+_, _*_, _%_, _≤_, _<_, min, max}
 use lib.Dec.{eqb}
 use lib.ListN.{length}
-use Rattle.eikonal.specs.Board.{Board, size, slowness, start-time, time, Meets, solved, marched, reached, diagonal, local, never, largest, all-never, passes, earlier}
+use Rattle.eikonal.specs.Board.{Board, size, slowness, start-time, time, Meets, solved, marched, reached, diagonal, local, never, largest}
+use Rattle.eikonal.specs.declared.Start.{Start}
+use Rattle.eikonal.specs.Board.{all-never, passes, earlier}
 use Rattle.eikonal.specs.Tiles.{Meets-in-tiles, solved-in-tiles, after-rounds, last-round, rounds, up}
-use Rattle.eikonal.specs.Refusals.{Plain, board, board-refusal, run-refusal, order-good}
-use Rattle.eikonal.specs.Ledger.{Call, march, tile-run, one-round, ledger-answer, ledger-after, Book, book, ledger}
-use Rattle.eikonal.specs.Entry.{plain, March-says, Round-says, Run-says}
+use Rattle.eikonal.specs.Refusals.{Handed, by-lists, by-records, starts-of, cells-of, begins-of, board-refusal, order-good}
+use Rattle.eikonal.specs.Ledger.{Call, call, refusal, ledger-answer, ledger-after, Book, book, ledger}
+use Rattle.eikonal.specs.Entry.{Lent, Says}
 use Rattle.eikonal.specs.declared.Reply.{Reply}
+use Rattle.eikonal.specs.declared.Job.{Job}
+use Rattle.eikonal.specs.declared.Job.the-variants.{March, Round, Run}
 
 unfoldable pub board-good : Board → Bool
-board-good b = eqb (board-refusal b) 0
+board-good b = eqb (board-refusal b .number) 0
 
 -- ---- THE LOCAL RULE: its answer passes, and no earlier time does; it is at most a straight step away, and for equal sides D away
 unfoldable pub Local-least : Type 0
@@ -85,47 +89,40 @@ Few-rounds =
     (b : Board) (tw th s h : ℕ) → board-good b ≡ true → 1 ≤ tw → tw ≤ 256 → 1 ≤ th → th ≤ 256 → 1 ≤ s → s ≤ 300000000 → h ≤ 300000000 →
     rounds b tw th s h ≤ max 1 (up h s) + reached h (solved b)
 
--- the order of tiles serves for number 12 alone: in a round,
+-- the order of tiles serves for number 12 alone, whatever is to be done
+unfoldable pub ordered : Board → Job → List ℕ → Bool
+ordered b (March z) xs = true
+ordered b (Round tw th m) xs = order-good b tw th xs
+ordered b (Run tw th s z) xs = order-good b tw th xs
+
 unfoldable pub Order-free : Type 0
 Order-free =
-    (p : Plain) (tw th m w : ℕ) (xs ys ts : List ℕ) → order-good (board p) tw th xs ≡ true → order-good (board p) tw th ys ≡ true →
-    (ledger-after (one-round p tw th m xs w) ts ≡ ledger-after (one-round p tw th m ys w) ts)
-    × (ledger-answer (one-round p tw th m xs w) ts ≡ ledger-answer (one-round p tw th m ys w) ts)
+    (p : Handed) (j : Job) (w : ℕ) (xs ys ts : List ℕ) → ordered (p .board) j xs ≡ true → ordered (p .board) j ys ≡ true →
+    (ledger-after (call p j xs w) ts ≡ ledger-after (call p j ys w) ts) × (ledger-answer (call p j xs w) ts ≡ ledger-answer (call p j ys w) ts)
 
 -- j single rounds with a tile run's arguments and bounds
-unfoldable pub single-rounds : (j : ℕ) → Plain → (tw th stride horizon : ℕ) → (order : List ℕ) → (work : ℕ) → List Call
+unfoldable pub single-rounds : (j : ℕ) → Handed → (tw th stride horizon : ℕ) → (order : List ℕ) → (work : ℕ) → List Call
 single-rounds zero p tw th s h xs w = []
 single-rounds (suc j) p tw th s h xs w =
-    single-rounds j p tw th s h xs w ++ (one-round p tw th (min (suc j * s) h) xs w ∷ [])
+    single-rounds j p tw th s h xs w ++ (call p (Round tw th (min (suc j * s) h)) xs w ∷ [])
 
 -- what a tile run holds after its round j is what j single rounds leave, called in turn from all never
 unfoldable pub Run-is-rounds : Type 0
 Run-is-rounds =
-    (p : Plain) (tw th s h w j : ℕ) (xs : List ℕ) → run-refusal p tw th s h xs (size (board p)) w ≡ 0 →
-    ledger (single-rounds j p tw th s h xs w) [] (all-never (board p)) .times ≡ after-rounds j (board p) tw th s h
+    (p : Handed) (tw th s h w j : ℕ) (xs : List ℕ) → refusal (call p (Run tw th s h) xs w) (size (p .board)) .number ≡ 0 →
+    ledger (single-rounds j p tw th s h xs w) [] (all-never (p .board)) .times ≡ after-rounds j (p .board) tw th s h
 
--- and in a run: two that differ in the order alone answer the same, leave the same, and hold the same times after every round
+-- and two runs that differ in the order alone hold the same times after every round
 unfoldable pub Run-order-free : Type 0
 Run-order-free =
-    (p : Plain) (tw th s h w : ℕ) (xs ys ts : List ℕ) → order-good (board p) tw th xs ≡ true → order-good (board p) tw th ys ≡ true →
-    (ledger-answer (tile-run p tw th s h xs w) ts ≡ ledger-answer (tile-run p tw th s h ys w) ts)
-    × (ledger-after (tile-run p tw th s h xs w) ts ≡ ledger-after (tile-run p tw th s h ys w) ts)
-    × ((j : ℕ) → ledger (single-rounds j p tw th s h xs w) [] ts ≡ ledger (single-rounds j p tw th s h ys w) [] ts)
+    (p : Handed) (tw th s h w : ℕ) (xs ys ts : List ℕ) → order-good (p .board) tw th xs ≡ true → order-good (p .board) tw th ys ≡ true →
+    (j : ℕ) → ledger (single-rounds j p tw th s h xs w) [] ts ≡ ledger (single-rounds j p tw th s h ys w) [] ts
 
--- a call that meets its contract, between the times that it was lent and those that it left
-pub data Step : (times times-now : List ℕ) → Call → Reply → Type 0 where
-  by-march : (w h : ℕ) (ss cs ts : List ℕ) (z : ℕ) (x : Reply) (a b d e : List ℕ)
-      → March-says w h ss cs ts z x a b d e → Step a b (march (plain w h ss cs ts) z (length d)) x
-  by-run : (w h : ℕ) (ss cs ts : List ℕ) (tw th s z : ℕ) (xs : List ℕ) (x : Reply) (a b d e : List ℕ)
-      → Run-says w h ss cs ts tw th s z xs x a b d e → Step a b (tile-run (plain w h ss cs ts) tw th s z xs (length d)) x
-  by-round : (w h : ℕ) (ss cs ts : List ℕ) (tw th m : ℕ) (xs : List ℕ) (x : Reply) (a b d e : List ℕ)
-      → Round-says w h ss cs ts tw th m xs x a b d e → Step a b (one-round (plain w h ss cs ts) tw th m xs (length d)) x
-
--- a list of calls, each lent the times that the one before left
+-- a list of calls, each of which meets its contract and is lent the times that the one before left
 pub data Steps : (times : List ℕ) → List Call → List Reply → (last : List ℕ) → Type 0 where
   done : (a : List ℕ) → Steps a [] [] a
-  then : (a b z : List ℕ) (c : Call) (x : Reply) (cs : List Call) (xs : List Reply)
-      → Step a b c x → Steps b cs xs z → Steps a (c ∷ cs) (x ∷ xs) z
+  then : (l m : Lent) (z : List ℕ) (c : Call) (x : Reply) (cs : List Call) (xs : List Reply)
+      → Says c x l m → Steps (m .times) cs xs z → Steps (l .times) (c ∷ cs) (x ∷ xs) z
 
 -- A SINGLE CLAIM ABOUT THE WHOLE LIST: answers and times are the ledger's
 unfoldable pub Every-list : Type 0
@@ -137,7 +134,7 @@ pub record Done : Type 0 where
   pub answered : Reply
   pub left : List ℕ
 
-unfoldable pub played : (call : Call → List ℕ → Done) → List Call → (so-far : List Reply) → (times : List ℕ) → Book
+unfoldable pub played : (program : Call → List ℕ → Done) → List Call → (so-far : List Reply) → (times : List ℕ) → Book
 played f [] xs ts = book xs ts
 played f (c ∷ cs) xs ts = played f cs (xs ++ (f c ts .answered ∷ [])) (f c ts .left)
 
@@ -145,3 +142,32 @@ unfoldable pub Lists-keep : Type 0
 Lists-keep =
     (f : Call → List ℕ → Done) (cs : List Call) (ts : List ℕ) →
     ((c : Call) (xs : List ℕ) → (f c xs .answered ≡ ledger-answer c xs) × (f c xs .left ≡ ledger-after c xs)) → played f cs [] ts ≡ ledger cs [] ts
+
+-- RECORDS AND PLAIN LISTS get the same answers: a board is the same, handed in as records or as the plain lists of their cells and times,
+unfoldable pub Same-handed : Type 0
+Same-handed = (w h : ℕ) (ss : List ℕ) (xs : List Start) → by-lists w h ss (cells-of xs) (begins-of xs) ≡ by-records w h ss xs
+
+-- plain lists of one length are those of some records,
+unfoldable pub Lists-are-records : Type 0
+Lists-are-records =
+    (cs ts : List ℕ) → length cs ≡ length ts → (cs ≡ cells-of (starts-of cs ts)) × (ts ≡ begins-of (starts-of cs ts))
+
+-- and two calls that meet one contract and are lent the same lists answer and leave the same
+unfoldable pub Same-answers : Type 0
+Same-answers = (c : Call) (x y : Reply) (l m n : Lent) → Says c x l m → Says c y l n → (x ≡ y) × (m ≡ n)
+
+-- THE THIRD CONDITION, WHOLE: a value of this record shows it
+pub record Third-condition : Type 0 where
+  -- every list of marches, tile runs and rounds, refused ones too, over records and over plain lists as it comes, is the ledger's
+  pub every-list : Every-list
+  -- just one set of times meets the rule in tiles, the one whose cut a round is by definition
+  pub round-is-solution : Round-is-solution
+  -- a tile run comes to the march, at its first round that can be the last, and soon
+  pub run-is-march : Run-is-march
+  pub rounds-least : Rounds-least
+  pub few-rounds : Few-rounds
+  -- what it holds after each round is what single rounds leave
+  pub run-is-rounds : Run-is-rounds
+  -- and the order of tiles never shows, in the times or in the answers
+  pub order-free : Order-free
+  pub run-order-free : Run-order-free

@@ -1,19 +1,32 @@
--- The refusal numbers of boards, marches, rounds and tile runs ("Turned down" of document 01): 0, or the lowest number with a cause.
--- Assumes nothing: these are definitions.
+-- Why boards, marches, rounds and tile runs are refused ("Turned down" of document 01): the causes in the table's order.
 use mathlib.Core.Bool.{Bool, true, false, _&&_, _||_, not, cond}
-use mathlib.Core.List.{List, [], _∷_}
+use mathlib.Core.List.{List, [], _∷_, map}
 use Prim.Native.Nat.{ℕ, zero, suc, _*_}
 use lib.Dec.{ltb, leb, eqb}
 use lib.ListN.{length}
-use Rattle.eikonal.specs.Board.{Board, Start, size, slowness, largest}
+use Rattle.eikonal.specs.Board.{Board, board-of, size, slowness, largest}
+use Rattle.eikonal.specs.declared.Start.{Start}
 use Rattle.eikonal.specs.Tiles.{tile-count}
+use Rattle.eikonal.specs.declared.Refusal.{Refusal}
+use Rattle.eikonal.specs.declared.Job.{Job}
+use Rattle.eikonal.specs.declared.Job.the-variants.{March, Round, Run}
 
--- a number, or where that is 0 the next
-unfoldable pub or-else : (a b : ℕ) → ℕ
-or-else a b = cond (eqb a 0) b a
+-- A REFUSAL is a value, the code's own record: the number of its cause, 0 for none
+abbrev pub cause : (number : ℕ) → Refusal
+cause n = record { number = n }
+
+abbrev pub none : Refusal
+none = cause 0
+
+-- a refusal, or where it is none the next
+unfoldable pub or-else : (a b : Refusal) → Refusal
+or-else a b = cond (eqb (a .number) 0) b a
 
 unfoldable pub side-good : ℕ → Bool
 side-good n = leb 1 n && leb n 256
+
+unfoldable pub sides-good : (wide high : ℕ) → Bool
+sides-good w h = side-good w && side-good h
 
 unfoldable pub any-above : (most : ℕ) → List ℕ → Bool
 any-above m [] = false
@@ -33,44 +46,46 @@ on-wall b [] = false
 on-wall b (x ∷ xs) = eqb (slowness b (x .cell)) 0 || on-wall b xs
 
 -- 7, 8, 9: each looks at the whole list
-unfoldable pub starts-refusal : Board → ℕ
+unfoldable pub starts-refusal : Board → Refusal
 starts-refusal b =
-    cond (not (starts-rise (size b) 0 (b .starts))) 7 (cond (late (b .starts)) 8 (cond (on-wall b (b .starts)) 9 0))
+    cond (not (starts-rise (size b) 0 (b .starts))) (cause 7) (cond (late (b .starts)) (cause 8) (cond (on-wall b (b .starts)) (cause 9) none))
 
--- 2, 4, 5, 7, 8, 9 of a board
-unfoldable pub board-refusal : Board → ℕ
-board-refusal b =
-    cond (not (side-good (b .wide) && side-good (b .high))) 2
-    (cond (not (eqb (length (b .slow)) (size b))) 4 (cond (any-above 4095 (b .slow)) 5 (starts-refusal b)))
+-- A BOARD AS IT IS HANDED IN: its starts are records, or plain lists of cells and of times; whether those were of one length
+pub record Handed : Type 0 where
+  pub board : Board
+  pub paired : Bool
 
--- A BOARD AS IT IS HANDED IN, with plain lists of start cells and start times, which may differ in length
-pub record Plain : Type 0 where
-  pub wide : ℕ
-  pub high : ℕ
-  pub slow : List ℕ
-  pub cells : List ℕ
-  pub begins : List ℕ
+abbrev pub handed : Board → (paired : Bool) → Handed
+handed b p = record { board = b; paired = p }
 
+unfoldable pub by-records : (w h : ℕ) → (slow : List ℕ) → List Start → Handed
+by-records w h ss xs = handed (board-of w h ss xs) true
+
+-- of lists of unequal length the shorter counts
 unfoldable pub starts-of : (cells begins : List ℕ) → List Start
 starts-of [] ts = []
 starts-of (c ∷ cs) [] = []
 starts-of (c ∷ cs) (t ∷ ts) = record { cell = c; time = t } ∷ starts-of cs ts
 
-unfoldable pub board : Plain → Board
-board p = record { wide = p .wide; high = p .high; slow = p .slow; starts = starts-of (p .cells) (p .begins) }
+unfoldable pub by-lists : (w h : ℕ) → (slow cells begins : List ℕ) → Handed
+by-lists w h ss cs ts = handed (board-of w h ss (starts-of cs ts)) (eqb (length cs) (length ts))
 
--- lists of unequal length are 4, behind 2
-unfoldable pub plain-refusal : Plain → ℕ
-plain-refusal p =
-    cond (side-good (p .wide) && side-good (p .high) && not (eqb (length (p .cells)) (length (p .begins)))) 4
-    (board-refusal (board p))
+-- the plain lists of records
+unfoldable pub cells-of : List Start → List ℕ
+cells-of xs = map (λ s. s .cell) xs
 
--- 13, 14: the list of times is N long, the work list 4 N at least
-unfoldable pub lists-refusal : Plain → (times work : ℕ) → ℕ
-lists-refusal p t w = cond (not (eqb t (size (board p)))) 13 (cond (ltb w (4 * size (board p))) 14 0)
+unfoldable pub begins-of : List Start → List ℕ
+begins-of xs = map (λ s. s .time) xs
 
-unfoldable pub march-refusal : Plain → (horizon times work : ℕ) → ℕ
-march-refusal p h t w = or-else (plain-refusal p) (cond (ltb largest h) 10 (lists-refusal p t w))
+-- 2, 4, 5, 7, 8, 9 of a board: plain lists of unequal length are 4 too
+unfoldable pub handed-refusal : Handed → Refusal
+handed-refusal p =
+    let b = p .board in
+    cond (not (sides-good (b .wide) (b .high))) (cause 2)
+    (cond (not (p .paired && eqb (length (b .slow)) (size b))) (cause 4) (cond (any-above 4095 (b .slow)) (cause 5) (starts-refusal b)))
+
+abbrev pub board-refusal : Board → Refusal
+board-refusal b = handed-refusal (handed b true)
 
 -- an order is a list of every tile number once
 unfoldable pub member : ℕ → List ℕ → Bool
@@ -84,15 +99,16 @@ all-there (suc n) xs = member n xs && all-there n xs
 unfoldable pub order-good : Board → (tw th : ℕ) → List ℕ → Bool
 order-good b tw th xs = eqb (length xs) (tile-count b tw th) && all-there (tile-count b tw th) xs
 
--- 11, 12, 13, 14
-unfoldable pub tiles-refusal : Plain → (tw th : ℕ) → (order : List ℕ) → (times work : ℕ) → ℕ
-tiles-refusal p tw th xs t w =
-    cond (not (side-good tw && side-good th)) 11 (cond (order-good (board p) tw th xs) (lists-refusal p t w) 12)
+-- 11, 12: the tiles' sides, then their order
+unfoldable pub tiles-refusal : Board → (tw th : ℕ) → (order : List ℕ) → Refusal
+tiles-refusal b tw th xs = cond (not (sides-good tw th)) (cause 11) (cond (not (order-good b tw th xs)) (cause 12) none)
 
-unfoldable pub round-refusal : Plain → (tw th bound : ℕ) → (order : List ℕ) → (times work : ℕ) → ℕ
-round-refusal p tw th m xs t w =
-    or-else (plain-refusal p) (cond (ltb largest m) 10 (tiles-refusal p tw th xs t w))
+-- 10, 11, 12 of what is to be done; a march has no tiles
+unfoldable pub job-refusal : Board → Job → (order : List ℕ) → Refusal
+job-refusal b (March z) xs = cond (ltb largest z) (cause 10) none
+job-refusal b (Round tw th m) xs = cond (ltb largest m) (cause 10) (tiles-refusal b tw th xs)
+job-refusal b (Run tw th s z) xs = cond (ltb largest z || (eqb s 0 || ltb largest s)) (cause 10) (tiles-refusal b tw th xs)
 
-unfoldable pub run-refusal : Plain → (tw th stride horizon : ℕ) → (order : List ℕ) → (times work : ℕ) → ℕ
-run-refusal p tw th s h xs t w =
-    or-else (plain-refusal p) (cond (ltb largest h || (eqb s 0 || ltb largest s)) 10 (tiles-refusal p tw th xs t w))
+-- 13, 14: for N cells the list of times is N long, the work list 4 N at least
+unfoldable pub lists-refusal : (n times work : ℕ) → Refusal
+lists-refusal n t w = cond (not (eqb t n)) (cause 13) (cond (ltb w (4 * n)) (cause 14) none)

@@ -1,4 +1,4 @@
--- Tiles, a round over stored times, and tile runs ("Rounds over tiles" of document 01). Assumes nothing: these are definitions.
+-- Tiles, a round over stored times, and tile runs ("Rounds over tiles" of document 01).
 use mathlib.Core.Path.{_≡_}
 use mathlib.Core.Bool.{Bool, _&&_, _||_, cond}
 use mathlib.Core.List.{List, [], _∷_}

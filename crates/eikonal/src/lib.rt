@@ -1,9 +1,46 @@
-// The ground under the engine: the local rule and the refusals of boards.
+// The ground under the engine: the values that calls share, the local rule and the refusals of boards.
 pub mod arrival;
 pub mod refusals;
 
 ghost use mathlib.Core.Path.{_≡_};
+ghost use Rattle.eikonal.specs.Refusals.{cause};
 ghost use Rattle.eikonal.specs.Ledger.{answer};
+
+// A front begins at a cell at a time.
+#[repr(C)]
+pub struct Start {
+    pub cell: u32,
+    pub time: u32,
+}
+
+// What a call does with the front: a whole march, a single round, a tile run.
+pub enum Job {
+    March {
+        horizon: u32,
+    },
+    Round {
+        across: u32,
+        down: u32,
+        bound: u32,
+    },
+    Run {
+        across: u32,
+        down: u32,
+        stride: u32,
+        horizon: u32,
+    },
+}
+
+// Why a call is refused: the number of the cause, 0 if it is not.
+pub struct Refusal {
+    pub number: u32,
+}
+
+pub fn cause(number: u32) -> Refusal
+    ensures { λ r. ⌜ r ≡ cause number ⌝ }
+{
+    Refusal { number: number }
+}
 
 // A call's answer: number 0 and a count, or a refusal's number and the count 0.
 #[repr(C)]
@@ -12,11 +49,11 @@ pub struct Reply {
     pub count: u32,
 }
 
-pub fn refused(number: u32) -> Reply
-    ensures { λ r. ⌜ r ≡ answer number 0 ⌝ }
+pub fn refused(refusal: Refusal) -> Reply
+    ensures { λ r. ⌜ r ≡ answer (refusal .number) 0 ⌝ }
 {
     Reply {
-        number: number,
+        number: refusal.number,
         count: 0,
     }
 }

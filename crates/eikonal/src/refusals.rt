@@ -1,11 +1,16 @@
-// Whether a board is refused, and by which number: 2, 4, 5, 7, 8 or 9, or 0 if by none.
+// Whether a board is refused, and why: 2, 4, 5, 7, 8 or 9.
 ghost use mathlib.Core.Path.{_≡_};
-ghost use mathlib.Core.List.{[]};
+ghost use mathlib.Core.Bool.{_&&_, not};
+ghost use mathlib.Core.List.{List};
 ghost use Prim.Native.Nat.{min};
+ghost use lib.Dec.{ltb, leb, eqb};
 ghost use lib.ListN.{getD};
-ghost use Rattle.eikonal.specs.Refusals.{side-good, any-above, starts-of, plain-refusal};
-ghost use Rattle.eikonal.specs.Entry.{plain};
-ghost use Rattle.eikonal.specs.Inner.Judge.{nothing-judged, lower, start-refusal, judge-start, judge};
+ghost use Rattle.eikonal.specs.Board.{board-of};
+ghost use Rattle.eikonal.specs.declared.Start.{Start};
+ghost use Rattle.eikonal.specs.Refusals.{side-good, any-above, starts-of, handed, handed-refusal};
+ghost use Rattle.eikonal.specs.Inner.Judge.{nothing-judged, judge-start, judge, judged-refusal};
+use super::Refusal;
+use super::cause;
 
 // A side of a board or of a tile.
 pub fn side_good(n: u32) -> bool
@@ -30,10 +35,12 @@ pub fn any_above(list: &[u32], most: u32) -> bool
     found
 }
 
-// What the starts looked at so far leave for the next: the least cell that it may have, and the lowest number with a cause.
+// What the starts looked at so far leave: the least cell that the next may have, and which causes were met.
 pub struct Judged {
     pub least: usize,
-    pub number: u32,
+    pub off: bool,
+    pub late: bool,
+    pub walled: bool,
 }
 
 pub fn nothing_judged() -> Judged
@@ -41,40 +48,32 @@ pub fn nothing_judged() -> Judged
 {
     Judged {
         least: 0,
-        number: 0,
+        off: false,
+        late: false,
+        walled: false,
     }
 }
 
-// The lower of two numbers, where 0 is none.
-fn lower(a: u32, b: u32) -> u32
-    ensures { λ r. ⌜ r ≡ lower a b ⌝ }
-{
-    if a == 0 {
-        return b;
-    }
-    if b == 0 {
-        return a;
-    }
-    if b < a { b } else { a }
-}
-
-// A start by itself, on a board of n cells, with the slowness of its cell.
-fn start_refusal(n: usize, least: usize, slow: u32, cell: usize, time: u32) -> u32
-    ensures { λ r. ⌜ r ≡ start-refusal n least slow cell time ⌝ }
+// A cell off a board of n cells, or below the least that it may be.
+fn is_off(n: usize, least: usize, cell: usize) -> bool
+    ensures { λ r. ⌜ r ≡ not (leb least cell && ltb cell n) ⌝ }
 {
     if cell < least {
-        return 7;
+        return true;
     }
     if n <= cell {
-        return 7;
+        return true;
     }
+    false
+}
+
+fn is_late(time: u32) -> bool
+    ensures { λ r. ⌜ r ≡ ltb 1000000 time ⌝ }
+{
     if time > 1000000 {
-        return 8;
+        return true;
     }
-    if slow == 0 {
-        return 9;
-    }
-    0
+    false
 }
 
 // One start more, on a board of n cells, with the slowness of its cell.
@@ -82,10 +81,11 @@ pub fn judge_start(n: usize, slow: u32, cell: u32, time: u32, so_far: Judged) ->
     ensures { λ r. ⌜ r ≡ judge-start n slow cell time «so_far» ⌝ }
 {
     let at = cell as usize;
-    let own = start_refusal(n, so_far.least, slow, at, time);
     Judged {
         least: at + 1,
-        number: lower(so_far.number, own),
+        off: so_far.off | is_off(n, so_far.least, at),
+        late: so_far.late | is_late(time),
+        walled: so_far.walled | (slow == 0),
     }
 }
 
@@ -100,7 +100,7 @@ fn slowness_at(slow: &[u32], cell: u32) -> u32
     0
 }
 
-fn shorter(a: usize, b: usize) -> usize
+pub fn shorter(a: usize, b: usize) -> usize
     ensures { λ r. ⌜ r ≡ min a b ⌝ }
 {
     if a < b { a } else { b }
@@ -121,40 +121,49 @@ pub fn judge_starts(slow: &[u32], cells: &[u32], begins: &[u32], so_far: Judged)
     judged
 }
 
-// 2, 4 and 5: a board without starts.
-pub fn ground_refusal(width: u32, height: u32, slow: &[u32]) -> u32
-    ensures { λ r. ⌜ r ≡ plain-refusal (plain width height (now (slow .entry)) [] []) ⌝ }
+// 7, 8, 9: each for the whole list, in their order.
+pub fn judged_refusal(judged: Judged) -> Refusal
+    ensures { λ r. ⌜ r ≡ judged-refusal judged ⌝ }
+{
+    if judged.off {
+        return cause(7);
+    }
+    if judged.late {
+        return cause(8);
+    }
+    if judged.walled {
+        return cause(9);
+    }
+    cause(0)
+}
+
+// A board whose starts are judged, whether they are records or plain lists; of these the lengths matter here.
+pub fn handed_refusal(
+    width: u32,
+    height: u32,
+    slow: &[u32],
+    cells: usize,
+    begins: usize,
+    judged: Judged,
+) -> Refusal
+    ensures { λ r. ⌜ ((xs : List Start) → judged ≡ judge (now (slow .entry)) xs nothing-judged
+        → r ≡ handed-refusal (handed (board-of width height (now (slow .entry)) xs) (eqb cells begins))) ⌝ }
 {
     if !side_good(width) {
-        return 2;
+        return cause(2);
     }
     if !side_good(height) {
-        return 2;
+        return cause(2);
+    }
+    if cells != begins {
+        return cause(4);
     }
     let size = (width * height) as usize;
     if slow.len() != size {
-        return 4;
+        return cause(4);
     }
     if any_above(slow, 4095) {
-        return 5;
+        return cause(5);
     }
-    0
-}
-
-// A board with plain lists of start cells and start times.
-pub fn board_refusal(width: u32, height: u32, slow: &[u32], cells: &[u32], begins: &[u32]) -> u32
-    ensures { λ r. ⌜ r ≡ plain-refusal (plain width height (now (slow .entry)) (now (cells .entry)) (now (begins .entry))) ⌝ }
-{
-    let ground = ground_refusal(width, height, slow);
-    if ground == 2 {
-        return 2;
-    }
-    if cells.len() != begins.len() {
-        return 4;
-    }
-    if ground != 0 {
-        return ground;
-    }
-    let judged = judge_starts(slow, cells, begins, nothing_judged());
-    judged.number
+    judged_refusal(judged)
 }

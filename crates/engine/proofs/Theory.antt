@@ -1,4 +1,4 @@
 pub mod Rounds
 pub mod Running
 pub mod Calls
-pub mod Answers
+pub mod Steps

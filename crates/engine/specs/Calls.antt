@@ -1,15 +1,27 @@
--- The calls behind their refusals: what an accepted one is lent, and what it leaves. Only internal contracts cite these. Assumes nothing: these are definitions.
+-- The steps of a call: what one hands to the next. Only internal contracts cite these.
 use mathlib.Core.Path.{_≡_}
-use mathlib.Core.List.{List, _++_}
+use mathlib.Core.Bool.{true}
+use mathlib.Core.Logic.{_≢_}
+use mathlib.Core.List.{List, [], _++_}
 use Prim.Native.Nat.{ℕ, _*_, _≤_}
 use lib.ListN.{length, drop, replicate}
-use Rattle.eikonal.specs.Board.{Start, solved, marched, reached}
-use Rattle.eikonal.specs.Tiles.{round, altered, rounds}
+use Rattle.eikonal.specs.Board.{largest}
+use Rattle.eikonal.specs.Refusals.{starts-rise, order-good}
+use Rattle.eikonal.specs.Ledger.{Call, call-board, refusal, entered, counted, answer}
 use Rattle.eikonal.specs.Inner.Good.{Good}
-use Rattle.front.specs.State.{Standing}
-use Rattle.engine.specs.Run.{whole}
+use Rattle.eikonal.specs.Inner.Judge.{judge, nothing-judged}
+use Rattle.eikonal.specs.declared.Start.{Start}
+use Rattle.eikonal.specs.declared.Reply.{Reply}
+use Rattle.eikonal.specs.declared.Job.{Job}
+use Rattle.eikonal.specs.declared.Job.the-variants.{March, Round, Run}
+use Rattle.eikonal.specs.declared.refusals.Judged.{Judged}
+use Rattle.front.specs.Board.{land}
+use Rattle.front.specs.State.{Placed, Empty, Seeded, Standing}
 use Rattle.front.specs.declared.Shape.{Shape}
+use Rattle.engine.specs.Run.{whole}
+use Rattle.engine.specs.declared.calls.Task.{Task}
 
+-- ---- THE JOB, from starts that stand in the work list
 -- a legal board with its starts, and lists with room for it
 pub record Fit (s : Shape) (slow : List ℕ) (xs : List Start) (times work : List ℕ) : Type 0 where
   pub good : Good (whole s slow xs)
@@ -33,22 +45,54 @@ pub record Through (n counted : ℕ) (entered : List ℕ) (count : ℕ) (times' 
   pub enters : times' ≡ entered
   pub wipes : work' ≡ replicate (4 * n) 0 ++ drop (4 * n) work
 
--- the shape of a board and its tiles
-abbrev pub shaped : (width height across down : ℕ) → Shape
-shaped w h tw th = record { width = w; height = h; across = tw; down = th; cells = w * h }
-
--- WHATEVER STARTS are placed: a march, a tile run, a single round
-abbrev pub Marches : Shape → (slow : List ℕ) → (horizon r : ℕ) → (times times' work work' : List ℕ) → Type 0
-Marches s ss z r ts ts' v v' =
+-- WHATEVER STARTS are placed, the job is done
+abbrev pub Goes : Job → Shape → (slow : List ℕ) → (count : ℕ) → (times times' work work' : List ℕ) → Type 0
+Goes j s ss r ts ts' v v' =
     (xs : List Start) → Fit s ss xs ts v → Standing (s .cells) xs v →
-    Through (s .cells) (reached z (solved (whole s ss xs))) (marched (whole s ss xs) z) r ts' v v'
+    Through (s .cells) (counted (whole s ss xs) j ts) (entered (whole s ss xs) j ts) r ts' v v'
 
-abbrev pub Runs-through : Shape → (slow : List ℕ) → (stride horizon r : ℕ) → (times times' work work' : List ℕ) → Type 0
-Runs-through s ss S z r ts ts' v v' =
-    (xs : List Start) → Fit s ss xs ts v → Standing (s .cells) xs v →
-    Through (s .cells) (rounds (whole s ss xs) (s .across) (s .down) S z) (marched (whole s ss xs) z) r ts' v v'
+-- what the job asks of its numbers, for tiles of that shape
+unfoldable pub Doable : Job → Shape → (order : List ℕ) → Type 0
+Doable (March z) s xs = (s .width ≤ s .across) × (s .height ≤ s .down) × (z ≤ largest)
+Doable (Round tw th m) s xs =
+    (s .across ≡ tw) × (s .down ≡ th) × (m ≤ largest) × (order-good (land s []) (s .across) (s .down) xs ≡ true)
+Doable (Run tw th d z) s xs = (s .across ≡ tw) × (s .down ≡ th) × (1 ≤ d) × (d ≤ largest) × (z ≤ largest)
 
-abbrev pub Goes-round : Shape → (slow : List ℕ) → (bound r : ℕ) → (times times' work work' : List ℕ) → Type 0
-Goes-round s ss m r ts ts' v v' =
-    (xs : List Start) → Fit s ss xs ts v → Standing (s .cells) xs v →
-    Through (s .cells) (altered ts (round (whole s ss xs) (s .across) (s .down) m ts)) (round (whole s ss xs) (s .across) (s .down) m ts) r ts' v v'
+-- the shape of a board and of the job's tiles
+abbrev pub shape-with : (width height across down : ℕ) → Shape
+shape-with w h tw th = record { width = w; height = h; across = tw; down = th; cells = w * h }
+
+abbrev pub shaped : (width height : ℕ) → Job → Shape
+shaped w h (March z) = shape-with w h 256 256
+shaped w h (Round tw th m) = shape-with w h tw th
+shaped w h (Run tw th d z) = shape-with w h tw th
+
+-- ---- THE STEPS
+-- some starts were judged
+pub record Some-judged (slow : List ℕ) (j : Judged) : Type 0 where
+  pub starts : List Start
+  pub is : j ≡ judge slow starts nothing-judged
+
+-- the call is refused and the work list kept, or it is emptied for the call's board
+pub record Opened (c : Call) (times : ℕ) (t : Task) (work work' : List ℕ) : Type 0 where
+  pub judged : t .refusal ≡ refusal c times
+  pub kept : t .refusal .number ≢ 0 → work' ≡ work
+  pub shape-is : t .refusal .number ≡ 0 → t .shape ≡ shaped (call-board c .wide) (call-board c .high) (c .job)
+  pub emptied : t .refusal .number ≡ 0 → Empty (t .shape .cells) work work'
+
+-- the starts can be placed, and are
+abbrev pub Sowable : Task → List Start → (work : List ℕ) → Type 0
+Sowable t xs v =
+    t .refusal .number ≡ 0 → (t .shape .cells ≤ 65536) × Placed (t .shape .cells) v × (starts-rise (t .shape .cells) 0 xs ≡ true)
+
+pub record Sown (t : Task) (xs : List Start) (work work' : List ℕ) : Type 0 where
+  pub kept : t .refusal .number ≢ 0 → work' ≡ work
+  pub sown : t .refusal .number ≡ 0 → Seeded (t .shape .cells) xs work work'
+
+-- the job can be done, and is: unless the call is refused; then the refusal is the answer, and the lists are as they were
+abbrev pub Endable : Task → Job → (slow order times work : List ℕ) → Type 0
+Endable t j ss xs ts v = t .refusal .number ≡ 0 → Seated (t .shape) ss ts v × Doable j (t .shape) xs
+
+pub record Ended (t : Task) (j : Job) (slow : List ℕ) (x : Reply) (times times' work work' : List ℕ) : Type 0 where
+  pub turned-down : t .refusal .number ≢ 0 → (x ≡ answer (t .refusal .number) 0) × (times' ≡ times) × (work' ≡ work)
+  pub gone-through : t .refusal .number ≡ 0 → (x ≡ answer 0 (x .count)) × Goes j (t .shape) slow (x .count) times times' work work'

@@ -1,10 +1,11 @@
--- A tile run between two rounds. Only internal contracts cite these. Assumes nothing: these are definitions.
+-- A tile run between two rounds. Only internal contracts cite these.
 use mathlib.Core.Path.{_≡_}
 use mathlib.Core.Logic.{_≢_}
 use mathlib.Core.List.{List}
 use Prim.Native.Nat.{ℕ, suc, _*_, _≤_, _<_, min}
 use lib.ListN.{length, getD}
-use Rattle.eikonal.specs.Board.{Board, Start, size, start-time, time}
+use Rattle.eikonal.specs.Board.{Board, board-of, size, start-time, time}
+use Rattle.eikonal.specs.declared.Start.{Start}
 use Rattle.eikonal.specs.Tiles.{altered, after-rounds, rounds}
 use Rattle.eikonal.specs.Inner.Good.{Good}
 use Rattle.queue.specs.Tree.{keys}
@@ -26,7 +27,7 @@ pub record Between (b : Board) (tw th s h j : ℕ) (ts : List ℕ) (y k : ℕ �
 
 -- the board with its starts
 abbrev pub whole : Shape → (slow : List ℕ) → List Start → Board
-whole s ss xs = record { wide = s .width; high = s .height; slow = ss; starts = xs }
+whole s ss xs = board-of (s .width) (s .height) ss xs
 
 -- after j rounds, with the work list at hand
 pub record At-round (s : Shape) (slow : List ℕ) (xs : List Start) (stride horizon j : ℕ) (times work : List ℕ) : Type 0 where
@@ -45,8 +46,10 @@ pub record One-round (s : Shape) (slow : List ℕ) (xs : List Start) (stride hor
   pub kept : length work' ≡ length work
   pub past : (i : ℕ) → 4 * s .cells ≤ i → getD work' i 0 ≡ getD work i 0
   pub next : At-round s slow xs stride horizon (suc j) times' work'
-  pub idle : m ≡ 0 → after-rounds (suc j) (whole s slow xs) (s .across) (s .down) stride horizon ≡ after-rounds j (whole s slow xs) (s .across) (s .down) stride horizon
-  pub busy : 1 ≤ m → altered (after-rounds j (whole s slow xs) (s .across) (s .down) stride horizon) (after-rounds (suc j) (whole s slow xs) (s .across) (s .down) stride horizon) ≢ 0
+  pub idle : m ≡ 0 → after-rounds (suc j) (whole s slow xs) (s .across) (s .down) stride horizon
+      ≡ after-rounds j (whole s slow xs) (s .across) (s .down) stride horizon
+  pub busy : 1 ≤ m → altered (after-rounds j (whole s slow xs) (s .across) (s .down) stride horizon)
+      (after-rounds (suc j) (whole s slow xs) (s .across) (s .down) stride horizon) ≢ 0
 
 -- a leap: rounds up to r are before the least key and before the horizon
 pub record Leapt (least done stride horizon r : ℕ) : Type 0 where

@@ -1,10 +1,166 @@
-// The calls over plain lists: judged by the table first, then worked out. A refused call touches no list.
-ghost use Rattle.eikonal.specs.Entry.{March-says, Round-says, Run-says};
+// Every call on the front has one form: its starts are judged, it begins, they are placed, it ends. Here the starts are plain lists; where they are
+// records, only judging and placing differ. A refused call touches no list.
+ghost use mathlib.Core.Path.{_≡_};
+ghost use mathlib.Core.List.{List, []};
+ghost use Prim.Native.Nat.{_≤_};
+ghost use lib.Dec.{eqb};
+ghost use lib.ListN.{length};
+ghost use Rattle.eikonal.specs.Board.{board-of};
+ghost use Rattle.eikonal.specs.Refusals.{handed, by-lists, starts-of};
+ghost use Rattle.eikonal.specs.Ledger.{call};
+ghost use Rattle.eikonal.specs.Entry.{lent, Says};
+ghost use Rattle.eikonal.specs.Inner.Judge.{judge, nothing-judged};
+ghost use Rattle.eikonal.specs.declared.Start.{Start};
+ghost use Rattle.eikonal.specs.declared.Job.the-variants.{March, Round, Run};
+ghost use Rattle.engine.specs.Calls.{shape-with, shaped, Some-judged, Opened, Sowable, Sown, Endable, Ended};
+use eikonal::Job;
+use eikonal::Refusal;
 use eikonal::Reply;
-use eikonal::refusals::board_refusal;
-use front::seed::begin;
+use eikonal::refusals::Judged;
+use eikonal::refusals::judge_starts;
+use eikonal::refusals::nothing_judged;
+use front::Shape;
+use queue::lists::wide;
 
-// The times of the solution up to the horizon. Counts the cells reached.
+// What is left to do of a call: nothing if it is refused.
+pub struct Task {
+    pub refusal: Refusal,
+    pub shape: Shape,
+}
+
+fn shape_with(width: u32, height: u32, across: u32, down: u32) -> Shape
+    requires { ⌜ (width ≤ 256) × (height ≤ 256) ⌝ }
+    ensures { λ r. ⌜ r ≡ shape-with width height across down ⌝ }
+{
+    Shape {
+        width: wide(width),
+        height: wide(height),
+        across: wide(across),
+        down: wide(down),
+        cells: wide(width * height),
+    }
+}
+
+// One tile of a march covers every board.
+fn shape_of(width: u32, height: u32, job: Job) -> Shape
+    requires { ⌜ (width ≤ 256) × (height ≤ 256) ⌝ }
+    ensures { λ r. ⌜ r ≡ shaped width height job ⌝ }
+{
+    match job {
+        Job::March { horizon: _ } => shape_with(width, height, 256, 256),
+        Job::Round {
+            across,
+            down,
+            bound: _,
+        } => shape_with(width, height, across, down),
+        Job::Run {
+            across,
+            down,
+            stride: _,
+            horizon: _,
+        } => shape_with(width, height, across, down),
+    }
+}
+
+// Judges all but the starts, which are judged already, and empties the work list for an accepted call.
+pub fn begin(
+    width: u32,
+    height: u32,
+    slow: &[u32],
+    cells: usize,
+    begins: usize,
+    judged: Judged,
+    job: Job,
+    order: &[u32],
+    times: usize,
+    work: &mut [u32],
+) -> Task
+    requires { ⌜ Some-judged (now slow) judged ⌝ }
+    ensures { λ r. ⌜ ((xs : List Start) → judged ≡ judge (now (slow .entry)) xs nothing-judged
+        → Opened (call (handed (board-of width height (now (slow .entry)) xs) (eqb cells begins)) job (now (order .entry)) (length (now (work .entry))))
+        times r (now (work .entry)) (now (work .exit))) ⌝ }
+{
+    let board = eikonal::refusals::handed_refusal(width, height, slow, cells, begins, judged);
+    let refusal = refusals::call_refusal(board, width, height, job, order, times, work.len());
+    if refusal.number != 0 {
+        return Task {
+            refusal: refusal,
+            shape: shape_with(0, 0, 0, 0),
+        };
+    }
+    let shape = shape_of(width, height, job);
+    front::seed::empty(work, shape.cells);
+    Task {
+        refusal: refusal,
+        shape: shape,
+    }
+}
+
+// Places the starts of an accepted call.
+fn seed(task: Task, cells: &[u32], begins: &[u32], work: &mut [u32])
+    requires { ⌜ (Sowable task (starts-of (now cells) (now begins)) (now work)) × (task .refusal .number ≡ 0 → length (now cells) ≡ length (now begins)) ⌝ }
+    ensures { λ r. ⌜ Sown task (starts-of (now (cells .entry)) (now (begins .entry))) (now (work .entry)) (now (work .exit)) ⌝ }
+{
+    if task.refusal.number == 0 {
+        front::seed::seed(work, task.shape.cells, cells, begins);
+    }
+}
+
+// Does the job of an accepted call whose starts are placed.
+pub fn end(
+    task: Task,
+    job: Job,
+    slow: &[u32],
+    order: &[u32],
+    times: &mut [u32],
+    work: &mut [u32],
+) -> Reply
+    requires { ⌜ Endable task job (now slow) (now order) (now times) (now work) ⌝ }
+    ensures { λ x. ⌜ Ended task job (now (slow .entry)) x (now (times .entry)) (now (times .exit)) (now (work .entry)) (now (work .exit)) ⌝ }
+{
+    if task.refusal.number != 0 {
+        return eikonal::refused(task.refusal);
+    }
+    let count = super::seeded::job(task.shape, job, slow, order, times, work);
+    Reply {
+        number: 0,
+        count: count,
+    }
+}
+
+fn play(
+    width: u32,
+    height: u32,
+    slow: &[u32],
+    cells: &[u32],
+    begins: &[u32],
+    job: Job,
+    order: &[u32],
+    times: &mut [u32],
+    work: &mut [u32],
+) -> Reply
+    ensures { λ x. ⌜ Says (call (by-lists width height (now (slow .entry)) (now (cells .entry)) (now (begins .entry))) job (now (order .entry))
+        (length (now (work .entry))))
+        x (lent (now (times .entry)) (now (work .entry))) (lent (now (times .exit)) (now (work .exit))) ⌝ }
+{
+    let judged = judge_starts(slow, cells, begins, nothing_judged());
+    let task = begin(
+        width,
+        height,
+        slow,
+        cells.len(),
+        begins.len(),
+        judged,
+        job,
+        order,
+        times.len(),
+        work,
+    );
+    seed(task, cells, begins, work);
+    end(task, job, slow, order, times, work)
+}
+
+// The times of the solution up to the horizon. Counts the cells reached. It has no order of tiles.
 pub fn march(
     width: u32,
     height: u32,
@@ -15,20 +171,22 @@ pub fn march(
     times: &mut [u32],
     work: &mut [u32],
 ) -> Reply
-    ensures { λ x. ⌜ March-says width height (now (slow .entry)) (now (cells .entry)) (now (begins .entry)) horizon x (now (times .entry)) (now (times .exit)) (now (work .entry)) (now (work .exit)) ⌝ }
+    ensures { λ x. ⌜ Says (call (by-lists width height (now (slow .entry)) (now (cells .entry)) (now (begins .entry))) (March horizon) []
+        (length (now (work .entry))))
+        x (lent (now (times .entry)) (now (work .entry))) (lent (now (times .exit)) (now (work .exit))) ⌝ }
 {
-    let board = board_refusal(width, height, slow, cells, begins);
-    let refusal = refusals::march_refusal(board, width, height, horizon, times.len(), work.len());
-    if refusal != 0 {
-        return eikonal::refused(refusal);
-    }
-    let shape = super::seeded::shape_of(width, height, 256, 256);
-    begin(work, shape.cells, cells, begins);
-    let count = super::seeded::march(shape, slow, horizon, times, work);
-    Reply {
-        number: 0,
-        count: count,
-    }
+    let job = Job::March { horizon: horizon };
+    play(
+        width,
+        height,
+        slow,
+        cells,
+        begins,
+        job,
+        &slow[..0],
+        times,
+        work,
+    )
 }
 
 // One round over stored times. Counts the entries altered.
@@ -45,30 +203,16 @@ pub fn one_round(
     times: &mut [u32],
     work: &mut [u32],
 ) -> Reply
-    ensures { λ x. ⌜ Round-says width height (now (slow .entry)) (now (cells .entry)) (now (begins .entry)) across down bound (now (order .entry)) x (now (times .entry)) (now (times .exit)) (now (work .entry)) (now (work .exit)) ⌝ }
+    ensures { λ x. ⌜ Says (call (by-lists width height (now (slow .entry)) (now (cells .entry)) (now (begins .entry))) (Round across down bound)
+        (now (order .entry)) (length (now (work .entry))))
+        x (lent (now (times .entry)) (now (work .entry))) (lent (now (times .exit)) (now (work .exit))) ⌝ }
 {
-    let board = board_refusal(width, height, slow, cells, begins);
-    let refusal = refusals::round_refusal(
-        board,
-        width,
-        height,
-        across,
-        down,
-        bound,
-        order,
-        times.len(),
-        work.len(),
-    );
-    if refusal != 0 {
-        return eikonal::refused(refusal);
-    }
-    let shape = super::seeded::shape_of(width, height, across, down);
-    begin(work, shape.cells, cells, begins);
-    let count = super::seeded::one_round(shape, slow, bound, order, times, work);
-    Reply {
-        number: 0,
-        count: count,
-    }
+    let job = Job::Round {
+        across: across,
+        down: down,
+        bound: bound,
+    };
+    play(width, height, slow, cells, begins, job, order, times, work)
 }
 
 // Rounds from all never until one at the horizon alters nothing. Counts the rounds.
@@ -86,29 +230,15 @@ pub fn tile_run(
     times: &mut [u32],
     work: &mut [u32],
 ) -> Reply
-    ensures { λ x. ⌜ Run-says width height (now (slow .entry)) (now (cells .entry)) (now (begins .entry)) across down stride horizon (now (order .entry)) x (now (times .entry)) (now (times .exit)) (now (work .entry)) (now (work .exit)) ⌝ }
+    ensures { λ x. ⌜ Says (call (by-lists width height (now (slow .entry)) (now (cells .entry)) (now (begins .entry))) (Run across down stride horizon)
+        (now (order .entry)) (length (now (work .entry))))
+        x (lent (now (times .entry)) (now (work .entry))) (lent (now (times .exit)) (now (work .exit))) ⌝ }
 {
-    let board = board_refusal(width, height, slow, cells, begins);
-    let refusal = refusals::run_refusal(
-        board,
-        width,
-        height,
-        across,
-        down,
-        stride,
-        horizon,
-        order,
-        times.len(),
-        work.len(),
-    );
-    if refusal != 0 {
-        return eikonal::refused(refusal);
-    }
-    let shape = super::seeded::shape_of(width, height, across, down);
-    begin(work, shape.cells, cells, begins);
-    let count = super::seeded::tile_run(shape, slow, stride, horizon, times, work);
-    Reply {
-        number: 0,
-        count: count,
-    }
+    let job = Job::Run {
+        across: across,
+        down: down,
+        stride: stride,
+        horizon: horizon,
+    };
+    play(width, height, slow, cells, begins, job, order, times, work)
 }

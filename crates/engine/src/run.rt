@@ -39,12 +39,6 @@ fn least_key(work: &[u32], n: usize) -> u32
     work[n + c]
 }
 
-fn lesser(a: u32, b: u32) -> u32
-    ensures { λ r. ⌜ r ≡ min a b ⌝ }
-{
-    if a < b { a } else { b }
-}
-
 fn at_most(rounds: u32, limit: u64) -> u32
     ensures { λ r. ⌜ r ≡ min rounds limit ⌝ }
 {
@@ -60,7 +54,7 @@ fn leap(least: u32, done: u32, stride: u32, horizon: u32) -> u32
     requires { ⌜ 1 ≤ stride ⌝ }
     ensures { λ r. ⌜ Leapt least done stride horizon r ⌝ }
 {
-    let goal = lesser(least, horizon);
+    let goal = queue::lists::lesser(least, horizon);
     if goal == 0 {
         return done;
     }
@@ -80,8 +74,10 @@ fn round(
     stride: u32,
     horizon: u32,
 ) -> usize
-    requires { ⌜ Ground shape (now slow) (now times) (now cols) (now rows) × Amid shape (now slow) stride horizon done (now times) (now work) × (done ≤ 1000000000) × (1 ≤ stride) × (stride ≤ largest) × (horizon ≤ largest) ⌝ }
-    ensures { λ m. ⌜ Rounds-on shape (now (slow .entry)) stride horizon done m (now (times .entry)) (now (times .exit)) (now (work .entry)) (now (work .exit)) ⌝ }
+    requires { ⌜ Ground shape (now slow) (now times) (now cols) (now rows) × Amid shape (now slow) stride horizon done (now times) (now work)
+        × (done ≤ 1000000000) × (1 ≤ stride) × (stride ≤ largest) × (horizon ≤ largest) ⌝ }
+    ensures { λ m. ⌜ Rounds-on shape (now (slow .entry)) stride horizon done m (now (times .entry)) (now (times .exit)) (now (work .entry)) (now (work .exit))
+        ⌝ }
 {
     let n = shape.cells;
     let bound = bound_after(done, stride, horizon);
@@ -104,7 +100,8 @@ pub fn run(
     horizon: u32,
     limit: u64,
 ) -> u32
-    requires { ⌜ Ground shape (now slow) (now times) (now cols) (now rows) × Amid shape (now slow) stride horizon 0 (now times) (now work) × (1 ≤ stride) × (stride ≤ largest) × (horizon ≤ largest) ⌝ }
+    requires { ⌜ Ground shape (now slow) (now times) (now cols) (now rows) × Amid shape (now slow) stride horizon 0 (now times) (now work) × (1 ≤ stride)
+        × (stride ≤ largest) × (horizon ≤ largest) ⌝ }
     ensures { λ r. ⌜ Runs shape (now (slow .entry)) stride horizon limit r (now (times .entry)) (now (times .exit)) (now (work .entry)) (now (work .exit)) ⌝ }
 {
     let n = shape.cells;

@@ -2,11 +2,13 @@
 ghost use mathlib.Core.Path.{_≡_};
 ghost use mathlib.Core.Bool.{true};
 ghost use mathlib.Core.List.{[]};
-ghost use Prim.Native.Nat.{_*_, _≤_};
+ghost use Prim.Native.Nat.{_≤_};
 ghost use Rattle.eikonal.specs.Board.{largest};
 ghost use Rattle.eikonal.specs.Refusals.{order-good};
 ghost use Rattle.front.specs.Board.{land};
-ghost use Rattle.engine.specs.Calls.{Seated, Marches, Runs-through, Goes-round, shaped};
+ghost use Rattle.eikonal.specs.declared.Job.the-variants.{March, Round, Run};
+ghost use Rattle.engine.specs.Calls.{Seated, Doable, Goes};
+use eikonal::Job;
 use eikonal::arrival::NEVER;
 use front::Shape;
 
@@ -14,40 +16,21 @@ use front::Shape;
 // Above every count of 32 bits, so that its tests compile to nothing.
 const NO_LIMIT: u64 = 4294967296;
 
-fn wide(x: u32) -> usize
-    ensures { λ r. ⌜ r ≡ x ⌝ }
-{
-    x as usize
-}
-
-pub fn shape_of(width: u32, height: u32, across: u32, down: u32) -> Shape
-    requires { ⌜ (width ≤ 256) × (height ≤ 256) ⌝ }
-    ensures { λ r. ⌜ r ≡ shaped width height across down ⌝ }
-{
-    Shape {
-        width: wide(width),
-        height: wide(height),
-        across: wide(across),
-        down: wide(down),
-        cells: wide(width * height),
-    }
-}
-
 // A whole march: one tile covers the board, so that no stored time is seen.
-pub fn march(shape: Shape, slow: &[u32], horizon: u32, times: &mut [u32], work: &mut [u32]) -> u32
+fn march(shape: Shape, slow: &[u32], horizon: u32, times: &mut [u32], work: &mut [u32]) -> u32
     requires { ⌜ Seated shape (now slow) (now times) (now work) × (shape .width ≤ shape .across) × (shape .height ≤ shape .down) × (horizon ≤ largest) ⌝ }
-    ensures { λ r. ⌜ Marches shape (now (slow .entry)) horizon r (now (times .entry)) (now (times .exit)) (now (work .entry)) (now (work .exit)) ⌝ }
+    ensures { λ r. ⌜ Goes (March horizon) shape (now (slow .entry)) r (now (times .entry)) (now (times .exit)) (now (work .entry)) (now (work .exit)) ⌝ }
 {
     let n = shape.cells;
     let cols = front::seams::lay(shape.width, shape.across);
     let rows = front::seams::lay(shape.height, shape.down);
     front::drain::drain(slow, times, work, &cols, &rows, shape, horizon);
     let count = rows::whole::finish(work, times, n, horizon);
-    rows::whole::fill(work, 0, 4 * n, 0);
+    queue::lists::fill(work, 0, 4 * n, 0);
     count
 }
 
-pub fn tile_run(
+fn tile_run(
     shape: Shape,
     slow: &[u32],
     stride: u32,
@@ -56,10 +39,11 @@ pub fn tile_run(
     work: &mut [u32],
 ) -> u32
     requires { ⌜ Seated shape (now slow) (now times) (now work) × (1 ≤ stride) × (stride ≤ largest) × (horizon ≤ largest) ⌝ }
-    ensures { λ r. ⌜ Runs-through shape (now (slow .entry)) stride horizon r (now (times .entry)) (now (times .exit)) (now (work .entry)) (now (work .exit)) ⌝ }
+    ensures { λ r. ⌜ Goes (Run (shape .across) (shape .down) stride horizon) shape (now (slow .entry)) r (now (times .entry)) (now (times .exit))
+        (now (work .entry)) (now (work .exit)) ⌝ }
 {
     let n = shape.cells;
-    rows::whole::fill(times, 0, n, NEVER);
+    queue::lists::fill(times, 0, n, NEVER);
     let cols = front::seams::lay(shape.width, shape.across);
     let rows = front::seams::lay(shape.height, shape.down);
     let count = super::run::run(
@@ -73,11 +57,11 @@ pub fn tile_run(
         horizon,
         NO_LIMIT,
     );
-    rows::whole::fill(work, 0, 4 * n, 0);
+    queue::lists::fill(work, 0, 4 * n, 0);
     count
 }
 
-pub fn one_round(
+fn one_round(
     shape: Shape,
     slow: &[u32],
     bound: u32,
@@ -85,8 +69,10 @@ pub fn one_round(
     times: &mut [u32],
     work: &mut [u32],
 ) -> u32
-    requires { ⌜ Seated shape (now slow) (now times) (now work) × (bound ≤ largest) × (order-good (land shape []) (shape .across) (shape .down) (now order) ≡ true) ⌝ }
-    ensures { λ r. ⌜ Goes-round shape (now (slow .entry)) bound r (now (times .entry)) (now (times .exit)) (now (work .entry)) (now (work .exit)) ⌝ }
+    requires { ⌜ Seated shape (now slow) (now times) (now work) × (bound ≤ largest)
+        × (order-good (land shape []) (shape .across) (shape .down) (now order) ≡ true) ⌝ }
+    ensures { λ r. ⌜ Goes (Round (shape .across) (shape .down) bound) shape (now (slow .entry)) r (now (times .entry)) (now (times .exit)) (now (work .entry))
+        (now (work .exit)) ⌝ }
 {
     let n = shape.cells;
     let cols = front::seams::lay(shape.width, shape.across);
@@ -94,6 +80,33 @@ pub fn one_round(
     front::wake::wake(slow, times, work, &cols, &rows, shape);
     front::drain::drain(slow, times, work, &cols, &rows, shape, bound);
     let count = rows::tiles::write_tiles(times, work, shape, order, bound);
-    rows::whole::fill(work, 0, 4 * n, 0);
+    queue::lists::fill(work, 0, 4 * n, 0);
     count
+}
+
+pub fn job(
+    shape: Shape,
+    job: Job,
+    slow: &[u32],
+    order: &[u32],
+    times: &mut [u32],
+    work: &mut [u32],
+) -> u32
+    requires { ⌜ Seated shape (now slow) (now times) (now work) × Doable job shape (now order) ⌝ }
+    ensures { λ r. ⌜ Goes job shape (now (slow .entry)) r (now (times .entry)) (now (times .exit)) (now (work .entry)) (now (work .exit)) ⌝ }
+{
+    match job {
+        Job::March { horizon } => march(shape, slow, horizon, times, work),
+        Job::Round {
+            across: _,
+            down: _,
+            bound,
+        } => one_round(shape, slow, bound, order, times, work),
+        Job::Run {
+            across: _,
+            down: _,
+            stride,
+            horizon,
+        } => tile_run(shape, slow, stride, horizon, times, work),
+    }
 }

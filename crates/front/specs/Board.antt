@@ -1,4 +1,4 @@
--- A board as internal functions are lent it, and what its cells see. Only internal contracts cite these. Assumes nothing: these are definitions.
+-- A board as internal functions are lent it, and what its cells see. Only internal contracts cite these: they are definitions.
 use mathlib.Core.Path.{_≡_}
 use mathlib.Core.List.{List, []}
 use mathlib.Core.Logic.{_≢_}
@@ -30,8 +30,8 @@ abbrev pub noted : (work : List ℕ) → (n i : ℕ) → ℕ
 noted v n i = getD v (3 * n + i) 0
 
 -- seams between so many columns or rows, as laid
-abbrev pub Laid : (count side : ℕ) → List ℕ → Type 0
-Laid n s js = (i : ℕ) → i ≤ n → getD js i 0 ≡ seam n s i
+pub record Marked (count side : ℕ) (marks : List ℕ) : Type 0 where
+  pub at : (i : ℕ) → i ≤ count → getD marks i 0 ≡ seam count side i
 
 -- a legal board, lent with its stored times and its seams
 pub record Ground (s : Shape) (slow stored cols rows : List ℕ) : Type 0 where
@@ -40,8 +40,8 @@ pub record Ground (s : Shape) (slow stored cols rows : List ℕ) : Type 0 where
   pub across : 1 ≤ s .across
   pub down : 1 ≤ s .down
   pub many : length stored ≡ s .cells
-  pub columns : Laid (s .width) (s .across) cols
-  pub lines : Laid (s .height) (s .down) rows
+  pub columns : Marked (s .width) (s .across) cols
+  pub lines : Marked (s .height) (s .down) rows
 
 -- the cell at a row and a column
 pub record Site (s : Shape) (c row col : ℕ) : Type 0 where
@@ -55,6 +55,6 @@ pub record Sees (n : ℕ) (slow stored work : List ℕ) (c less more seam : ℕ)
   pub times : n ≤ length stored
   pub room : 4 * n ≤ length work
   pub cell : c < n
-  pub far : more ≤ n
+  pub far : seam ≢ edge → more ≤ n
   pub low : seam ≢ edge → less ≤ c + more
   pub high : seam ≢ edge → c + more - less < n

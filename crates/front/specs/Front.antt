@@ -1,5 +1,6 @@
--- The front of a round while it is worked out: tentative times y by cell, and keys k, a pending cell's time or never.
--- Only internal contracts cite these definitions; no public promise rests on them. Assumes nothing: these are definitions.
+-- The front of a round while it is worked out: tentative times y by cell, and keys k, a pending cell's time or never. Pending cells are the
+-- narrow band, those taken are accepted, and what a commit does is the ghost exchange.
+-- Only internal contracts cite these definitions; no public promise rests on them.
 use mathlib.Core.Path.{_≡_}
 use mathlib.Core.Bool.{cond}
 use mathlib.Core.Logic.{_⊎_, _≢_}

@@ -1,4 +1,4 @@
--- Seams: what lies between two neighbouring columns, or two neighbouring rows. Only internal contracts cite these. Assumes nothing: these are definitions.
+-- Seams: what lies between two neighbouring columns, or two neighbouring rows. Only internal contracts cite these: they are definitions.
 use mathlib.Core.Bool.{_||_, cond}
 use mathlib.Core.List.{List, [], _∷_}
 use Prim.Native.Nat.{ℕ, suc, _+_, _-_, _/_, _%_}
@@ -14,7 +14,7 @@ border = 1
 abbrev pub inside : ℕ
 inside = 2
 
--- before column (or row) i of so many: the board's edge, a border between tiles, or the inside of a tile
+-- before place i of so many: the board's edge, a border between tiles, or the inside of a tile
 unfoldable pub seam : (count side i : ℕ) → ℕ
 seam n s i = cond (eqb i 0 || eqb i n) edge (cond (eqb (i % s) 0) border inside)
 
@@ -22,15 +22,33 @@ seam n s i = cond (eqb i 0 || eqb i n) edge (cond (eqb (i % s) 0) border inside)
 unfoldable pub across : (seam own ghost : ℕ) → ℕ
 across s f g = cond (eqb s edge) never (cond (eqb s inside) f g)
 
--- the neighbour across a seam of the given kind; N, which is no cell, for another
-unfoldable pub beyond : (n kind seam e : ℕ) → ℕ
-beyond n k s e = cond (eqb s k) e n
+-- who hears of a cell across a seam: the neighbour if the seam is of the given kind, else N, which is no cell
+unfoldable pub hearer : (n kind seam e : ℕ) → ℕ
+hearer n k s e = cond (eqb s k) e n
 
--- a cell's neighbours across seams of the given kind
+-- AN AXIS of a board: a cell has one of so many places on it, `unit` cells on is the next place, and a tile takes `side` of them
+pub record Axis : Type 0 where
+  pub unit : ℕ
+  pub count : ℕ
+  pub side : ℕ
+  pub place : (c : ℕ) → ℕ
+
+abbrev pub column-axis : Board → (tw : ℕ) → Axis
+column-axis b tw = record { unit = 1; count = b .wide; side = tw; place = λ c. c % b .wide }
+
+abbrev pub row-axis : Board → (th : ℕ) → Axis
+row-axis b th = record { unit = b .wide; count = b .high; side = th; place = λ c. c / b .wide }
+
+-- the seams before and behind a cell
+abbrev pub seam-back : Axis → (c : ℕ) → ℕ
+seam-back a c = seam (a .count) (a .side) (a .place c)
+
+abbrev pub seam-on : Axis → (c : ℕ) → ℕ
+seam-on a c = seam (a .count) (a .side) (suc (a .place c))
+
+-- a cell's neighbours across seams of the given kind, axis by axis
+abbrev pub near-on : Axis → (n kind c : ℕ) → List ℕ → List ℕ
+near-on a n k c es = hearer n k (seam-back a c) (c - a .unit) ∷ hearer n k (seam-on a c) (c + a .unit) ∷ es
+
 unfoldable pub near : Board → (tw th kind c : ℕ) → List ℕ
-near b tw th k c =
-    beyond (size b) k (seam (b .wide) tw (c % b .wide)) (c - 1)
-    ∷ beyond (size b) k (seam (b .wide) tw (suc (c % b .wide))) (suc c)
-    ∷ beyond (size b) k (seam (b .high) th (c / b .wide)) (c - b .wide)
-    ∷ beyond (size b) k (seam (b .high) th (suc (c / b .wide))) (c + b .wide)
-    ∷ []
+near b tw th k c = near-on (column-axis b tw) (size b) k c (near-on (row-axis b th) (size b) k c [])

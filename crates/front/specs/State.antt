@@ -1,5 +1,5 @@
 -- What the internal functions leave of the work list: keys and winners of the queue, tentative times, noted cells.
--- Only internal contracts cite these. Assumes nothing: these are definitions.
+-- Only internal contracts cite these: they are definitions.
 use mathlib.Core.Path.{_≡_}
 use mathlib.Core.Logic.{_⊎_, _≢_}
 use mathlib.Core.List.{List, [], _∷_, _++_}
@@ -7,7 +7,8 @@ use mathlib.Core.Bool.{cond}
 use Prim.Native.Nat.{ℕ, zero, suc, _+_, _*_, _≤_, _<_, min}
 use lib.Dec.{eqb}
 use lib.ListN.{length, getD}
-use Rattle.eikonal.specs.Board.{never, Start, start-time}
+use Rattle.eikonal.specs.Board.{never, start-time}
+use Rattle.eikonal.specs.declared.Start.{Start}
 use Rattle.queue.specs.Tree.{Tree, keys}
 use Rattle.front.specs.Front.{Tied, Drop, Settled, Upheld, Drift}
 use Rattle.front.specs.Board.{tentative, noted}
@@ -105,13 +106,6 @@ pub record Seeded (n : ℕ) (xs : List Start) (v v' : List ℕ) : Type 0 where
   pub rest : (j : ℕ) → 3 * n ≤ j → getD v' j 0 ≡ getD v j 0
   pub times : (c : ℕ) → c < n → tentative v' n c ≡ min (tentative v n c) (soonest c xs)
 
--- the tentative times are never, and all else is kept
-pub record Blank (n : ℕ) (v v' : List ℕ) : Type 0 where
-  pub long : length v' ≡ length v
-  pub low : (j : ℕ) → j < 2 * n → getD v' j 0 ≡ getD v j 0
-  pub times : (c : ℕ) → c < n → tentative v' n c ≡ never
-  pub rest : (j : ℕ) → 3 * n ≤ j → getD v' j 0 ≡ getD v j 0
-
 -- nothing is placed yet
 pub record Empty (n : ℕ) (v v' : List ℕ) : Type 0 where
   pub placed : Placed n v'
@@ -135,7 +129,8 @@ pub record Begun (n : ℕ) (xs : List Start) (v v' : List ℕ) : Type 0 where
 -- the first i noted cells are told of, one after the other, across borders: each with its stored time
 pub data Announced (n : ℕ) (L : ℕ → (ℕ → ℕ) → ℕ) (stored note : ℕ → ℕ) (es : ℕ → List ℕ) : (i : ℕ) → (v v' : List ℕ) → Type 0 where
   nobody : (v : List ℕ) → Announced n L stored note es 0 v v
-  also : (i : ℕ) (v u v' : List ℕ) → Announced n L stored note es i v u → Told n L (stored (note i)) (es (note i)) u v' → Announced n L stored note es (suc i) v v'
+  also : (i : ℕ) (v u v' : List ℕ) → Announced n L stored note es i v u → Told n L (stored (note i)) (es (note i)) u v'
+      → Announced n L stored note es (suc i) v v'
 
 -- ---- a single round: every cell hears the stored times
 

@@ -1,4 +1,4 @@
-// The end of a round: the times of the cells taken are stored, and cells of other tiles hear of them.
+// The end of a round, the ghost exchange: the times of the cells taken are stored, and cells of other tiles hear of them.
 ghost use mathlib.Core.Path.{_≡_};
 ghost use Prim.Native.Nat.{ℕ, _*_, _≤_, _<_};
 ghost use lib.ListN.{length};
@@ -8,17 +8,13 @@ ghost use Rattle.front.specs.Seams.{border, near};
 ghost use Rattle.front.specs.Board.{land, rule-at, tentative, noted, Ground};
 ghost use Rattle.front.specs.State.{Held, Announced};
 use super::Shape;
-
-fn wide(x: u32) -> usize
-    ensures { λ r. ⌜ r ≡ x ⌝ }
-{
-    x as usize
-}
+use queue::lists::wide;
 
 // Stores the times of the m cells that are noted.
 pub fn store(times: &mut [u32], work: &[u32], n: usize, m: usize)
     requires { ⌜ (m ≤ n) × (n ≤ 65536) × (length (now times) ≡ n) × (4 * n ≤ length (now work)) × ((i : ℕ) → i < m → noted (now work) n i < n) ⌝ }
-    ensures { λ r. ⌜ (length (now (times .exit)) ≡ length (now (times .entry))) × Written n (time (now (times .entry))) (tentative (now (work .entry)) n) (time (now (times .exit))) m (noted (now (work .entry)) n) ⌝ }
+    ensures { λ r. ⌜ (length (now (times .exit)) ≡ length (now (times .entry)))
+        × Written n (time (now (times .entry))) (tentative (now (work .entry)) n) (time (now (times .exit))) m (noted (now (work .entry)) n) ⌝ }
 {
     let mut i = 0;
     while i < m {
@@ -38,8 +34,11 @@ pub fn announce(
     shape: Shape,
     m: usize,
 )
-    requires { ⌜ Ground shape (now slow) (now times) (now cols) (now rows) × Held (shape .cells) (now work) × (m ≤ shape .cells) × ((i : ℕ) → i < m → noted (now work) (shape .cells) i < shape .cells) ⌝ }
-    ensures { λ r. ⌜ Announced (shape .cells) (rule-at shape (now (slow .entry)) (now (times .entry))) (time (now (times .entry))) (noted (now (work .entry)) (shape .cells)) (λ c. near (land shape (now (slow .entry))) (shape .across) (shape .down) border c) m (now (work .entry)) (now (work .exit)) ⌝ }
+    requires { ⌜ Ground shape (now slow) (now times) (now cols) (now rows) × Held (shape .cells) (now work) × (m ≤ shape .cells)
+        × ((i : ℕ) → i < m → noted (now work) (shape .cells) i < shape .cells) ⌝ }
+    ensures { λ r. ⌜ Announced (shape .cells) (rule-at shape (now (slow .entry)) (now (times .entry))) (time (now (times .entry)))
+        (noted (now (work .entry)) (shape .cells)) (λ c. near (land shape (now (slow .entry))) (shape .across) (shape .down) border c) m
+        (now (work .entry)) (now (work .exit)) ⌝ }
 {
     let n = shape.cells;
     let mut i = 0;

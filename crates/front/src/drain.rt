@@ -1,4 +1,4 @@
-// The front is drained up to a bound: pending cells are taken, the least first, and their tiles hear of them.
+// The narrow band is drained up to a bound: pending cells are taken (accepted), the least first, and their tiles hear of them.
 ghost use Prim.Native.Nat.{_<_};
 ghost use Rattle.eikonal.specs.Board.{never};
 ghost use Rattle.queue.specs.Tree.{keys, Least};
@@ -19,8 +19,10 @@ fn take(
     c: usize,
     m: usize,
 )
-    requires { ⌜ Ground shape (now slow) (now times) (now cols) (now rows) × Held (shape .cells) (now work) × Least (now work) (shape .cells) c × (keys (now work) (shape .cells) c < never) × (m < shape .cells) ⌝ }
-    ensures { λ r. ⌜ Took (shape .cells) m c (rule-at shape (now (slow .entry)) (now (times .entry))) (near (land shape (now (slow .entry))) (shape .across) (shape .down) inside c) (now (work .entry)) (now (work .exit)) ⌝ }
+    requires { ⌜ Ground shape (now slow) (now times) (now cols) (now rows) × Held (shape .cells) (now work) × Least (now work) (shape .cells) c
+        × (keys (now work) (shape .cells) c < never) × (m < shape .cells) ⌝ }
+    ensures { λ r. ⌜ Took (shape .cells) m c (rule-at shape (now (slow .entry)) (now (times .entry)))
+        (near (land shape (now (slow .entry))) (shape .across) (shape .down) inside c) (now (work .entry)) (now (work .exit)) ⌝ }
 {
     let n = shape.cells;
     let leaf = n + c;
@@ -41,7 +43,8 @@ pub fn drain(
     shape: Shape,
     bound: u32,
 ) -> usize
-    requires { ⌜ Ground shape (now slow) (now times) (now cols) (now rows) × Ready (shape .cells) (rule-at shape (now slow) (now times)) (now work) × (bound < never) ⌝ }
+    requires { ⌜ Ground shape (now slow) (now times) (now cols) (now rows) × Ready (shape .cells) (rule-at shape (now slow) (now times)) (now work)
+        × (bound < never) ⌝ }
     ensures { λ m. ⌜ Drained (shape .cells) bound m (rule-at shape (now (slow .entry)) (now (times .entry))) (now (work .entry)) (now (work .exit)) ⌝ }
 {
     let n = shape.cells;

@@ -2,7 +2,7 @@
 ghost use mathlib.Core.Path.{_≡_};
 ghost use Prim.Native.Nat.{_≤_, _<_};
 ghost use Rattle.front.specs.Seams.{seam};
-ghost use Rattle.front.specs.Board.{Laid};
+ghost use Rattle.front.specs.Board.{Marked};
 
 pub const EDGE: u8 = 0;
 
@@ -29,7 +29,7 @@ fn seam(count: usize, side: usize, i: usize) -> u8
 // The seams of so many columns, or rows, with tiles of the given side.
 pub fn lay(count: usize, side: usize) -> [u8; 257]
     requires { ⌜ (1 ≤ side) × (count ≤ 256) ⌝ }
-    ensures { λ r. ⌜ Laid count side r ⌝ }
+    ensures { λ r. ⌜ Marked count side r ⌝ }
 {
     let mut laid = [EDGE; 257];
     let mut i = 0;

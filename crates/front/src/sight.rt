@@ -38,7 +38,8 @@ fn see(
     seam: u8,
 ) -> u32
     requires { ⌜ Sees (shape .cells) (now slow) (now times) (now work) c less more seam ⌝ }
-    ensures { λ r. ⌜ r ≡ across seam (tentative (now (work .entry)) (shape .cells) (c + more - less)) (counts-as (land shape (now (slow .entry))) (now (times .entry)) (c + more - less)) ⌝ }
+    ensures { λ r. ⌜ r ≡ across seam (tentative (now (work .entry)) (shape .cells) (c + more - less))
+        (counts-as (land shape (now (slow .entry))) (now (times .entry)) (c + more - less)) ⌝ }
 {
     if seam == EDGE {
         return NEVER;

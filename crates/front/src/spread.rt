@@ -4,7 +4,7 @@ ghost use mathlib.Core.Logic.{_⊎_, _≢_};
 ghost use Prim.Native.Nat.{ℕ, _+_, _-_, _*_, _/_, _≤_, _<_, min};
 ghost use lib.Dec.{eqb};
 ghost use lib.ListN.{getD};
-ghost use Rattle.front.specs.Seams.{edge, border, inside, seam, beyond, near};
+ghost use Rattle.front.specs.Seams.{edge, border, inside, hearer, near};
 ghost use Rattle.front.specs.Board.{land, rule-at, tentative, Ground, Site};
 ghost use Rattle.front.specs.State.{Held, Touched, Told};
 use super::Shape;
@@ -24,7 +24,8 @@ pub fn relax(
     col: usize,
 )
     requires { ⌜ Ground shape (now slow) (now times) (now cols) (now rows) × Site shape e row col × Held (shape .cells) (now work) ⌝ }
-    ensures { λ r. ⌜ ((t : ℕ) → (t ≡ 0) ⊎ (t < tentative (now (work .entry)) (shape .cells) e) → Touched (shape .cells) (rule-at shape (now (slow .entry)) (now (times .entry))) t e (now (work .entry)) (now (work .exit))) ⌝ }
+    ensures { λ r. ⌜ ((t : ℕ) → (t ≡ 0) ⊎ (t < tentative (now (work .entry)) (shape .cells) e)
+        → Touched (shape .cells) (rule-at shape (now (slow .entry)) (now (times .entry))) t e (now (work .entry)) (now (work .exit))) ⌝ }
 {
     let n = shape.cells;
     let v = super::sight::rule(slow, times, work, cols, rows, shape, e, row, col);
@@ -62,92 +63,35 @@ fn touch(
     relax(slow, times, work, cols, rows, shape, e, row, col);
 }
 
-fn tell_left(
+// The same if the seam between the two cells is of the given kind. Off the board there is no such cell; the seam there is the edge.
+fn tell_across(
     slow: &[u32],
     times: &[u32],
     work: &mut [u32],
     cols: &[u8; 257],
     rows: &[u8; 257],
     shape: Shape,
-    c: usize,
+    e: usize,
     row: usize,
     col: usize,
     t: u32,
+    mark: u8,
     kind: u8,
 )
-    requires { ⌜ Ground shape (now slow) (now times) (now cols) (now rows) × Site shape c row col × Held (shape .cells) (now work) × (kind ≢ edge) ⌝ }
-    ensures { λ r. ⌜ Touched (shape .cells) (rule-at shape (now (slow .entry)) (now (times .entry))) t (beyond (shape .cells) kind (seam (shape .width) (shape .across) col) (c - 1)) (now (work .entry)) (now (work .exit)) ⌝ }
+    requires { ⌜ Ground shape (now slow) (now times) (now cols) (now rows) × Held (shape .cells) (now work) × (mark ≡ kind → Site shape e row col) ⌝ }
+    ensures { λ r. ⌜ Touched (shape .cells) (rule-at shape (now (slow .entry)) (now (times .entry))) t (hearer (shape .cells) kind mark e)
+        (now (work .entry)) (now (work .exit)) ⌝ }
 {
-    if cols[col] == kind {
-        touch(slow, times, work, cols, rows, shape, c - 1, row, col - 1, t);
+    if mark == kind {
+        touch(slow, times, work, cols, rows, shape, e, row, col, t);
     }
 }
 
-fn tell_right(
-    slow: &[u32],
-    times: &[u32],
-    work: &mut [u32],
-    cols: &[u8; 257],
-    rows: &[u8; 257],
-    shape: Shape,
-    c: usize,
-    row: usize,
-    col: usize,
-    t: u32,
-    kind: u8,
-)
-    requires { ⌜ Ground shape (now slow) (now times) (now cols) (now rows) × Site shape c row col × Held (shape .cells) (now work) × (kind ≢ edge) ⌝ }
-    ensures { λ r. ⌜ Touched (shape .cells) (rule-at shape (now (slow .entry)) (now (times .entry))) t (beyond (shape .cells) kind (seam (shape .width) (shape .across) (col + 1)) (c + 1)) (now (work .entry)) (now (work .exit)) ⌝ }
+// One step back; off the board the difference wraps.
+fn back(x: usize, step: usize) -> usize
+    ensures { λ r. ⌜ (step ≤ x → x ≡ r + step) ⌝ }
 {
-    let next = col + 1;
-    if cols[next] == kind {
-        touch(slow, times, work, cols, rows, shape, c + 1, row, next, t);
-    }
-}
-
-fn tell_above(
-    slow: &[u32],
-    times: &[u32],
-    work: &mut [u32],
-    cols: &[u8; 257],
-    rows: &[u8; 257],
-    shape: Shape,
-    c: usize,
-    row: usize,
-    col: usize,
-    t: u32,
-    kind: u8,
-)
-    requires { ⌜ Ground shape (now slow) (now times) (now cols) (now rows) × Site shape c row col × Held (shape .cells) (now work) × (kind ≢ edge) ⌝ }
-    ensures { λ r. ⌜ Touched (shape .cells) (rule-at shape (now (slow .entry)) (now (times .entry))) t (beyond (shape .cells) kind (seam (shape .height) (shape .down) row) (c - shape .width)) (now (work .entry)) (now (work .exit)) ⌝ }
-{
-    let w = shape.width;
-    if rows[row] == kind {
-        touch(slow, times, work, cols, rows, shape, c - w, row - 1, col, t);
-    }
-}
-
-fn tell_below(
-    slow: &[u32],
-    times: &[u32],
-    work: &mut [u32],
-    cols: &[u8; 257],
-    rows: &[u8; 257],
-    shape: Shape,
-    c: usize,
-    row: usize,
-    col: usize,
-    t: u32,
-    kind: u8,
-)
-    requires { ⌜ Ground shape (now slow) (now times) (now cols) (now rows) × Site shape c row col × Held (shape .cells) (now work) × (kind ≢ edge) ⌝ }
-    ensures { λ r. ⌜ Touched (shape .cells) (rule-at shape (now (slow .entry)) (now (times .entry))) t (beyond (shape .cells) kind (seam (shape .height) (shape .down) (row + 1)) (c + shape .width)) (now (work .entry)) (now (work .exit)) ⌝ }
-{
-    let w = shape.width;
-    let next = row + 1;
-    if rows[next] == kind {
-        touch(slow, times, work, cols, rows, shape, c + w, next, col, t);
-    }
+    std::num::wrapping_sub_usize(x, step)
 }
 
 // Division of 32 bits is much quicker than of 64.
@@ -171,15 +115,68 @@ pub fn tell(
     kind: u8,
 )
     requires { ⌜ Ground shape (now slow) (now times) (now cols) (now rows) × Held (shape .cells) (now work) × (c < shape .cells) × (kind ≢ edge) ⌝ }
-    ensures { λ r. ⌜ Told (shape .cells) (rule-at shape (now (slow .entry)) (now (times .entry))) t (near (land shape (now (slow .entry))) (shape .across) (shape .down) kind c) (now (work .entry)) (now (work .exit)) ⌝ }
+    ensures { λ r. ⌜ Told (shape .cells) (rule-at shape (now (slow .entry)) (now (times .entry))) t
+        (near (land shape (now (slow .entry))) (shape .across) (shape .down) kind c) (now (work .entry)) (now (work .exit)) ⌝ }
 {
     let w = shape.width;
     let row = row_of(c, w);
     let col = c - row * w;
-    tell_left(slow, times, work, cols, rows, shape, c, row, col, t, kind);
-    tell_right(slow, times, work, cols, rows, shape, c, row, col, t, kind);
-    tell_above(slow, times, work, cols, rows, shape, c, row, col, t, kind);
-    tell_below(slow, times, work, cols, rows, shape, c, row, col, t, kind);
+    tell_across(
+        slow,
+        times,
+        work,
+        cols,
+        rows,
+        shape,
+        back(c, 1),
+        row,
+        back(col, 1),
+        t,
+        cols[col],
+        kind,
+    );
+    tell_across(
+        slow,
+        times,
+        work,
+        cols,
+        rows,
+        shape,
+        c + 1,
+        row,
+        col + 1,
+        t,
+        cols[col + 1],
+        kind,
+    );
+    tell_across(
+        slow,
+        times,
+        work,
+        cols,
+        rows,
+        shape,
+        back(c, w),
+        back(row, 1),
+        col,
+        t,
+        rows[row],
+        kind,
+    );
+    tell_across(
+        slow,
+        times,
+        work,
+        cols,
+        rows,
+        shape,
+        c + w,
+        row + 1,
+        col,
+        t,
+        rows[row + 1],
+        kind,
+    );
 }
 
 fn lesser(a: u8, b: u8) -> u8
@@ -191,7 +188,8 @@ fn lesser(a: u8, b: u8) -> u8
 // Whether all four seams around a cell are inside its tile. One branch is compiled: an inside seam is the greatest.
 fn inner(cols: &[u8; 257], rows: &[u8; 257], row: usize, col: usize) -> bool
     requires { ⌜ (row < 256) × (col < 256) ⌝ }
-    ensures { λ r. ⌜ r ≡ eqb (min (min (getD (now (cols .entry)) col 0) (getD (now (cols .entry)) (col + 1) 0)) (min (getD (now (rows .entry)) row 0) (getD (now (rows .entry)) (row + 1) 0))) inside ⌝ }
+    ensures { λ r. ⌜ r ≡ eqb (min (min (getD (now (cols .entry)) col 0) (getD (now (cols .entry)) (col + 1) 0))
+        (min (getD (now (rows .entry)) row 0) (getD (now (rows .entry)) (row + 1) 0))) inside ⌝ }
 {
     let beside = lesser(cols[col], cols[col + 1]);
     let over = lesser(rows[row], rows[row + 1]);
@@ -210,7 +208,8 @@ pub fn tell_others(
     t: u32,
 )
     requires { ⌜ Ground shape (now slow) (now times) (now cols) (now rows) × Held (shape .cells) (now work) × (c < shape .cells) ⌝ }
-    ensures { λ r. ⌜ Told (shape .cells) (rule-at shape (now (slow .entry)) (now (times .entry))) t (near (land shape (now (slow .entry))) (shape .across) (shape .down) border c) (now (work .entry)) (now (work .exit)) ⌝ }
+    ensures { λ r. ⌜ Told (shape .cells) (rule-at shape (now (slow .entry)) (now (times .entry))) t
+        (near (land shape (now (slow .entry))) (shape .across) (shape .down) border c) (now (work .entry)) (now (work .exit)) ⌝ }
 {
     let w = shape.width;
     let row = row_of(c, w);

@@ -16,7 +16,9 @@ fn wake_row(
     row: usize,
 )
     requires { ⌜ Ground shape (now slow) (now times) (now cols) (now rows) × Held (shape .cells) (now work) × (row < shape .height) ⌝ }
-    ensures { λ r. ⌜ ((v : List ℕ) → Told (shape .cells) (rule-at shape (now (slow .entry)) (now (times .entry))) 0 (cells-below (row * shape .width)) v (now (work .entry)) → Told (shape .cells) (rule-at shape (now (slow .entry)) (now (times .entry))) 0 (cells-below (suc row * shape .width)) v (now (work .exit))) ⌝ }
+    ensures { λ r. ⌜ ((v : List ℕ)
+        → Told (shape .cells) (rule-at shape (now (slow .entry)) (now (times .entry))) 0 (cells-below (row * shape .width)) v (now (work .entry))
+        → Told (shape .cells) (rule-at shape (now (slow .entry)) (now (times .entry))) 0 (cells-below (suc row * shape .width)) v (now (work .exit))) ⌝ }
 {
     let w = shape.width;
     let first = row * w;
@@ -37,7 +39,8 @@ pub fn wake(
     shape: Shape,
 )
     requires { ⌜ Ground shape (now slow) (now times) (now cols) (now rows) × Held (shape .cells) (now work) ⌝ }
-    ensures { λ r. ⌜ Told (shape .cells) (rule-at shape (now (slow .entry)) (now (times .entry))) 0 (cells-below (shape .cells)) (now (work .entry)) (now (work .exit)) ⌝ }
+    ensures { λ r. ⌜ Told (shape .cells) (rule-at shape (now (slow .entry)) (now (times .entry))) 0 (cells-below (shape .cells))
+        (now (work .entry)) (now (work .exit)) ⌝ }
 {
     let h = shape.height;
     let mut row = 0;

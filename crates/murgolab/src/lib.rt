@@ -1,12 +1,16 @@
 // What others call: the C interface that include/murgolab.h declares. A call with plain lists meets the contract of the function that it hands over to;
-// one with start records is a straight line of calls, of which few are lent the records.
-ghost use Rattle.eikonal.specs.Entry.{plain, Local-says, Diagonal-says, March-says, Round-says, Run-says};
+// one with start records is a straight line of calls.
+ghost use mathlib.Core.List.{[]};
+ghost use lib.ListN.{length};
+ghost use Rattle.eikonal.specs.Refusals.{by-lists, by-records, cells-of, begins-of};
+ghost use Rattle.eikonal.specs.Ledger.{call};
+ghost use Rattle.eikonal.specs.Entry.{lent, Says, Local-says, Diagonal-says};
+ghost use Rattle.eikonal.specs.declared.Job.the-variants.{March, Round, Run};
 ghost use Rattle.scenario.specs.Calls.{Reads, Writes};
 ghost use Rattle.scenario.specs.Turns.{Turn-says};
 ghost use Rattle.tablet.specs.Tablet.{Tablet-says};
-ghost use Rattle.records.specs.Records.{cells-of, begins-of};
 use eikonal::Reply;
-use records::Start;
+use eikonal::Start;
 use scenario::Scenario;
 use scenario::TurnReply;
 
@@ -41,7 +45,9 @@ pub extern "C" fn murgolab_march_plain(
     times: &mut [u32],
     work: &mut [u32],
 ) -> Reply
-    ensures { λ x. ⌜ March-says width height (now (slow .entry)) (now (cells .entry)) (now (begins .entry)) horizon x (now (times .entry)) (now (times .exit)) (now (work .entry)) (now (work .exit)) ⌝ }
+    ensures { λ x. ⌜ Says (call (by-lists width height (now (slow .entry)) (now (cells .entry)) (now (begins .entry)))
+        (March horizon) [] (length (now (work .entry))))
+        x (lent (now (times .entry)) (now (work .entry))) (lent (now (times .exit)) (now (work .exit))) ⌝ }
 {
     engine::calls::march(width, height, slow, cells, begins, horizon, times, work)
 }
@@ -60,7 +66,9 @@ pub extern "C" fn murgolab_one_round_plain(
     times: &mut [u32],
     work: &mut [u32],
 ) -> Reply
-    ensures { λ x. ⌜ Round-says width height (now (slow .entry)) (now (cells .entry)) (now (begins .entry)) across down bound (now (order .entry)) x (now (times .entry)) (now (times .exit)) (now (work .entry)) (now (work .exit)) ⌝ }
+    ensures { λ x. ⌜ Says (call (by-lists width height (now (slow .entry)) (now (cells .entry)) (now (begins .entry)))
+        (Round across down bound) (now (order .entry)) (length (now (work .entry))))
+        x (lent (now (times .entry)) (now (work .entry))) (lent (now (times .exit)) (now (work .exit))) ⌝ }
 {
     engine::calls::one_round(
         width,
@@ -92,7 +100,9 @@ pub extern "C" fn murgolab_tile_run_plain(
     times: &mut [u32],
     work: &mut [u32],
 ) -> Reply
-    ensures { λ x. ⌜ Run-says width height (now (slow .entry)) (now (cells .entry)) (now (begins .entry)) across down stride horizon (now (order .entry)) x (now (times .entry)) (now (times .exit)) (now (work .entry)) (now (work .exit)) ⌝ }
+    ensures { λ x. ⌜ Says (call (by-lists width height (now (slow .entry)) (now (cells .entry)) (now (begins .entry)))
+        (Run across down stride horizon) (now (order .entry)) (length (now (work .entry))))
+        x (lent (now (times .entry)) (now (work .entry))) (lent (now (times .exit)) (now (work .exit))) ⌝ }
 {
     engine::calls::tile_run(
         width,
@@ -124,7 +134,8 @@ pub extern "C" fn murgolab_read_scenario_plain(
     cells: &mut [u32],
     begins: &mut [u32],
 ) -> Scenario
-    ensures { λ x. ⌜ Reads (now (file .entry)) (now (slow .entry)) (now (slow .exit)) (now (cells .entry)) (now (cells .exit)) (now (begins .entry)) (now (begins .exit)) x ⌝ }
+    ensures { λ x. ⌜ Reads (now (file .entry)) (now (slow .entry)) (now (slow .exit))
+        (now (cells .entry)) (now (cells .exit)) (now (begins .entry)) (now (begins .exit)) x ⌝ }
 {
     scenario_read::read_scenario(file, slow, cells, begins)
 }
@@ -140,7 +151,8 @@ pub extern "C" fn murgolab_write_scenario_plain(
     begins: &[u32],
     out: &mut [u8],
 ) -> Reply
-    ensures { λ x. ⌜ Writes (plain width height (now (slow .entry)) (now (cells .entry)) (now (begins .entry))) ticks ground (now (out .entry)) (now (out .exit)) x ⌝ }
+    ensures { λ x. ⌜ Writes (by-lists width height (now (slow .entry)) (now (cells .entry)) (now (begins .entry))) ticks ground
+        (now (out .entry)) (now (out .exit)) x ⌝ }
 {
     scenario_write::write_scenario(width, height, ticks, ground, slow, cells, begins, out)
 }
@@ -155,12 +167,12 @@ pub extern "C" fn murgolab_march(
     times: &mut [u32],
     work: &mut [u32],
 ) -> Reply
-    ensures { λ x. ⌜ March-says width height (now (slow .entry)) (cells-of (now (starts .entry))) (begins-of (now (starts .entry))) horizon x (now (times .entry)) (now (times .exit)) (now (work .entry)) (now (work .exit)) ⌝ }
+    ensures { λ x. ⌜ Says (call (by-records width height (now (slow .entry)) (now (starts .entry))) (March horizon) [] (length (now (work .entry))))
+        x (lent (now (times .entry)) (now (work .entry))) (lent (now (times .exit)) (now (work .exit))) ⌝ }
 {
-    let board = record_marches::board::board_refusal(width, height, slow, starts);
-    let refusal = refusals::march_refusal(board, width, height, horizon, times.len(), work.len());
-    record_marches::seed::begin(refusal, work, width, height, starts);
-    record_marches::begun::march_begun(refusal, width, height, slow, horizon, times, work)
+    // a march has no order of tiles, and reads none
+    let job = records::calls::march_job(horizon);
+    records::calls::play_records(width, height, slow, starts, job, slow, times, work)
 }
 
 #[no_mangle]
@@ -176,33 +188,12 @@ pub extern "C" fn murgolab_one_round(
     times: &mut [u32],
     work: &mut [u32],
 ) -> Reply
-    ensures { λ x. ⌜ Round-says width height (now (slow .entry)) (cells-of (now (starts .entry))) (begins-of (now (starts .entry))) across down bound (now (order .entry)) x (now (times .entry)) (now (times .exit)) (now (work .entry)) (now (work .exit)) ⌝ }
+    ensures { λ x. ⌜ Says (call (by-records width height (now (slow .entry)) (now (starts .entry)))
+        (Round across down bound) (now (order .entry)) (length (now (work .entry))))
+        x (lent (now (times .entry)) (now (work .entry))) (lent (now (times .exit)) (now (work .exit))) ⌝ }
 {
-    let board = record_marches::board::board_refusal(width, height, slow, starts);
-    let refusal = refusals::round_refusal(
-        board,
-        width,
-        height,
-        across,
-        down,
-        bound,
-        order,
-        times.len(),
-        work.len(),
-    );
-    record_marches::seed::begin(refusal, work, width, height, starts);
-    record_marches::begun::round_begun(
-        refusal,
-        width,
-        height,
-        slow,
-        across,
-        down,
-        bound,
-        order,
-        times,
-        work,
-    )
+    let job = records::calls::round_job(across, down, bound);
+    records::calls::play_records(width, height, slow, starts, job, order, times, work)
 }
 
 #[no_mangle]
@@ -219,34 +210,12 @@ pub extern "C" fn murgolab_tile_run(
     times: &mut [u32],
     work: &mut [u32],
 ) -> Reply
-    ensures { λ x. ⌜ Run-says width height (now (slow .entry)) (cells-of (now (starts .entry))) (begins-of (now (starts .entry))) across down stride horizon (now (order .entry)) x (now (times .entry)) (now (times .exit)) (now (work .entry)) (now (work .exit)) ⌝ }
+    ensures { λ x. ⌜ Says (call (by-records width height (now (slow .entry)) (now (starts .entry)))
+        (Run across down stride horizon) (now (order .entry)) (length (now (work .entry))))
+        x (lent (now (times .entry)) (now (work .entry))) (lent (now (times .exit)) (now (work .exit))) ⌝ }
 {
-    let board = record_marches::board::board_refusal(width, height, slow, starts);
-    let refusal = refusals::run_refusal(
-        board,
-        width,
-        height,
-        across,
-        down,
-        stride,
-        horizon,
-        order,
-        times.len(),
-        work.len(),
-    );
-    record_marches::seed::begin(refusal, work, width, height, starts);
-    record_marches::begun::run_begun(
-        refusal,
-        width,
-        height,
-        slow,
-        across,
-        down,
-        stride,
-        horizon,
-        times,
-        work,
-    )
+    let job = records::calls::run_job(across, down, stride, horizon);
+    records::calls::play_records(width, height, slow, starts, job, order, times, work)
 }
 
 #[no_mangle]
@@ -255,7 +224,8 @@ pub extern "C" fn murgolab_read_scenario(
     slow: &mut [u32],
     starts: &mut [Start],
 ) -> Scenario
-    ensures { λ x. ⌜ Reads (now (file .entry)) (now (slow .entry)) (now (slow .exit)) (cells-of (now (starts .entry))) (cells-of (now (starts .exit))) (begins-of (now (starts .entry))) (begins-of (now (starts .exit))) x ⌝ }
+    ensures { λ x. ⌜ Reads (now (file .entry)) (now (slow .entry)) (now (slow .exit))
+        (cells-of (now (starts .entry))) (cells-of (now (starts .exit))) (begins-of (now (starts .entry))) (begins-of (now (starts .exit))) x ⌝ }
 {
     let answer = scenario_read::read_ground(file, slow, starts.len());
     records::read::read_records(file, records::read::count_of(answer), starts);
@@ -272,7 +242,8 @@ pub extern "C" fn murgolab_write_scenario(
     starts: &[Start],
     out: &mut [u8],
 ) -> Reply
-    ensures { λ x. ⌜ Writes (plain width height (now (slow .entry)) (cells-of (now (starts .entry))) (begins-of (now (starts .entry)))) ticks ground (now (out .entry)) (now (out .exit)) x ⌝ }
+    ensures { λ x. ⌜ Writes (by-records width height (now (slow .entry)) (now (starts .entry))) ticks ground
+        (now (out .entry)) (now (out .exit)) x ⌝ }
 {
     let judged = records::judge::judge_records(slow, starts);
     let reply = scenario_write::begin_file(

@@ -1,4 +1,4 @@
--- The rounds of a tile run whose one tile covers the board, counted. Assumes nothing.
+-- The rounds of a tile run whose one tile covers the board, counted.
 use mathlib.Core.Path.{_≡_, refl, sym, ap, _∙_}
 use mathlib.Core.Bool.{Bool, true, false, cond}
 use mathlib.Core.List.{List}

@@ -1,4 +1,4 @@
--- The last span: where it starts, which times are in it, and what the round that comes to it makes of a time. Assumes nothing.
+-- The last span: where it starts, which times are in it, and what the round that comes to it makes of a time.
 use mathlib.Core.Path.{_≡_, refl, sym, ap₂, _∙_}
 use mathlib.Core.Bool.{Bool, true, false, _&&_, _||_, and-false, false≢true}
 use mathlib.Core.List.{List, [], _∷_}

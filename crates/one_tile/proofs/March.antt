@@ -1,4 +1,4 @@
--- Where one tile covers the board a round is a march, whatever times are stored, and so is what a tile run holds after each round. Assumes nothing.
+-- Where one tile covers the board a round is a march, whatever times are stored, and so is what a tile run holds after each round.
 use mathlib.Core.Path.{_≡_, sym, ap, _∙_}
 use mathlib.Core.Bool.{true}
 use mathlib.Core.List.{List}

@@ -1,14 +1,16 @@
--- What is promised where one tile covers the board. Each statement is a type; proofs/Promises.antt has their proofs. Assumes nothing: these are definitions.
+-- What is promised where one tile covers the board. Each statement is a type; proofs/Promises.antt has their proofs.
 use mathlib.Core.Path.{_≡_}
 use mathlib.Core.Bool.{true}
 use mathlib.Core.List.{List}
 use Prim.Native.Nat.{ℕ, suc, _+_, _*_, _-_, _≤_, min}
 use Rattle.eikonal.specs.Board.{Board, size, solved, marched, largest}
 use Rattle.eikonal.specs.Tiles.{round, after-rounds, rounds}
-use Rattle.eikonal.specs.Refusals.{board}
-use Rattle.eikonal.specs.Entry.{plain, Run-says}
+use Rattle.eikonal.specs.Refusals.{Handed}
+use Rattle.eikonal.specs.Ledger.{call}
+use Rattle.eikonal.specs.Entry.{Lent, Says}
 use Rattle.eikonal.specs.Promise.{board-good}
 use Rattle.eikonal.specs.declared.Reply.{Reply}
+use Rattle.eikonal.specs.declared.Job.the-variants.{Run}
 use Rattle.one_tile.specs.Rounds.{strides, exact-rounds}
 
 -- A ROUND is the march to its bound, whatever times are stored
@@ -37,9 +39,9 @@ One-tile-beforehand =
     995905 + 4095 * size b ≤ (strides s h - 1) * s →
     rounds b tw th s h ≡ strides s h
 
--- A TILE RUN that is accepted counts them: by the board's times, and by those that it leaves
+-- A TILE RUN that is accepted counts them, over records as over plain lists: by the board's times, and by those that it leaves
 unfoldable pub One-tile-run-counts : Type 0
 One-tile-run-counts =
-    (w h : ℕ) (ss cs ts : List ℕ) (tw th s z : ℕ) (os : List ℕ) (x : Reply) (a b d e : List ℕ) →
-    Run-says w h ss cs ts tw th s z os x a b d e → x .number ≡ 0 → w ≤ tw → h ≤ th →
-    (x .count ≡ exact-rounds s z (solved (board (plain w h ss cs ts)))) × (x .count ≡ exact-rounds s z b)
+    (p : Handed) (tw th s z w : ℕ) (os : List ℕ) (x : Reply) (l m : Lent) →
+    Says (call p (Run tw th s z) os w) x l m → x .number ≡ 0 → p .board .wide ≤ tw → p .board .high ≤ th →
+    (x .count ≡ exact-rounds s z (solved (p .board))) × (x .count ≡ exact-rounds s z (m .times))

@@ -1,4 +1,4 @@
--- How many rounds a tile run makes whose one tile covers the board (Card 8 of document 02). Assumes nothing: these are definitions.
+-- How many rounds a tile run makes whose one tile covers the board (Card 8 of document 02).
 use mathlib.Core.Bool.{Bool, false, _&&_, _||_, cond}
 use mathlib.Core.List.{List, [], _∷_}
 use Prim.Native.Nat.{ℕ, suc, _*_, _-_, max}

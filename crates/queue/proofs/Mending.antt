@@ -1,5 +1,5 @@
 -- Laws of a tournament tree over functions, s the winners of nodes and k the keys of cells: a key's change concerns the nodes above its leaf alone,
--- and mending goes one node up. Assumes nothing.
+-- and mending goes one node up.
 use mathlib.Core.Path.{_≡_, refl, sym, ap, subst, _∙_}
 use mathlib.Core.Logic.{_⊎_, inl, inr, ⊎-elim}
 use Prim.Native.Nat.{ℕ, zero, suc, _+_, _*_, _-_, _/_, _%_, _≤_, _<_, min}

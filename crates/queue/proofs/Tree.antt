@@ -1,7 +1,6 @@
 -- Laws of a tournament tree in a list: what callers cite of it (it is kept by stores past it, its root has the least key), and what a store leaves.
--- Assumes nothing.
 use mathlib.Core.Path.{_≡_, refl, sym, subst, _∙_, fun-ext}
-use mathlib.Core.Logic.{_⊎_, inl}
+use mathlib.Core.Logic.{_⊎_, inl, inr}
 use mathlib.Core.List.{List}
 use Prim.Native.Nat.{ℕ, _+_, _*_, _-_, _/_, _≤_, _<_}
 use native.Mathlib.Omega.{arith}
@@ -9,8 +8,9 @@ use native.Mathlib.Decide.{ℕ-discrete, decLt}
 use lib.ListN.{length, getD, set, length-set}
 use lib.Seq.{getD-set-same, getD-set-other}
 use borrow.Author.Tests.{lt-ltb, le-ltb, eq-eqb, ne-eqb}
+use Rattle.queue.specs.Lists.{Filled}
 use Rattle.queue.specs.Tree.{never, keys, winner, Nodes, Tree, Put, Least, Cleared}
-use Rattle.queue.specs.Mending.{sibling, Apart, Cells, rekeyed, Kept, Mended, Filled}
+use Rattle.queue.specs.Mending.{sibling, Apart, Cells, rekeyed, Kept, Mended}
 use Rattle.queue.proofs.Mending.{beside, rekey, cells, apart, root-least, replay-on, Lesser, Climbing, climb-from, climb-on}
 
 -- ---- winners
@@ -160,13 +160,6 @@ module _ (w : List ℕ) (n v x : ℕ) (b : 2 ≤ v) (l : v < 2 * n) (m : 2 * n �
   climb-turn ls g = climb-on ls v b (winner-beside w n (v / 2) x) stored g
 
 -- ---- clearing
--- one more entry filled, from n on
-pub filled : (w : List ℕ) (n i x : ℕ) → i < length w → ((j : ℕ) → n ≤ j → j < i → getD w j 0 ≡ x) → (j : ℕ) → n ≤ j → j < i + 1 → getD (set w i x) j 0 ≡ x
-filled w n i x l h j a b = elim (ℕ-discrete j i) [
-  | yes q ↦ subst (λ u. getD (set w i x) u 0 ≡ x) (sym q) (getD-set-same w i x 0 l)
-  | no q ↦ getD-set-other w i j x 0 q ∙ h j a (omega arith)
-]
-
 -- one more node seated, down from n
 pub seated : (w : List ℕ) (n i x : ℕ) → 1 ≤ i → i < n → i < length w → x ≡ winner w n (2 * i) →
     ((u : ℕ) → i + 1 ≤ u → u < n → winner w n u ≡ winner w n (2 * u)) → (u : ℕ) → i ≤ u → u < n → winner (set w i x) n u ≡ winner (set w i x) n (2 * u)
@@ -176,7 +169,7 @@ seated w n i x p l m e h u a b = elim (ℕ-discrete u i) [
   | no q ↦ winner-beside w n i x u q ∙ h u (omega arith) b ∙ sym (winner-beside w n i x (2 * u) (omega arith))
 ]
 
-pub cleared : (w₀ w w' : List ℕ) (n : ℕ) → n ≤ never → Filled w₀ n w → length w' ≡ length w → Kept w n w' →
+pub cleared : (w₀ w w' : List ℕ) (n : ℕ) → n ≤ never → Filled n (2 * n) never w₀ w → length w' ≡ length w → Kept w n w' →
     ((v : ℕ) → 1 ≤ v → v < n → winner w' n v ≡ winner w' n (2 * v)) → Cleared w₀ n w'
 unfolding Tree
 cleared w₀ w w' n f a long kept sat = record {
@@ -190,11 +183,11 @@ cleared w₀ w w' n f a long kept sat = record {
     },
   );
   empty = empty;
-  others = λ j l. kept j (omega arith) ∙ a .others j l;
+  others = λ j l. kept j (omega arith) ∙ a .outside j (inr l);
 }
   where
     empty : (c : ℕ) → c < n → keys w' n c ≡ never
-    empty c l = kept (n + c) (omega arith) ∙ a .empty (n + c) (omega arith) (omega arith)
+    empty c l = kept (n + c) (omega arith) ∙ a .inside (n + c) (omega arith) (omega arith)
 
     is : (v : ℕ) → 1 ≤ v → v < 2 * n → keys w' n (winner w' n v) ≡ never
     is v l m = empty (winner w' n v) (cells (winner-leaf w' n) (λ u p q. inl (sat u p q)) v l m)

@@ -1,4 +1,5 @@
--- What holds of a tournament tree while the way from a leaf to the root is mended. Only internal contracts cite these. Assumes nothing: these are definitions.
+-- What holds of a tournament tree while the way from a leaf to the root is mended.
+-- Only internal contracts cite these: they are definitions.
 use mathlib.Core.Path.{_≡_}
 use mathlib.Core.Bool.{cond}
 use mathlib.Core.Logic.{_⊎_}
@@ -6,7 +7,7 @@ use mathlib.Core.List.{List}
 use Prim.Native.Nat.{ℕ, _+_, _*_, _-_, _/_, _≤_, _<_}
 use lib.Dec.{eqb}
 use lib.ListN.{length, getD}
-use Rattle.queue.specs.Tree.{never, winner, Node, Nodes}
+use Rattle.queue.specs.Tree.{winner, Node, Nodes}
 
 -- x is on the way from node v to the root
 pub data Above : (v x : ℕ) → Type 0 where
@@ -38,9 +39,3 @@ pub record Mended (w : List ℕ) (n : ℕ) (k : ℕ → ℕ) (w' : List ℕ) : T
   pub long : length w' ≡ length w
   pub kept : Kept w n w'
   pub nodes : Nodes n (winner w' n) k
-
--- what filling the keys leaves
-pub record Filled (w : List ℕ) (n : ℕ) (w' : List ℕ) : Type 0 where
-  pub long : length w' ≡ length w
-  pub empty : (j : ℕ) → n ≤ j → j < 2 * n → getD w' j 0 ≡ never
-  pub others : Kept w (2 * n) w'

@@ -1,5 +1,5 @@
 -- A tournament tree of winning cells: node v, 1 ≤ v < n, holds a cell whose key is the least below it; its children are the nodes 2v and 2v + 1.
--- Node n + c is the leaf of cell c and holds c's key, never where c is not pending. Assumes nothing: these are definitions.
+-- Node n + c is the leaf of cell c and holds c's key, never where c is not pending.
 use mathlib.Core.Path.{_≡_}
 use mathlib.Core.Bool.{cond}
 use mathlib.Core.Logic.{_⊎_}

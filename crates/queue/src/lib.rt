@@ -2,18 +2,14 @@
 // whose key is the least below it, its children being the nodes 2v and 2v + 1. So node 1 is the cell that is next. Entry 0 is not used.
 ghost use mathlib.Core.Path.{_≡_};
 ghost use mathlib.Core.Logic.{_⊎_};
-ghost use Prim.Native.Nat.{_+_, _*_, _/_, _≤_, _<_, min};
+ghost use Prim.Native.Nat.{_+_, _*_, _/_, _≤_, _<_};
 ghost use lib.ListN.{length};
 ghost use Rattle.queue.specs.Tree.{never, keys, owner, winner, Tree, Put, Least, Cleared};
-ghost use Rattle.queue.specs.Mending.{Apart, Cells, rekeyed, Mended, Filled};
+ghost use Rattle.queue.specs.Mending.{Apart, Cells, rekeyed, Mended};
 
-pub const NEVER: u32 = 4294967295;
+pub mod lists;
 
-fn lesser(a: u32, b: u32) -> u32
-    ensures { λ r. ⌜ r ≡ min a b ⌝ }
-{
-    if a < b { a } else { b }
-}
+const NEVER: u32 = 4294967295;
 
 // Of two cells the one with the lesser key.
 fn better(a: u32, x: u32, b: u32, y: u32) -> u32
@@ -40,7 +36,8 @@ fn winner_of(work: &[u32], n: usize, v: usize) -> u32
 
 // Plays the matches from a cell's leaf up again.
 fn replay(work: &mut [u32], n: usize, cell: usize)
-    requires { ⌜ (cell < n) × (2 * n ≤ length (now work)) × (n ≤ never) × Cells (now work) n × Apart n (winner (now work) n) (keys (now work) n) ((n + cell) / 2) ⌝ }
+    requires { ⌜ (cell < n) × (2 * n ≤ length (now work)) × (n ≤ never) × Cells (now work) n
+        × Apart n (winner (now work) n) (keys (now work) n) ((n + cell) / 2) ⌝ }
     ensures { λ r. ⌜ Mended (now (work .entry)) n (keys (now (work .entry)) n) (now (work .exit)) ⌝ }
 {
     let mut v = n + cell;
@@ -51,7 +48,7 @@ fn replay(work: &mut [u32], n: usize, cell: usize)
         let rival = winner_of(work, n, 4 * p + 1 - v);
         let low = work[n + rival as usize];
         best = better(rival, low, best, key);
-        key = lesser(low, key);
+        key = lists::lesser(low, key);
         work[p] = best;
         v = p;
     }
@@ -73,25 +70,12 @@ fn climb(work: &mut [u32], n: usize, cell: usize, key: u32)
     }
 }
 
-// Every key is never.
-fn empty(work: &mut [u32], n: usize)
-    requires { ⌜ 2 * n ≤ length (now work) ⌝ }
-    ensures { λ r. ⌜ Filled (now (work .entry)) n (now (work .exit)) ⌝ }
-{
-    let end = 2 * n;
-    let mut i = n;
-    while i < end {
-        work[i] = NEVER;
-        i += 1;
-    }
-}
-
 // All keys are never. Every node is won by its first child's winner, from the last node to the first.
 pub fn clear(work: &mut [u32], n: usize)
     requires { ⌜ (1 ≤ n) × (n ≤ never) × (2 * n ≤ length (now work)) ⌝ }
     ensures { λ r. ⌜ Cleared (now (work .entry)) n (now (work .exit)) ⌝ }
 {
-    empty(work, n);
+    lists::fill(work, n, 2 * n, NEVER);
     let mut seated = n;
     while seated > 1 {
         let p = seated - 1;

@@ -1,4 +1,4 @@
--- A list copied into the front of another, element by element; the plain lists of records. Assumes nothing.
+-- A list copied into the front of another, element by element; the plain lists of records.
 use mathlib.Core.Path.{_≡_, sym, ap, _∙_}
 use mathlib.Core.List.{List, [], _∷_, _++_, append-assoc}
 use Prim.Native.Nat.{ℕ, zero, suc, _+_, _-_, _<_, _≤_}

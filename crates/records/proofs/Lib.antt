@@ -2,7 +2,14 @@ pub mod Walk
 pub mod Filled
 pub mod Split
 pub mod Judging
-pub mod Again
-pub mod Writing
+pub mod Placing
+pub mod Playing
 pub mod Reading
+pub mod Writing
+pub mod Again
+pub mod Parameters
+pub mod Locals
+pub mod Loops
+pub mod Calling
+pub mod Elements
 pub mod Promises

@@ -1,6 +1,7 @@
--- Records written part by part as the starts of a file. Assumes nothing.
+-- Records written part by part as the starts of a file.
 use mathlib.Core.Path.{_≡_, refl, sym, ap, ap₂, _∙_, subst}
-use mathlib.Core.Bool.{cond}
+use mathlib.Core.Bool.{Bool, cond}
+use mathlib.Core.Logic.{_≢_}
 use mathlib.Core.List.{List, [], _∷_, _++_, append-assoc}
 use Prim.Native.Nat.{ℕ, zero, suc, _+_, _-_, _*_, _≤_, _<_, min}
 use native.Mathlib.Nat.{not-suc-le-zero}
@@ -8,79 +9,80 @@ use native.Mathlib.Omega.{arith}
 use native.Mathlib.Decide.{ℕ-discrete}
 use lib.Dec.{eqb}
 use borrow.Author.Tests.{eq-eqb, ne-eqb}
-use lib.ListN.{length, take, drop, length-map, length-append, length-take, length-drop, take-append-drop}
+use lib.ListN.{length, take, drop, length-append, length-take, length-drop, take-append-drop}
 use lib.Seq.{take-add, take-all, take-at, drop-at, drop-drop, length-take-le}
-use Rattle.eikonal.specs.Refusals.{starts-of}
-use Rattle.eikonal.specs.Entry.{plain}
+use Rattle.eikonal.specs.Board.{board-of}
+use Rattle.eikonal.specs.Refusals.{starts-of, handed, by-records}
 use Rattle.eikonal.specs.Inner.Judge.{judge, nothing-judged}
 use Rattle.eikonal.specs.declared.Reply.{Reply}
 use Rattle.eikonal.specs.declared.refusals.Judged.{Judged}
 use Rattle.scenario.specs.Bytes.{bytes-of}
-use Rattle.scenario.specs.File.{start-bytes}
+use Rattle.scenario.specs.File.{start-size, start-bytes}
 use Rattle.scenario.specs.Calls.{Writes}
-use Rattle.scenario.specs.Inner.Begin.{Begins}
-use Rattle.scenario.proofs.Records.{length-bytes, bytes-append}
-use Rattle.scenario.proofs.Written.{start-length}
-use Rattle.scenario.proofs.Beginning.{judged-most, Awaits, awaits, writes-none, writes-all}
-use Rattle.records.specs.declared.Start.{Start}
+use Rattle.scenario.specs.Inner.Begin.{given-by, Judges, Judging, Begins}
+use Rattle.scenario.proofs.Records.{bytes-append}
+use Rattle.scenario.proofs.Written.{starts-length}
+use Rattle.scenario.proofs.Writing.{Awaits, awaits, writes-none, writes-all}
+use Rattle.eikonal.specs.declared.Start.{Start}
 use Rattle.records.specs.declared.parts.Part.{Part}
-use Rattle.records.specs.Records.{cells-of, begins-of, part-of}
-use Rattle.records.proofs.Split.{part-at, part-long, plain-of, plain-append, plain-long, part-starts}
+use Rattle.records.specs.Records.{part-of}
+use Rattle.records.proofs.Split.{part-at, part-long, part-room, part-starts}
 
 -- a list in which bs stands from a place on, and all else stays
-abbrev pub entered : (at : ℕ) → (bs out : List ℕ) → List ℕ
-entered at bs out = take at out ++ (bs ++ drop (at + length bs) out)
+abbrev pub spliced : (at : ℕ) → (bs out : List ℕ) → List ℕ
+spliced at bs out = take at out ++ (bs ++ drop (at + length bs) out)
 
-pub entered-long : (at : ℕ) (bs out : List ℕ) → at + length bs ≤ length out → length (entered at bs out) ≡ length out
-entered-long at bs out h = simp (length-append, length-take, length-drop) (omega arith)
+pub spliced-long : (at : ℕ) (bs out : List ℕ) → at + length bs ≤ length out → length (spliced at bs out) ≡ length out
+spliced-long at bs out h = simp (length-append, length-take, length-drop) (omega arith)
 
-pub entered-none : (at : ℕ) (out : List ℕ) → at ≤ length out → entered at [] out ≡ out
-entered-none at out h = ap (λ (k : ℕ). take at out ++ drop k out) (let e : at + 0 ≡ at = omega arith in e) ∙ take-append-drop at out
+pub spliced-none : (at : ℕ) (out : List ℕ) → at ≤ length out → spliced at [] out ≡ out
+spliced-none at out h = ap (λ (k : ℕ). take at out ++ drop k out) (let e : at + 0 ≡ at = omega arith in e) ∙ take-append-drop at out
 
 -- more is entered behind it
-pub entered-more : (at : ℕ) (cs bs out : List ℕ) → at + length cs ≤ length out → entered (at + length cs) bs (entered at cs out) ≡ entered at (cs ++ bs) out
+pub entered-more : (at : ℕ) (cs bs out : List ℕ) → at + length cs ≤ length out → spliced (at + length cs) bs (spliced at cs out) ≡ spliced at (cs ++ bs) out
 entered-more at cs bs out h =
-    ap₂ (λ u v. u ++ (bs ++ v)) front back ∙ append-assoc (take at out) cs (bs ++ drop (at + length (cs ++ bs)) out) ∙ ap (λ (t : List ℕ). take at out ++ t) (sym (append-assoc cs bs (drop (at + length (cs ++ bs)) out)))
+    ap₂ (λ u v. u ++ (bs ++ v)) front back ∙ append-assoc (take at out) cs (bs ++ drop (at + length (cs ++ bs)) out) ∙ ap (λ (t : List ℕ). take at out ++ t)
+    (sym (append-assoc cs bs (drop (at + length (cs ++ bs)) out)))
   where
-    whole : entered at cs out ≡ (take at out ++ cs) ++ drop (at + length cs) out
+    whole : spliced at cs out ≡ (take at out ++ cs) ++ drop (at + length cs) out
     whole = sym (append-assoc (take at out) cs (drop (at + length cs) out))
 
     long : length (take at out ++ cs) ≡ at + length cs
     long = simp (length-append, length-take) (omega arith)
 
-    front : take (at + length cs) (entered at cs out) ≡ take at out ++ cs
+    front : take (at + length cs) (spliced at cs out) ≡ take at out ++ cs
     front = ap (take (at + length cs)) whole ∙ take-at (take at out ++ cs) (drop (at + length cs) out) (at + length cs) long
 
-    back : drop (at + length cs + length bs) (entered at cs out) ≡ drop (at + length (cs ++ bs)) out
+    back : drop (at + length cs + length bs) (spliced at cs out) ≡ drop (at + length (cs ++ bs)) out
     back =
-        sym (drop-drop (length bs) (at + length cs) (entered at cs out)) ∙ ap (λ (t : List ℕ). drop (length bs) t) (ap (drop (at + length cs)) whole ∙ drop-at (take at out ++ cs) (drop (at + length cs) out) (at + length cs) long)
-        ∙ drop-drop (length bs) (at + length cs) out ∙ ap (λ (k : ℕ). drop k out) (let e : at + length cs + length bs ≡ at + length (cs ++ bs) = omega (arith, length-append cs bs) in e)
+        sym (drop-drop (length bs) (at + length cs) (spliced at cs out)) ∙ ap (λ (t : List ℕ). drop (length bs) t) (ap (drop (at + length cs)) whole ∙ drop-at
+        (take at out ++ cs) (drop (at + length cs) out) (at + length cs) long)
+        ∙ drop-drop (length bs) (at + length cs) out ∙ ap (λ (k : ℕ). drop k out) (let e : at + length cs + length bs ≡ at + length (cs ++ bs) = omega
+        (arith, length-append cs bs) in e)
 
 -- ---- the bytes of records
-abbrev pub bytes : List Start → List ℕ
-bytes xs = bytes-of start-bytes (plain-of xs)
-
-pub bytes-long : (xs : List Start) → length (bytes xs) ≡ 8 * length xs
-bytes-long xs = length-bytes 8 start-bytes start-length (plain-of xs) ∙ ap (λ (k : ℕ). 8 * k) (plain-long xs)
+abbrev bytes : List Start → List ℕ
+bytes = bytes-of start-bytes
 
 module _ (at count : ℕ) (out : List ℕ) (ys : List Start) where
   -- where the records up to a place are written
   abbrev pub written-to : ℕ → List ℕ
-  written-to i = entered at (bytes (take (min i count) ys)) out
+  written-to i = spliced at (bytes (take (min i count) ys)) out
 
   pub written-none : at ≤ length out → out ≡ written-to 0
-  unfolding bytes-of starts-of cells-of begins-of
-  written-none h = sym (entered-none at out h) ∙ ap (λ (k : ℕ). entered at (bytes (take k ys)) out) (let e : 0 ≡ min 0 count = omega arith in e)
+  unfolding bytes-of
+  written-none h = sym (spliced-none at out h) ∙ ap (λ (k : ℕ). spliced at (bytes (take k ys)) out) (let e : 0 ≡ min 0 count = omega arith in e)
 
   module _ (all : 0 < count → count ≡ length ys) (room : at + 8 * count ≤ length out) where
     under : (i : ℕ) → length (take (min i count) ys) ≤ count
     under i = simp length-take (omega arith)
 
     pub written-long : (i : ℕ) → length (written-to i) ≡ length out
-    written-long i = entered-long at (bytes (take (min i count) ys)) out (omega (arith, bytes-long (take (min i count) ys), under i, room))
+    written-long i = spliced-long at (bytes (take (min i count) ys)) out (omega (arith, starts-length (take (min i count) ys), under i, room))
 
     pub written-done : (i : ℕ) → count ≤ i → written-to i ≡ take at out ++ (bytes (take count ys) ++ drop (at + 8 * count) out)
-    written-done i h = ap (λ (k : ℕ). entered at (bytes (take k ys)) out) least ∙ ap (λ (k : ℕ). take at out ++ (bytes (take count ys) ++ drop (at + k) out)) (bytes-long (take count ys) ∙ ap (λ (k : ℕ). 8 * k) full)
+    written-done i h = ap (λ (k : ℕ). spliced at (bytes (take k ys)) out) least ∙ ap (λ (k : ℕ). take at out ++ (bytes (take count ys) ++ drop (at + k) out))
+        (starts-length (take count ys) ∙ ap (λ (k : ℕ). 8 * k) full)
       where
         least : min i count ≡ count
         least = omega arith
@@ -92,7 +94,7 @@ module _ (at count : ℕ) (out : List ℕ) (ys : List Start) where
             go zero f = refl
             go (suc k) f = length-take-le (suc k) ys (omega (arith, f (omega arith)))
 
-    module _ (i : ℕ) (l : i < count) (p : Part) (e : p ≡ part-of (part-at ys i)) where
+    module _ (i : ℕ) (l : i < count) (p : Part) (e : p ≡ part-of (part-at ys i)) (xs : List ℕ) (is : xs ≡ written-to i) where
       n-is : count ≡ length ys
       n-is = all (omega (arith, l))
 
@@ -100,17 +102,17 @@ module _ (at count : ℕ) (out : List ℕ) (ys : List Start) where
       here = ap (λ (k : ℕ). take k ys) (let m : min i count ≡ i = omega arith in m)
 
       long : length (bytes (take (min i count) ys)) ≡ 8 * i
-      long = bytes-long (take (min i count) ys) ∙ ap (λ (k : ℕ). 8 * k) (ap length here ∙ length-take-le i ys (omega (arith, n-is)))
+      long = starts-length (take (min i count) ys) ∙ ap (λ (k : ℕ). 8 * k) (ap length here ∙ length-take-le i ys (omega (arith, n-is)))
 
       count-is : p .count ≡ min (length ys - i) 256
       unfolding part-of
       count-is = ap (λ (p′ : Part). p′ .count) e ∙ part-long ys i
 
-      pub part-fits : at + 8 * i + 8 * p .count ≤ length (written-to i)
-      part-fits = omega (arith, written-long i, count-is, n-is, room)
+      pub part-asked : (p .count ≤ length (p .cells)) × (p .count ≤ length (p .begins)) × (at + 8 * i + 8 * p .count ≤ length xs)
+      part-asked = let r = part-room p ys i e in (r .0, r .1, omega (arith, ap length is, written-long i, count-is, n-is, room))
 
       bytes-of-part : length (bytes (part-at ys i)) ≡ 8 * p .count
-      bytes-of-part = bytes-long (part-at ys i) ∙ ap (λ (k : ℕ). 8 * k) (part-long ys i ∙ sym count-is)
+      bytes-of-part = starts-length (part-at ys i) ∙ ap (λ (k : ℕ). 8 * k) (part-long ys i ∙ sym count-is)
 
       next : take (min (i + 256) count) ys ≡ take i ys ++ part-at ys i
       next = ap (λ (k : ℕ). take (min (i + 256) k) ys) n-is ∙ take-least (i + 256) ys ∙ take-add i 256 ys
@@ -123,53 +125,60 @@ module _ (at count : ℕ) (out : List ℕ) (ys : List Start) where
               take-own (suc k) [] = refl
               take-own (suc k) (x ∷ xs) = ap (λ t. x ∷ t) (take-own k xs)
 
-      pub written-more : (zs : List ℕ) → zs ≡ take (at + 8 * i) (written-to i) ++ (bytes-of start-bytes (starts-of (take (p .count) (p .cells)) (take (p .count) (p .begins))) ++ drop (at + 8 * i + 8 * p .count) (written-to i)) → zs ≡ written-to (i + 256)
+      pub written-more : (zs : List ℕ)
+          → zs ≡ take (at + 8 * i) xs ++ (bytes (starts-of (take (p .count) (p .cells)) (take (p .count) (p .begins))) ++ drop (at + 8 * i + 8 * p .count) xs)
+          → zs ≡ written-to (i + 256)
       written-more zs h =
-          h ∙ ap₂ (λ u v. take (at + u) (written-to i) ++ (bytes-of start-bytes v ++ drop (at + u + 8 * p .count) (written-to i))) (sym long) (part-starts p (part-at ys i) e)
-          ∙ ap (λ (k : ℕ). take (at + length (bytes (take (min i count) ys))) (written-to i) ++ (bytes (part-at ys i) ++ drop (at + length (bytes (take (min i count) ys)) + k) (written-to i))) (sym bytes-of-part)
-          ∙ entered-more at (bytes (take (min i count) ys)) (bytes (part-at ys i)) out (omega (arith, bytes-long (take (min i count) ys), under i, room))
-          ∙ ap (λ (t : List ℕ). entered at t out) (sym (bytes-append start-bytes (plain-of (take (min i count) ys)) (plain-of (part-at ys i))) ∙ ap (bytes-of start-bytes) (sym (plain-append (take (min i count) ys) (part-at ys i)) ∙ ap plain-of (ap (λ (t : List Start). t ++ part-at ys i) here ∙ sym next)))
+          h ∙ ap₂ (λ us ws. take (at + 8 * i) us ++ (bytes ws ++ drop (at + 8 * i + 8 * p .count) us)) is (part-starts p (part-at ys i) e)
+          ∙ ap₂ (λ m k. take (at + m) (written-to i) ++ (bytes (part-at ys i) ++ drop (at + m + k) (written-to i))) (sym long) (sym bytes-of-part)
+          ∙ entered-more at (bytes (take (min i count) ys)) (bytes (part-at ys i)) out (omega (arith, starts-length (take (min i count) ys), under i, room))
+          ∙ ap (λ (t : List ℕ). spliced at t out)
+          (sym (bytes-append start-bytes (take (min i count) ys) (part-at ys i)) ∙ ap bytes (ap (λ (t : List Start). t ++ part-at ys i) here ∙ sym next))
 
 -- ---- the call: all in front of the starts is written, and the records come behind it
-module _ (w h t g : ℕ) (ss : List ℕ) (ys : List Start) (j : Judged) (is-judged : j ≡ judge ss (plain-of ys) nothing-judged) where
-  lengths : (length (cells-of ys) ≡ length ys) × (length (begins-of ys) ≡ length ys)
-  unfolding cells-of begins-of
-  lengths = (length-map ys (λ s. s .cell), length-map ys (λ s. s .time))
+module _ (w h t g : ℕ) (ss : List ℕ) (ys : List Start) (j : Judged) (is-judged : j ≡ judge ss ys nothing-judged) where
+  abbrev n : ℕ
+  n = length ys
 
-  -- records without a cause are no more than cells
-  pub records-most : j .number ≡ 0 → length ys ≡ length ys → length ys ≤ length ss
-  records-most z _ = omega (arith, judged-most ss (cells-of ys) (begins-of ys) (ap (λ u. u .number) (sym is-judged) ∙ z) (lengths .0 ∙ sym (lengths .1)), lengths .0)
+  judges : Judges ss n n j ys
+  judges = record { is = is-judged; many = λ _. refl }
 
-  module _ (out mid : List ℕ) (x : Reply) (b : Begins w h t g ss (length ys) (length ys) j out mid x) where
-    begun : Begins w h t g ss (length (cells-of ys)) (length (begins-of ys)) j out mid x
-    begun = subst (λ (n : ℕ). Begins w h t g ss n (length (begins-of ys)) j out mid x) (sym (lengths .0)) (subst (λ (n : ℕ). Begins w h t g ss (length ys) n j out mid x) (sym (lengths .1)) b)
+  pub records-judged : Judging ss n n j
+  records-judged = record { starts = ys; judges = judges }
 
-    waits : x .number ≡ 0 → Awaits g ss (cells-of ys) (begins-of ys) out mid x
-    waits z = awaits w h t g ss (cells-of ys) (begins-of ys) j is-judged out mid x begun z
+  module _ (out mid : List ℕ) (x : Reply) (b : Begins w h t g ss n n j out mid x) where
+    waits : x .number ≡ 0 → Awaits g ss n n ys out mid x
+    waits z = awaits b judges z
 
-    pub place-good : x .number ≡ 0 → 8 * length ys ≤ x .count
-    place-good z = omega (arith, waits z .count, lengths .0)
+    pub place-good : x .number ≡ 0 → start-size * n ≤ x .count
+    place-good z = omega (arith, waits z .count)
 
-    module _ (at k : ℕ) (is-at : at ≡ cond (eqb (x .number) 0) (x .count - 8 * length ys) 0) (is-k : k ≡ cond (eqb (x .number) 0) (length ys) 0) where
-      at-zero : x .number ≡ 0 → (at ≡ x .count - 8 * length ys) × (k ≡ length ys)
+    module _ (at k : ℕ) (is-at : at ≡ cond (eqb (x .number) 0) (x .count - start-size * n) 0) (is-k : k ≡ cond (eqb (x .number) 0) n 0) where
+      at-zero : x .number ≡ 0 → (at ≡ x .count - start-size * n) × (k ≡ n)
       at-zero z = (is-at ∙ rw (eq-eqb (x .number) 0 z), is-k ∙ rw (eq-eqb (x .number) 0 z))
 
-      at-none : (x .number ≡ 0 → ⊥) → (at ≡ 0) × (k ≡ 0)
-      at-none n = (is-at ∙ rw (ne-eqb (x .number) 0 n), is-k ∙ rw (ne-eqb (x .number) 0 n))
+      at-none : x .number ≢ 0 → (at ≡ 0) × (k ≡ 0)
+      at-none d = (is-at ∙ rw (ne-eqb (x .number) 0 d), is-k ∙ rw (ne-eqb (x .number) 0 d))
 
-      pub records-fit : (0 < k → k ≡ length ys) × (at + 8 * k ≤ length mid)
+      pub records-fit : (0 < k → k ≡ n) × (at + start-size * k ≤ length mid)
       records-fit = elim (ℕ-discrete (x .number) 0) [
         | yes z ↦ let a = at-zero z in ((λ _. a .1), omega (arith, a .0, a .1, place-good z, waits z .fits, waits z .long))
-        | no n ↦ let a = at-none n in ((λ l. absurd (not-suc-le-zero (subst (λ (m : ℕ). 0 < m) (a .1) l))), omega (arith, a .0, a .1))
+        | no d ↦ let a = at-none d in ((λ l. absurd (not-suc-le-zero (subst (λ (m : ℕ). 0 < m) (a .1) l))), omega (arith, a .0, a .1))
       ]
 
-      pub writes-records : (now : List ℕ) → now ≡ take at mid ++ (bytes (take k ys) ++ drop (at + 8 * k) mid) → Writes (plain w h ss (cells-of ys) (begins-of ys)) t g out now x
-      unfolding bytes-of starts-of cells-of begins-of
+      -- records are as many cells as times
+      handed-so : {now : List ℕ} → Writes (given-by w h ss n n ys) t g out now x → Writes (by-records w h ss ys) t g out now x
+      unfolding by-records
+      handed-so {now} ws = subst (λ (p : Bool). Writes (handed (board-of w h ss ys) p) t g out now x) (eq-eqb n n refl) ws
+
+      pub writes-records : (now : List ℕ) → now ≡ take at mid ++ (bytes (take k ys) ++ drop (at + start-size * k) mid) → Writes (by-records w h ss ys) t g out
+          now x
+      unfolding bytes-of
       writes-records now e = elim (ℕ-discrete (x .number) 0) [
         | yes z ↦ let a = at-zero z in
-            writes-all w h t g ss (cells-of ys) (begins-of ys) j is-judged out mid x begun z at now (omega (arith, a .0, waits z .count, lengths .0))
-            (e ∙ ap₂ (λ u v. take at mid ++ (bytes u ++ drop (at + 8 * v) mid)) (take-all k ys (omega (arith, a .1))) (a .1 ∙ sym (lengths .0)))
-        | no n ↦ let a = at-none n in
-            let stays : now ≡ mid = e ∙ ap₂ (λ u v. take u mid ++ (bytes (take v ys) ++ drop (u + 8 * v) mid)) (a .0) (a .1) in
-            subst (λ (o : List ℕ). Writes (plain w h ss (cells-of ys) (begins-of ys)) t g out o x) (sym stays) (writes-none w h t g ss (cells-of ys) (begins-of ys) j is-judged out mid x begun n)
+            handed-so (writes-all b judges z at now (omega (arith, a .0, waits z .count))
+            (e ∙ ap₂ (λ u v. take at mid ++ (bytes u ++ drop (at + start-size * v) mid)) (take-all k ys (omega (arith, a .1))) (a .1)))
+        | no d ↦ let a = at-none d in
+            let stays : now ≡ mid = e ∙ ap₂ (λ u v. take u mid ++ (bytes (take v ys) ++ drop (u + start-size * v) mid)) (a .0) (a .1) in
+            subst (λ (o : List ℕ). Writes (by-records w h ss ys) t g out o x) (sym stays) (handed-so (writes-none b judges d))
       ]

@@ -1,17 +1,15 @@
 -- What is promised of scenario files that are read into start records, and written from them. Each statement is a type; proofs/Promises.antt has their proofs.
--- Assumes nothing: these are definitions.
 use mathlib.Core.Path.{_≡_}
 use mathlib.Core.List.{List, _++_}
 use Prim.Native.Nat.{ℕ, _*_, _≤_}
 use lib.ListN.{length, take, drop}
+use Rattle.eikonal.specs.Refusals.{by-lists, by-records, cells-of, begins-of}
 use Rattle.eikonal.specs.Ledger.{answer}
-use Rattle.eikonal.specs.Entry.{plain}
 use Rattle.eikonal.specs.declared.Reply.{Reply}
+use Rattle.eikonal.specs.declared.Start.{Start}
 use Rattle.scenario.specs.Bytes.{Bytes}
 use Rattle.scenario.specs.Calls.{Reads, Writes, scenario}
 use Rattle.scenario.specs.declared.Scenario.{Scenario}
-use Rattle.records.specs.declared.Start.{Start}
-use Rattle.records.specs.Records.{cells-of, begins-of}
 
 -- RECORDS AND PLAIN LISTS are filled alike, and written alike
 unfoldable pub Same-read : Type 0
@@ -23,7 +21,7 @@ Same-read =
 unfoldable pub Same-write : Type 0
 Same-write =
     (w h t g : ℕ) (slow c b out o o' : List ℕ) (ys : List Start) (y y' : Reply) → c ≡ cells-of ys → b ≡ begins-of ys →
-    Writes (plain w h slow (cells-of ys) (begins-of ys)) t g out o y → Writes (plain w h slow c b) t g out o' y' →
+    Writes (by-records w h slow ys) t g out o y → Writes (by-lists w h slow c b) t g out o' y' →
     (y ≡ y') × (o ≡ o')
 
 -- READ into records, THEN WRITTEN from them with the same ground, an accepted file has the same bytes
@@ -31,14 +29,14 @@ unfoldable pub Records-read-then-write : Type 0
 Records-read-then-write =
     (f slow slow-now : List ℕ) (ys ys-now : List Start) (x : Scenario) (out out-now : List ℕ) (y : Reply) → Bytes f →
     Reads f slow slow-now (cells-of ys) (cells-of ys-now) (begins-of ys) (begins-of ys-now) x → x .number ≡ 0 →
-    Writes (plain (x .width) (x .height) (take (x .width * x .height) slow-now) (cells-of (take (x .starts) ys-now)) (begins-of (take (x .starts) ys-now))) (x .ticks) (x .ground) out out-now y →
+    Writes (by-records (x .width) (x .height) (take (x .width * x .height) slow-now) (take (x .starts) ys-now)) (x .ticks) (x .ground) out out-now y →
     length f ≤ length out → (y ≡ answer 0 (length f)) × (out-now ≡ f ++ drop (length f) out)
 
 -- WRITTEN from records, THEN READ into records that are long enough, a board is the same board
 unfoldable pub Records-write-then-read : Type 0
 Records-write-then-read =
     (w h t g : ℕ) (slow : List ℕ) (zs : List Start) (out out-now : List ℕ) (y : Reply) (s s-now : List ℕ) (ys ys-now : List Start) (x : Scenario) →
-    Writes (plain w h slow (cells-of zs) (begins-of zs)) t g out out-now y → y .number ≡ 0 →
+    Writes (by-records w h slow zs) t g out out-now y → y .number ≡ 0 →
     Reads (take (y .count) out-now) s s-now (cells-of ys) (cells-of ys-now) (begins-of ys) (begins-of ys-now) x →
     length slow ≤ length s → length zs ≤ length ys →
     (x ≡ scenario 0 w h t g (length zs)) × (s-now ≡ slow ++ drop (length slow) s) × (ys-now ≡ zs ++ drop (length zs) ys)

@@ -4,9 +4,8 @@ ghost use Prim.Native.Nat.{_≤_};
 ghost use lib.ListN.{length, take};
 ghost use Rattle.eikonal.specs.Refusals.{starts-of};
 ghost use Rattle.eikonal.specs.Inner.Judge.{judge, nothing-judged};
-ghost use Rattle.records.specs.Records.{cells-of, begins-of};
-use super::Start;
 use super::parts::Part;
+use eikonal::Start;
 use eikonal::refusals::Judged;
 use eikonal::refusals::judge_starts;
 use eikonal::refusals::nothing_judged;
@@ -22,7 +21,7 @@ fn judge_part(slow: &[u32], part: Part, so_far: Judged) -> Judged
 }
 
 pub fn judge_records(slow: &[u32], starts: &[Start]) -> Judged
-    ensures { λ r. ⌜ r ≡ judge (now (slow .entry)) (starts-of (cells-of (now (starts .entry))) (begins-of (now (starts .entry)))) nothing-judged ⌝ }
+    ensures { λ r. ⌜ r ≡ judge (now (slow .entry)) (now (starts .entry)) nothing-judged ⌝ }
 {
     let mut judged = nothing_judged();
     let mut from = 0;

@@ -3,7 +3,7 @@ ghost use mathlib.Core.Path.{_≡_};
 ghost use Prim.Native.Nat.{_≤_, min};
 ghost use lib.ListN.{length, take, drop};
 ghost use Rattle.records.specs.Records.{part-of};
-use super::Start;
+use eikonal::Start;
 
 // At most 256 records: how many, their cells and their times. Later entries are 0.
 pub struct Part {

@@ -7,17 +7,19 @@ ghost use lib.Dec.{eqb};
 ghost use lib.ListN.{length, take, drop};
 ghost use Rattle.eikonal.specs.Refusals.{starts-of};
 ghost use Rattle.scenario.specs.Bytes.{bytes-of};
-ghost use Rattle.scenario.specs.File.{start-bytes};
-ghost use Rattle.records.specs.Records.{cells-of, begins-of};
-use super::Start;
+ghost use Rattle.scenario.specs.File.{start-size, start-bytes};
 use super::parts::Part;
 use super::parts::unpack;
 use eikonal::Reply;
+use eikonal::Start;
+use scenario::START;
 
 // From a place on; all other bytes stay.
 fn write_part(out: &mut [u8], at: usize, part: Part)
-    requires { ⌜ (part .count ≤ length (part .cells)) × (part .count ≤ length (part .begins)) × (at + 8 * part .count ≤ length (now out)) ⌝ }
-    ensures { λ r. ⌜ now (out .exit) ≡ take at (now (out .entry)) ++ (bytes-of start-bytes (starts-of (take (part .count) (part .cells)) (take (part .count) (part .begins))) ++ drop (at + 8 * part .count) (now (out .entry))) ⌝ }
+    requires { ⌜ (part .count ≤ length (part .cells)) × (part .count ≤ length (part .begins)) × (at + start-size * part .count ≤ length (now out)) ⌝ }
+    ensures { λ r. ⌜ now (out .exit) ≡ take at (now (out .entry))
+        ++ (bytes-of start-bytes (starts-of (take (part .count) (part .cells)) (take (part .count) (part .begins)))
+        ++ drop (at + start-size * part .count) (now (out .entry))) ⌝ }
 {
     let count = part.count;
     let cells = part.cells;
@@ -27,25 +29,26 @@ fn write_part(out: &mut [u8], at: usize, part: Part)
 
 // All records, or none where the count is 0, from a place on; all other bytes stay.
 pub fn write_records(out: &mut [u8], at: usize, count: usize, starts: &[Start])
-    requires { ⌜ (0 < count → count ≡ length (now starts)) × (at + 8 * count ≤ length (now out)) ⌝ }
-    ensures { λ r. ⌜ now (out .exit) ≡ take at (now (out .entry)) ++ (bytes-of start-bytes (starts-of (cells-of (take count (now (starts .entry)))) (begins-of (take count (now (starts .entry))))) ++ drop (at + 8 * count) (now (out .entry))) ⌝ }
+    requires { ⌜ (0 < count → count ≡ length (now starts)) × (at + start-size * count ≤ length (now out)) ⌝ }
+    ensures { λ r. ⌜ now (out .exit) ≡ take at (now (out .entry)) ++ (bytes-of start-bytes (take count (now (starts .entry)))
+        ++ drop (at + start-size * count) (now (out .entry))) ⌝ }
 {
     let mut from = 0;
     while from < count {
-        write_part(out, at + 8 * from, unpack(starts, from));
+        write_part(out, at + START * from, unpack(starts, from));
         from += 256;
     }
 }
 
 // Where the starts of a file begin that is not refused, and how many are to be written.
 pub fn place_of(reply: Reply, starts: usize) -> usize
-    requires { ⌜ («reply» .number ≡ 0 → 8 * starts ≤ «reply» .count) ⌝ }
-    ensures { λ r. ⌜ r ≡ cond (eqb («reply» .number) 0) («reply» .count - 8 * starts) 0 ⌝ }
+    requires { ⌜ («reply» .number ≡ 0 → start-size * starts ≤ «reply» .count) ⌝ }
+    ensures { λ r. ⌜ r ≡ cond (eqb («reply» .number) 0) («reply» .count - start-size * starts) 0 ⌝ }
 {
     if reply.number != 0 {
         return 0;
     }
-    reply.count as usize - 8 * starts
+    reply.count as usize - START * starts
 }
 
 pub fn count_of(reply: Reply, starts: usize) -> usize

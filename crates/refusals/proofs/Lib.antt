@@ -1,1 +1,1 @@
-pub mod Theory
+pub mod Orders

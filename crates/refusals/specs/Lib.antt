@@ -1,2 +1,1 @@
 pub mod Orders
-pub mod Causes

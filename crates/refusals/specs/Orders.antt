@@ -1,16 +1,11 @@
--- The order of tiles as it is judged, a part of the tile numbers at a time. Only internal contracts cite these. Assumes nothing: these are definitions.
+-- The order of tiles as it is judged, a part of the tile numbers at a time. Only internal contracts cite these.
 use mathlib.Core.Path.{_≡_}
 use mathlib.Core.Bool.{Bool, true, _&&_, _||_}
-use mathlib.Core.List.{List, []}
+use mathlib.Core.List.{List}
 use Prim.Native.Nat.{ℕ, zero, suc, _+_, _<_}
 use lib.Dec.{eqb}
 use lib.ListN.{length, getD}
-use Rattle.eikonal.specs.Refusals.{Plain, member}
-use Rattle.eikonal.specs.Entry.{plain}
-
--- a board of which only the sides are known; the causes 11 to 14 rest on nothing else of it
-abbrev pub sides : (w h : ℕ) → Plain
-sides w h = plain w h [] [] []
+use Rattle.eikonal.specs.Refusals.{member}
 
 -- each number below n passes
 unfoldable pub all-below : (n : ℕ) → (ℕ → Bool) → Bool

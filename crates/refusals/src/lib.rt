@@ -1,12 +1,21 @@
-// Whether a march, a round or a tile run is refused, and by which number, or 0 if by none.
+// Whether a march, a round or a tile run is refused, and why.
 ghost use mathlib.Core.Path.{_≡_};
-ghost use Prim.Native.Nat.{_≤_, min};
+ghost use mathlib.Core.Bool.{Bool, _||_};
+ghost use mathlib.Core.List.{List, []};
+ghost use Prim.Native.Nat.{ℕ, _≤_, min};
+ghost use lib.Dec.{ltb, eqb};
 ghost use lib.ListN.{length};
+ghost use Rattle.eikonal.specs.Board.{board-of, largest};
 ghost use Rattle.eikonal.specs.Tiles.{up};
-ghost use Rattle.eikonal.specs.Refusals.{board, all-there, order-good, lists-refusal, tiles-refusal};
-ghost use Rattle.refusals.specs.Orders.{sides, all-below, part-there, marked, Noted};
-ghost use Rattle.refusals.specs.Causes.{march-by, round-by, run-by};
+ghost use Rattle.eikonal.specs.Refusals.{handed, handed-refusal, all-there, order-good, tiles-refusal, job-refusal, lists-refusal};
+ghost use Rattle.eikonal.specs.Ledger.{call, refusal};
+ghost use Rattle.eikonal.specs.declared.Start.{Start};
+ghost use Rattle.refusals.specs.Orders.{all-below, part-there, marked, Noted};
+use eikonal::Job;
+use eikonal::Refusal;
 use eikonal::arrival::LARGEST;
+use eikonal::cause;
+use eikonal::refusals::side_good;
 
 // How many tile numbers are looked for at a time.
 const PART: usize = 8192;
@@ -79,17 +88,17 @@ fn all_there(order: &[u32], count: usize) -> bool
 }
 
 // How many tiles of a side lie along so many cells.
-fn tiles_along(cells: u32, side: u32) -> u32
+pub fn tiles_along(cells: u32, side: u32) -> u32
     requires { ⌜ (cells ≤ 256) × (1 ≤ side) × (side ≤ 256) ⌝ }
     ensures { λ r. ⌜ r ≡ up cells side ⌝ }
 {
     (cells + side - 1) / side
 }
 
-// Whether the order has each of the board's tile numbers once.
-pub fn order_good(width: u32, height: u32, across: u32, down: u32, order: &[u32]) -> bool
+// Whether the order has each of the board's tile numbers once. Of the board the sides matter here, and below.
+fn order_good(width: u32, height: u32, across: u32, down: u32, order: &[u32]) -> bool
     requires { ⌜ (width ≤ 256) × (height ≤ 256) × (1 ≤ across) × (across ≤ 256) × (1 ≤ down) × (down ≤ 256) ⌝ }
-    ensures { λ r. ⌜ r ≡ order-good (board (sides width height)) across down (now (order .entry)) ⌝ }
+    ensures { λ r. ⌜ r ≡ order-good (board-of width height [] []) across down (now (order .entry)) ⌝ }
 {
     let count = (tiles_along(width, across) * tiles_along(height, down)) as usize;
     if order.len() != count {
@@ -98,118 +107,108 @@ pub fn order_good(width: u32, height: u32, across: u32, down: u32, order: &[u32]
     all_there(order, count)
 }
 
-// 13 and 14, of a board with good sides.
-fn lists_refusal(width: u32, height: u32, times: usize, work: usize) -> u32
+// 11 and 12.
+fn tiles_refusal(width: u32, height: u32, across: u32, down: u32, order: &[u32]) -> Refusal
     requires { ⌜ (width ≤ 256) × (height ≤ 256) ⌝ }
-    ensures { λ r. ⌜ r ≡ lists-refusal (sides width height) times work ⌝ }
+    ensures { λ r. ⌜ r ≡ tiles-refusal (board-of width height [] []) across down (now (order .entry)) ⌝ }
 {
-    let cells = (width * height) as usize;
-    if times != cells {
-        return 13;
+    if !side_good(across) {
+        return cause(11);
     }
-    if work < 4 * cells {
-        return 14;
-    }
-    0
-}
-
-// 11 to 14, of a board with good sides.
-fn tiles_refusal(
-    width: u32,
-    height: u32,
-    across: u32,
-    down: u32,
-    order: &[u32],
-    times: usize,
-    work: usize,
-) -> u32
-    requires { ⌜ (width ≤ 256) × (height ≤ 256) ⌝ }
-    ensures { λ r. ⌜ r ≡ tiles-refusal (sides width height) across down (now (order .entry)) times work ⌝ }
-{
-    if !eikonal::refusals::side_good(across) {
-        return 11;
-    }
-    if !eikonal::refusals::side_good(down) {
-        return 11;
+    if !side_good(down) {
+        return cause(11);
     }
     if !order_good(width, height, across, down, order) {
-        return 12;
+        return cause(12);
     }
-    lists_refusal(width, height, times, work)
+    cause(0)
 }
 
-// A whole march, of a board whose own number is `board`. Of the lists of times and work only the lengths matter here.
-pub fn march_refusal(
-    board: u32,
-    width: u32,
-    height: u32,
-    horizon: u32,
-    times: usize,
-    work: usize,
-) -> u32
-    requires { ⌜ (board ≡ 0 → (width ≤ 256) × (height ≤ 256)) ⌝ }
-    ensures { λ r. ⌜ r ≡ march-by board width height horizon times work ⌝ }
+fn stride_outside(stride: u32) -> bool
+    ensures { λ r. ⌜ r ≡ eqb stride 0 || ltb largest stride ⌝ }
 {
-    if board != 0 {
-        return board;
-    }
-    if horizon > LARGEST {
-        return 10;
-    }
-    lists_refusal(width, height, times, work)
-}
-
-// A single round.
-pub fn round_refusal(
-    board: u32,
-    width: u32,
-    height: u32,
-    across: u32,
-    down: u32,
-    bound: u32,
-    order: &[u32],
-    times: usize,
-    work: usize,
-) -> u32
-    requires { ⌜ (board ≡ 0 → (width ≤ 256) × (height ≤ 256)) ⌝ }
-    ensures { λ r. ⌜ r ≡ round-by board width height across down bound (now (order .entry)) times work ⌝ }
-{
-    if board != 0 {
-        return board;
-    }
-    if bound > LARGEST {
-        return 10;
-    }
-    tiles_refusal(width, height, across, down, order, times, work)
-}
-
-// A tile run.
-pub fn run_refusal(
-    board: u32,
-    width: u32,
-    height: u32,
-    across: u32,
-    down: u32,
-    stride: u32,
-    horizon: u32,
-    order: &[u32],
-    times: usize,
-    work: usize,
-) -> u32
-    requires { ⌜ (board ≡ 0 → (width ≤ 256) × (height ≤ 256)) ⌝ }
-    ensures { λ r. ⌜ r ≡ run-by board width height across down stride horizon (now (order .entry)) times work ⌝ }
-{
-    if board != 0 {
-        return board;
-    }
-    if horizon > LARGEST {
-        return 10;
-    }
     if stride == 0 {
-        return 10;
+        return true;
     }
     if stride > LARGEST {
-        return 10;
+        return true;
     }
-    tiles_refusal(width, height, across, down, order, times, work)
+    false
+}
+
+// 10, 11 and 12 of what is to be done.
+fn job_refusal(width: u32, height: u32, job: Job, order: &[u32]) -> Refusal
+    requires { ⌜ (width ≤ 256) × (height ≤ 256) ⌝ }
+    ensures { λ r. ⌜ r ≡ job-refusal (board-of width height [] []) job (now (order .entry)) ⌝ }
+{
+    match job {
+        Job::March { horizon } => {
+            if horizon > LARGEST {
+                return cause(10);
+            }
+            cause(0)
+        }
+        Job::Round {
+            across,
+            down,
+            bound,
+        } => {
+            if bound > LARGEST {
+                return cause(10);
+            }
+            tiles_refusal(width, height, across, down, order)
+        }
+        Job::Run {
+            across,
+            down,
+            stride,
+            horizon,
+        } => {
+            if horizon > LARGEST {
+                return cause(10);
+            }
+            if stride_outside(stride) {
+                return cause(10);
+            }
+            tiles_refusal(width, height, across, down, order)
+        }
+    }
+}
+
+// 13 and 14, of a board of n cells.
+fn lists_refusal(n: usize, times: usize, work: usize) -> Refusal
+    requires { ⌜ n ≤ 65536 ⌝ }
+    ensures { λ r. ⌜ r ≡ lists-refusal n times work ⌝ }
+{
+    if times != n {
+        return cause(13);
+    }
+    if work < 4 * n {
+        return cause(14);
+    }
+    cause(0)
+}
+
+// A call on the front, of a board whose own refusal is `board`. Of the lists of times and work only the lengths matter here.
+pub fn call_refusal(
+    board: Refusal,
+    width: u32,
+    height: u32,
+    job: Job,
+    order: &[u32],
+    times: usize,
+    work: usize,
+) -> Refusal
+    requires { ⌜ (board .number ≡ 0 → (width ≤ 256) × (height ≤ 256)) ⌝ }
+    ensures { λ r. ⌜ ((slow : List ℕ) (xs : List Start) (paired : Bool) → board ≡ handed-refusal (handed (board-of width height slow xs) paired)
+        → r ≡ refusal (call (handed (board-of width height slow xs) paired) job (now (order .entry)) work) times) ⌝ }
+{
+    if board.number != 0 {
+        return board;
+    }
+    let own = job_refusal(width, height, job, order);
+    if own.number != 0 {
+        return own;
+    }
+    lists_refusal((width * height) as usize, times, work)
 }

@@ -1,4 +1,4 @@
--- The decimal text of a number stands for it. Assumes nothing.
+-- The decimal text of a number stands for it.
 use mathlib.Core.Path.{_≡_, refl, _∙_}
 use mathlib.Core.Bool.{Bool, true, false, cond}
 use mathlib.Core.List.{List, [], _∷_, _++_}

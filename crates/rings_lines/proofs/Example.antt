@@ -1,13 +1,14 @@
--- The three-by-three board of document 01 with the turns of Card 3: the four lines that `rings` prints, worked out from the definitions. Assumes nothing.
+-- The three-by-three board of document 01 with the turns of Card 3: the four lines that `rings` prints, worked out from the definitions.
 use mathlib.Core.Path.{_≡_, refl}
 use mathlib.Core.List.{List, [], _∷_}
 use Prim.Native.Nat.{ℕ}
-use Rattle.eikonal.specs.Board.{size, slowness, earlier, least-from, square, passes, local, start-time, arrival, met, time, one-pass, passes-of, all-never, solved, cut, marched}
-use Rattle.eikonal.specs.Refusals.{or-else, side-good, any-above, starts-rise, late, on-wall, starts-refusal}
+use Rattle.eikonal.specs.Board.{size, slowness, earlier, least-from, square, passes, local, start-time, arrival, met, time}
+use Rattle.eikonal.specs.Board.{one-pass, passes-of, all-never, solved, cut, marched}
+use Rattle.eikonal.specs.Refusals.{or-else, side-good, sides-good, any-above, starts-rise, late, on-wall, starts-refusal}
 use Rattle.eikonal.specs.Tiles.{up}
 use Rattle.scenario.specs.Bytes.{two, four, records}
 use Rattle.scenario.specs.Runs.{painted, runs-good}
-use Rattle.scenario.specs.File.{start-in, width-in, height-in, ticks-in, ground-in, run-count, start-count, runs-in, starts-in, held, ticks-good, sides-good, length-good, head-refusal, runs-refusal, file-refusal}
+use Rattle.scenario.specs.File.{head-in, start-in, runs-in, starts-in, held, ticks-good, length-good, head-refusal, runs-refusal, file-refusal}
 use Rattle.scenario.specs.Turns.{turn-of}
 use Rattle.tablet.specs.Small.{sides-small, small-refusal}
 use Rattle.rings_lines.specs.Text.{digits, decimal}
@@ -23,7 +24,7 @@ its-lines : lines bytes
     ∷ 49 ∷ 32 ∷ 50 ∷ 32 ∷ 51 ∷ 10
     ∷ 50 ∷ 32 ∷ 51 ∷ 32 ∷ 52 ∷ 10 ∷ []
 unfolding lines board-lines rings-refusal head-line rows behind turn-text decimal digits small-refusal sides-small turn-of up file-refusal
-    head-refusal runs-refusal length-good sides-good ticks-good held starts-in runs-in start-count run-count ground-in ticks-in height-in
-    width-in start-in painted runs-good two four records or-else side-good any-above starts-rise late on-wall starts-refusal size slowness
+    head-refusal runs-refusal length-good sides-good ticks-good held starts-in runs-in head-in start-in painted runs-good two four
+    records or-else side-good any-above starts-rise late on-wall starts-refusal size slowness
     earlier least-from square passes local start-time arrival met time one-pass passes-of all-never solved cut marched bytes
 its-lines = refl

@@ -1,4 +1,4 @@
--- The field of each cell, one behind the other. Assumes nothing.
+-- The field of each cell, one behind the other.
 use mathlib.Core.Path.{_≡_}
 use mathlib.Core.Bool.{true}
 use mathlib.Core.List.{List, [], _∷_, _++_}

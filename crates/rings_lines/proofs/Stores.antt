@@ -1,27 +1,31 @@
--- Bytes stored one behind the other. Assumes nothing.
-use mathlib.Core.Path.{_≡_, sym, ap, ap₂, _∙_}
+-- Bytes put one behind the other.
+use mathlib.Core.Path.{_≡_, refl, sym, ap, _∙_}
 use mathlib.Core.List.{List, [], _∷_, _++_}
 use Prim.Native.Nat.{ℕ, suc, _+_}
 use native.Mathlib.Nat.{add-zero}
 use native.Mathlib.Omega.{arith}
 use lib.ListN.{length, set, length-append}
 use lib.Seq.{sets}
+use Rattle.rings_lines.specs.Put.{Put}
 
-pub sets-append : (xs ys l : List ℕ) (i : ℕ) → sets l i (xs ++ ys) ≡ sets (sets l i xs) (i + length xs) ys
+sets-append : (xs ys l : List ℕ) (i : ℕ) → sets l i (xs ++ ys) ≡ sets (sets l i xs) (i + length xs) ys
 sets-append [] ys l i = rw (add-zero i)
 sets-append (x ∷ xs) ys l i =
-    sets-append xs ys (set l i x) (suc i) ∙ ap (λ u. sets (sets (set l i x) (suc i) xs) u ys) (let q : suc i + length xs ≡ i + suc (length xs) = omega arith in q)
+    let q : suc i + length xs ≡ i + suc (length xs) = omega arith in
+    sets-append xs ys (set l i x) (suc i) ∙ ap (λ u. sets (sets (set l i x) (suc i) xs) u ys) q
 
--- bytes were put at a place, with the next place answered; what is put there stands behind them
-module _ (xs out now : List ℕ) (at next : ℕ) (place : next ≡ at + length xs) (bytes : now ≡ sets out at xs) where
-  pub then-bytes : (ys : List ℕ) → sets now next ys ≡ sets out at (xs ++ ys)
-  then-bytes ys = ap₂ (λ u v. sets u v ys) bytes place ∙ sym (sets-append xs ys out at)
+module _ {out mid : List ℕ} {at next : ℕ} {xs : List ℕ} (p : Put out at xs mid next) where
+  -- more bytes behind them
+  pub put-more : {now : List ℕ} {end : ℕ} {ys : List ℕ} → Put mid next ys now end → Put out at (xs ++ ys) now end
+  put-more {ys = ys} q = record {
+    place = q .place ∙ omega (arith, p .place, length-append xs ys);
+    bytes = q .bytes ∙ (λ i. sets (p .bytes i) (p .place i) ys) ∙ sym (sets-append xs ys out at);
+  }
 
-  pub then-place : (ys : List ℕ) → next + length ys ≡ at + length (xs ++ ys)
-  then-place ys = omega (arith, length-append xs ys)
+  -- one byte more
+  pub put-byte : (d : ℕ) → Put out at (xs ++ (d ∷ [])) (set mid next d) (next + 1)
+  put-byte d = put-more (record { place = refl; bytes = refl })
 
-  pub then-byte : (d v : ℕ) → d ≡ v → set now next d ≡ sets out at (xs ++ (v ∷ []))
-  then-byte d v e = ap (λ u. set now next u) e ∙ then-bytes (v ∷ [])
-
-  pub then-next : (v : ℕ) → next + 1 ≡ at + length (xs ++ (v ∷ []))
-  then-next v = then-place (v ∷ [])
+  -- the same bytes under another name
+  pub put-is : {ys : List ℕ} → xs ≡ ys → Put out at ys mid next
+  put-is e = record { place = p .place ∙ ap (λ u. at + length u) e; bytes = p .bytes ∙ ap (sets out at) e }

@@ -1,4 +1,4 @@
--- Digits: how many, and what the next one is. Assumes nothing.
+-- Digits: how many, and what the next one is.
 use mathlib.Core.Path.{_≡_, refl}
 use mathlib.Core.Bool.{Bool, true, false, cond}
 use mathlib.Core.List.{List, [], _∷_, _++_}

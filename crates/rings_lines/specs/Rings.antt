@@ -1,5 +1,5 @@
 -- WHAT `rings` PRINTS, byte for byte: "The scenario file" and "Turned down" of document 01, turns as Card 3 of document 02 has them.
--- Assumes nothing: these are definitions.
+--
 use mathlib.Core.Path.{_≡_}
 use mathlib.Core.Bool.{cond}
 use mathlib.Core.List.{List, [], _∷_, _++_}
@@ -7,7 +7,10 @@ use Prim.Native.Nat.{ℕ, _+_, _%_, _≤_}
 use lib.Dec.{ltb, eqb}
 use lib.ListN.{length, take, drop}
 use Rattle.eikonal.specs.Board.{never, marched}
-use Rattle.scenario.specs.File.{width-in, height-in, ticks-in, held}
+use Rattle.eikonal.specs.Refusals.{cause}
+use Rattle.eikonal.specs.declared.Refusal.{Refusal}
+use Rattle.scenario.specs.File.{file-size, head-in, held}
+use Rattle.scenario.specs.declared.Head.{Head}
 use Rattle.scenario.specs.Turns.{turn-of}
 use Rattle.tablet.specs.Small.{horizon, small-refusal}
 use Rattle.rings_lines.specs.Text.{decimal}
@@ -25,24 +28,29 @@ unfoldable pub rows : (wide ticks c : ℕ) → (times : List ℕ) → List ℕ
 rows w k c [] = []
 rows w k c (t ∷ ts) = (turn-text k t ++ (behind w c ∷ [])) ++ rows w k (c + 1) ts
 
-unfoldable pub head-line : (wide high ticks : ℕ) → List ℕ
-head-line w h k = (decimal w ++ (32 ∷ [])) ++ ((decimal h ++ (32 ∷ [])) ++ (decimal k ++ (10 ∷ [])))
+unfoldable pub head-line : Head → List ℕ
+head-line x = (decimal (x .width) ++ (32 ∷ [])) ++ ((decimal (x .height) ++ (32 ∷ [])) ++ (decimal (x .ticks) ++ (10 ∷ [])))
 
 -- `refused`, a space and the number
 unfoldable pub refused-line : (number : ℕ) → List ℕ
 refused-line n = (114 ∷ 101 ∷ 102 ∷ 117 ∷ 115 ∷ 101 ∷ 100 ∷ 32 ∷ []) ++ (decimal n ++ (10 ∷ []))
 
--- 15 comes first for a file above 18,448 bytes
-unfoldable pub rings-refusal : List ℕ → ℕ
-rings-refusal f = cond (ltb 18448 (length f)) 15 (small-refusal f)
+-- 18,448 bytes: a board of 1,024 cells can have as many runs and starts
+abbrev pub longest : ℕ
+longest = file-size 1024 1024
+
+-- 15 comes first for a longer file
+unfoldable pub rings-refusal : List ℕ → Refusal
+rings-refusal f = cond (ltb longest (length f)) (cause 15) (small-refusal f)
 
 unfoldable pub board-lines : List ℕ → List ℕ
 board-lines f =
-    head-line (width-in f) (height-in f) (ticks-in f) ++ rows (width-in f) (ticks-in f) 0 (marched (held f) horizon)
+    let x = head-in f in
+    head-line x ++ rows (x .width) (x .ticks) 0 (marched (held f) horizon)
 
 -- THE LINES of a file
 unfoldable pub lines : List ℕ → List ℕ
-lines f = cond (eqb (rings-refusal f) 0) (board-lines f) (refused-line (rings-refusal f))
+lines f = cond (eqb (rings-refusal f .number) 0) (board-lines f) (refused-line (rings-refusal f .number))
 
 -- room for any lines: 33 bytes in front and 11 a cell are enough
 abbrev pub room : ℕ

@@ -1,4 +1,4 @@
--- Numbers as text. A byte is a number: 48 is `0`. Assumes nothing: these are definitions.
+-- Numbers as text. A byte is a number: 48 is `0`.
 use mathlib.Core.Path.{_≡_}
 use mathlib.Core.Bool.{cond}
 use mathlib.Core.List.{List, [], _∷_, _++_}

@@ -3,7 +3,7 @@ ghost use mathlib.Core.Path.{_≡_};
 ghost use mathlib.Core.List.{[], _∷_, _++_};
 ghost use Prim.Native.Nat.{_+_, _≤_};
 ghost use lib.ListN.{length};
-ghost use lib.Seq.{sets};
+ghost use Rattle.rings_lines.specs.Put.{Put};
 ghost use Rattle.rings_lines.specs.Text.{digits, decimal};
 
 fn digit(x: u32) -> u8
@@ -16,8 +16,7 @@ fn digit(x: u32) -> u8
 // So many digits at most, from a place on. Answers the place behind them.
 fn put_digits(out: &mut [u8], at: usize, most: usize, x: u32) -> usize
     requires { ⌜ at + most ≤ length (now out) ⌝ }
-    ensures place { λ r. ⌜ r ≡ at + length (digits most x) ⌝ }
-    ensures bytes { λ r. ⌜ now (out .exit) ≡ sets (now (out .entry)) at (digits most x) ⌝ }
+    ensures { λ r. ⌜ Put (now (out .entry)) at (digits most x) (now (out .exit)) r ⌝ }
 {
     if most == 0 {
         return at;
@@ -34,8 +33,7 @@ fn put_digits(out: &mut [u8], at: usize, most: usize, x: u32) -> usize
 // A number with a byte behind it.
 pub fn put_number(out: &mut [u8], at: usize, x: u32, last: u8) -> usize
     requires { ⌜ at + 11 ≤ length (now out) ⌝ }
-    ensures place { λ r. ⌜ r ≡ at + length (decimal x ++ (last ∷ [])) ⌝ }
-    ensures bytes { λ r. ⌜ now (out .exit) ≡ sets (now (out .entry)) at (decimal x ++ (last ∷ [])) ⌝ }
+    ensures put { λ r. ⌜ Put (now (out .entry)) at (decimal x ++ (last ∷ [])) (now (out .exit)) r ⌝ }
     ensures most { λ r. ⌜ r ≤ at + 11 ⌝ }
 {
     let next = put_digits(out, at, 10, x);

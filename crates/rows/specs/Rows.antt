@@ -1,5 +1,5 @@
--- The writing of a round: entry by entry, row by row and tile by tile the times become final. Only internal contracts cite these.
--- Assumes nothing: these are definitions.
+-- The writing of a round: entry by entry, row by row and tile by tile the times become final. Only internal contracts
+-- cite these: they are definitions.
 use mathlib.Core.Path.{_≡_}
 use mathlib.Core.Logic.{_⊎_}
 use mathlib.Core.List.{List, []}
@@ -19,8 +19,8 @@ pub record Entered (Asked : ℕ → Type 0) (final : ℕ → ℕ) (old new : Lis
   pub counted : count ≡ altered old new
 
 -- every entry
-abbrev pub All : ℕ → Type 0
-All c = Unit {0}
+abbrev pub Everywhere : ℕ → Type 0
+Everywhere c = Unit {0}
 
 -- the cells of a board so wide that lie in some rows and columns
 pub record Block (wide top bottom left right c : ℕ) : Type 0 where
@@ -34,7 +34,7 @@ abbrev pub tile-in : Shape → (c : ℕ) → ℕ
 tile-in s c = tile-of (land s []) (s .across) (s .down) c
 
 -- sides of a board and of its tiles, and lists with room for its cells
-pub record Room (s : Shape) (times work : List ℕ) : Type 0 where
+pub record Fitting (s : Shape) (times work : List ℕ) : Type 0 where
   pub cells : s .cells ≡ s .width * s .height
   pub wide-low : 1 ≤ s .width
   pub wide-high : s .width ≤ 256

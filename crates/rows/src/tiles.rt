@@ -2,15 +2,16 @@
 ghost use mathlib.Core.Path.{_≡_};
 ghost use mathlib.Core.Bool.{true, cond};
 ghost use mathlib.Core.List.{[]};
-ghost use Prim.Native.Nat.{_+_, _≤_, _<_, min};
+ghost use Prim.Native.Nat.{_+_, _≤_, _<_};
 ghost use lib.Dec.{eqb};
 ghost use lib.ListN.{length, getD};
 ghost use Rattle.eikonal.specs.Refusals.{order-good};
 ghost use Rattle.eikonal.specs.Inner.Clip.{clip};
 ghost use Rattle.front.specs.Board.{land};
 ghost use Rattle.rows.specs.Lists.{due};
-ghost use Rattle.rows.specs.Rows.{Entered, All, Block, tile-in, Room, Wrote};
+ghost use Rattle.rows.specs.Rows.{Entered, Everywhere, Block, tile-in, Fitting, Wrote};
 use super::whole::clip;
+use eikonal::refusals::shorter;
 use front::Shape;
 
 fn differs(a: u32, b: u32) -> u32
@@ -23,7 +24,7 @@ fn differs(a: u32, b: u32) -> u32
 // several are compared at a time.
 fn fill_row(row: &mut [u32], from: &[u32], bound: u32) -> u32
     requires { ⌜ (length (now row) ≡ length (now from)) × (length (now from) ≤ 65536) ⌝ }
-    ensures { λ r. ⌜ Entered All (λ c. clip bound (getD (now (from .entry)) c 0)) (now (row .entry)) (now (row .exit)) r ⌝ }
+    ensures { λ r. ⌜ Entered Everywhere (λ c. clip bound (getD (now (from .entry)) c 0)) (now (row .entry)) (now (row .exit)) r ⌝ }
 {
     let mut count = 0;
     let mut column = 0;
@@ -47,8 +48,9 @@ fn write_row(
     right: usize,
     bound: u32,
 ) -> u32
-    requires { ⌜ Room shape (now times) (now work) × (row < shape .height) × (left ≤ right) × (right ≤ shape .width) ⌝ }
-    ensures { λ r. ⌜ Entered (Block (shape .width) row (row + 1) left right) (due bound (now (work .entry)) (shape .cells)) (now (times .entry)) (now (times .exit)) r ⌝ }
+    requires { ⌜ Fitting shape (now times) (now work) × (row < shape .height) × (left ≤ right) × (right ≤ shape .width) ⌝ }
+    ensures { λ r. ⌜ Entered (Block (shape .width) row (row + 1) left right) (due bound (now (work .entry)) (shape .cells))
+        (now (times .entry)) (now (times .exit)) r ⌝ }
 {
     let w = shape.width;
     let n = shape.cells;
@@ -70,8 +72,9 @@ fn write_rows(
     right: usize,
     bound: u32,
 ) -> u32
-    requires { ⌜ Room shape (now times) (now work) × (bottom ≤ shape .height) × (left ≤ right) × (right ≤ shape .width) ⌝ }
-    ensures { λ r. ⌜ Entered (Block (shape .width) top bottom left right) (due bound (now (work .entry)) (shape .cells)) (now (times .entry)) (now (times .exit)) r ⌝ }
+    requires { ⌜ Fitting shape (now times) (now work) × (bottom ≤ shape .height) × (left ≤ right) × (right ≤ shape .width) ⌝ }
+    ensures { λ r. ⌜ Entered (Block (shape .width) top bottom left right) (due bound (now (work .entry)) (shape .cells))
+        (now (times .entry)) (now (times .exit)) r ⌝ }
 {
     let mut count = 0;
     let mut row = top;
@@ -82,15 +85,9 @@ fn write_rows(
     count
 }
 
-fn lesser(a: usize, b: usize) -> usize
-    ensures { λ r. ⌜ r ≡ min a b ⌝ }
-{
-    if a < b { a } else { b }
-}
-
 // A tile, cut at the board's edge.
 fn write_tile(times: &mut [u32], work: &[u32], shape: Shape, tile: u32, bound: u32) -> u32
-    requires { ⌜ Room shape (now times) (now work) ⌝ }
+    requires { ⌜ Fitting shape (now times) (now work) ⌝ }
     ensures { λ r. ⌜ Entered (λ c. tile-in shape c ≡ tile) (due bound (now (work .entry)) (shape .cells)) (now (times .entry)) (now (times .exit)) r ⌝ }
 {
     let w = shape.width;
@@ -100,14 +97,14 @@ fn write_tile(times: &mut [u32], work: &[u32], shape: Shape, tile: u32, bound: u
     let t = tile as usize;
     let top = t / in_a_row * down;
     let left = t % in_a_row * across;
-    let bottom = lesser(top + down, shape.height);
-    let right = lesser(left + across, w);
+    let bottom = shorter(top + down, shape.height);
+    let right = shorter(left + across, w);
     write_rows(times, work, shape, top, bottom, left, right, bound)
 }
 
 // Every tile, in the order given.
 pub fn write_tiles(times: &mut [u32], work: &[u32], shape: Shape, order: &[u32], bound: u32) -> u32
-    requires { ⌜ Room shape (now times) (now work) × (order-good (land shape []) (shape .across) (shape .down) (now order) ≡ true) ⌝ }
+    requires { ⌜ Fitting shape (now times) (now work) × (order-good (land shape []) (shape .across) (shape .down) (now order) ≡ true) ⌝ }
     ensures { λ r. ⌜ Wrote shape bound (now (work .entry)) (now (times .entry)) (now (times .exit)) r ⌝ }
 {
     let mut count = 0;

@@ -1,4 +1,4 @@
-// Lists of times: filled with one number, and written up to a bound.
+// The times of a whole board, written up to a bound.
 ghost use mathlib.Core.Path.{_≡_};
 ghost use mathlib.Core.Bool.{cond};
 ghost use Prim.Native.Nat.{_*_, _≤_, _<_};
@@ -6,20 +6,8 @@ ghost use lib.Dec.{leb};
 ghost use lib.ListN.{length};
 ghost use Rattle.eikonal.specs.Board.{never};
 ghost use Rattle.eikonal.specs.Inner.Clip.{clip};
-ghost use Rattle.rows.specs.Lists.{Filled, Finished};
+ghost use Rattle.rows.specs.Lists.{Finished};
 use eikonal::arrival::NEVER;
-
-// Entries from `from` up to `end` become x.
-pub fn fill(list: &mut [u32], from: usize, end: usize, x: u32)
-    requires { ⌜ (from ≤ end) × (end ≤ length (now list)) ⌝ }
-    ensures { λ r. ⌜ Filled from end x (now (list .entry)) (now (list .exit)) ⌝ }
-{
-    let mut i = from;
-    while i < end {
-        list[i] = x;
-        i += 1;
-    }
-}
 
 // A time up to the bound, else never.
 pub fn clip(t: u32, bound: u32) -> u32

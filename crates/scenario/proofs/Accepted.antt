@@ -1,4 +1,4 @@
--- Every accepted file is the file of what it holds, so what it holds has one file. Assumes nothing.
+-- Every accepted file is the file of what it holds, so what it holds has one file.
 use mathlib.Core.Path.{_≡_, sym, ap₂, _∙_}
 use mathlib.Core.List.{List, _++_}
 use Prim.Native.Nat.{ℕ, _+_, _*_, _≤_}
@@ -8,7 +8,8 @@ use lib.Seq.{take-add, take-all}
 use Rattle.eikonal.specs.Board.{size}
 use Rattle.scenario.specs.Bytes.{two, four, two-bytes, four-bytes, Bytes}
 use Rattle.scenario.specs.Runs.{run}
-use Rattle.scenario.specs.File.{run-bytes, start-bytes, head-bytes, file-of, run-in, start-in, width-in, height-in, ticks-in, ground-in, run-count, start-count, runs-in, starts-in, held}
+use Rattle.scenario.specs.File.{head-size, run-size, start-size, runs-end, file-size, head-bytes, run-bytes, start-bytes, head-of, front, file-of}
+use Rattle.scenario.specs.File.{head-in, run-in, start-in, runs-in, starts-in, held}
 use Rattle.scenario.specs.Promise.{Accepted-is-file-of, One-file}
 use Rattle.scenario.proofs.Numbers.{bytes-drop, two-back, four-back}
 use Rattle.scenario.proofs.Records.{write-back, length-records}
@@ -26,35 +27,40 @@ module _ (f : List ℕ) (h : Bytes f) where
   four-at : (n : ℕ) → n + 4 ≤ length f → four-bytes (four (drop n f)) ≡ take 4 (drop n f)
   four-at n l = four-back (drop n f) (bytes-drop n f h) (omega (arith, length-drop n f))
 
-  run-back : 10 ≤ length f → run-bytes (run-in f) ≡ take 10 f
+  run-back : run-size ≤ length f → run-bytes (run-in f) ≡ take run-size f
   unfolding run-bytes run-in run
   run-back l = joined 8 2 f _ _ (joined 4 4 f _ _ (four-back f h (omega arith)) (four-at 4 (omega arith))) (two-at 8 (omega arith))
 
-  start-back : 8 ≤ length f → start-bytes (start-in f) ≡ take 8 f
+  start-back : start-size ≤ length f → start-bytes (start-in f) ≡ take start-size f
   unfolding start-bytes start-in
   start-back l = joined 4 4 f _ _ (four-back f h (omega arith)) (four-at 4 (omega arith))
 
-  head-back : 16 ≤ length f → head-bytes (width-in f) (height-in f) (ticks-in f) (ground-in f) (run-count f) (start-count f) ≡ take 16 f
-  unfolding head-bytes width-in height-in ticks-in ground-in run-count start-count
+  head-back : head-size ≤ length f → head-bytes (head-in f) ≡ take head-size f
+  unfolding head-bytes head-in
   head-back l =
       joined 12 4 f _ _ (joined 8 4 f _ _ (joined 6 2 f _ _ (joined 4 2 f _ _ (joined 2 2 f _ _ (two-back f h (omega arith)) (two-at 2 (omega arith)))
       (two-at 4 (omega arith))) (two-at 6 (omega arith))) (four-at 8 (omega arith))) (four-at 12 (omega arith))
 
 pub accepted-is-file-of : Accepted-is-file-of
-unfolding Accepted-is-file-of file-of held size runs-in starts-in
+unfolding Accepted-is-file-of file-of head-of front held size runs-in starts-in
 accepted-is-file-of f h e =
     let a = accepted f e in
-    let runs = good-maximal (width-in f * height-in f) (ground-in f) (runs-in f) (a .rest .runs) in
+    let x = head-in f in
+    let base = runs-end (x .runs) in
+    let runs = good-maximal (x .width * x .height) (x .ground) (runs-in f) (a .rest .runs) in
     let head = head-back f h (a .front .head) in
-    let some = write-back 10 run-in run-bytes run-back (run-count f) (drop 16 f) (bytes-drop 16 f h) (omega (arith, a .front .long, length-drop 16 f)) in
-    let last = write-back 8 start-in start-bytes start-back (start-count f) (drop (16 + 10 * run-count f) f) (bytes-drop (16 + 10 * run-count f) f h) (omega (arith, a .front .long, length-drop (16 + 10 * run-count f) f)) in
-    let all = joined (16 + 10 * run-count f) (8 * start-count f) f _ _ (joined 16 (10 * run-count f) f _ _ head some) last in
-    sym (rw (runs, length-records 10 run-in (run-count f) (drop 16 f), length-records 8 start-in (start-count f) (drop (16 + 10 * run-count f) f))
-    (all ∙ take-all (16 + 10 * run-count f + 8 * start-count f) f (omega (arith, a .front .long))))
+    let long = a .front .long in
+    let some = write-back run-size run-in run-bytes run-back (x .runs) (drop head-size f) (bytes-drop head-size f h)
+    (omega (arith, long, length-drop head-size f)) in
+    let last = write-back start-size start-in start-bytes start-back (x .starts) (drop base f) (bytes-drop base f h)
+    (omega (arith, long, length-drop base f)) in
+    let all = joined base (start-size * x .starts) f _ _ (joined head-size (run-size * x .runs) f _ _ head some) last in
+    sym (rw (runs, length-records run-size run-in (x .runs) (drop head-size f), length-records start-size start-in (x .starts) (drop base f))
+    (all ∙ take-all (file-size (x .runs) (x .starts)) f (omega (arith, long))))
 
 pub one-file : One-file
 unfolding One-file Accepted-is-file-of held
 one-file e f he hf re rf b t g =
     accepted-is-file-of e he re
-    ∙ (λ i. file-of (b i .wide) (b i .high) (t i) (g i) (b i .slow) (b i .starts))
+    ∙ (λ i. file-of (t i) (g i) (b i))
     ∙ sym (accepted-is-file-of f hf rf)

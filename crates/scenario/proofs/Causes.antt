@@ -1,30 +1,21 @@
--- A refusal is 0 just if it passes each test; what that says of files and boards. Assumes nothing.
-use mathlib.Core.Path.{_≡_, refl, sym, _∙_}
-use mathlib.Core.Bool.{Bool, true, false, _&&_, not, cond}
+-- What files and boards have passed that are not refused.
+use mathlib.Core.Path.{_≡_, sym, _∙_}
+use mathlib.Core.Bool.{Bool, true, false, _&&_, not}
 use mathlib.Core.List.{List, [], _∷_, map}
-use Prim.Native.Nat.{ℕ, suc, _+_, _*_, _≤_, _<_}
+use Prim.Native.Nat.{ℕ, suc, _+_, _≤_, _<_}
 use native.Mathlib.Omega.{arith}
 use native.Mathlib.Nat.{mul-le-mul}
-use native.Mathlib.Decide.{ℕ-discrete}
-use lib.Dec.{ltb, leb, eqb}
+use lib.Dec.{ltb, leb}
 use lib.ListN.{length}
-use borrow.Author.Tests.{ltb-false, le-ltb, eqb-true, eq-eqb, ne-eqb, leb-true, le-leb, ltb-true, not-false, not-true}
-use Rattle.eikonal.specs.Board.{Board, Start, size}
-use Rattle.eikonal.specs.Refusals.{or-else, side-good, any-above, starts-rise, late, on-wall, starts-refusal}
-use Rattle.eikonal.proofs.Good.{and-true, or-false}
+use borrow.Author.Tests.{ltb-false, le-ltb, eqb-true, eq-eqb, leb-true, le-leb, ltb-true, not-false, not-true}
+use Rattle.eikonal.specs.Board.{Board, size}
+use Rattle.eikonal.specs.Refusals.{or-else, sides-good, any-above, starts-rise, late, on-wall, starts-refusal}
+use Rattle.eikonal.specs.declared.Start.{Start}
+use Rattle.eikonal.proofs.Causes.{fulfilled, passed, neither}
+use Rattle.eikonal.proofs.Good.{and-true, or-false, sides-within}
 use Rattle.scenario.specs.Runs.{runs-good}
-use Rattle.scenario.specs.File.{width-in, height-in, ticks-in, ground-in, run-count, start-count, runs-in, held, ticks-good, sides-good, length-good, head-refusal, runs-refusal, file-refusal}
+use Rattle.scenario.specs.File.{head-size, file-size, head-in, runs-in, held, ticks-good, length-good, head-refusal, runs-refusal, file-refusal}
 use Rattle.scenario.proofs.Records.{All}
-
--- ---- a test in front of a refusal
-pub passed : (p : Bool) (k q : ℕ) → cond p (suc k) q ≡ 0 → (p ≡ false) × (q ≡ 0)
-passed true k q e = absurd (omega arith)
-passed false k q e = (refl, e)
-
--- the same with a negated test
-pub met : (p : Bool) (k q : ℕ) → cond (not p) (suc k) q ≡ 0 → (p ≡ true) × (q ≡ 0)
-met true k q e = (refl, e)
-met false k q e = absurd (omega arith)
 
 -- what a call answered of a test, and the branch on it
 pub holds : {p q : Bool} → p ≡ q → not p ≡ false → q ≡ true
@@ -32,20 +23,6 @@ holds {p} e h = sym e ∙ not-false p h
 
 pub fails : {p q : Bool} → p ≡ q → not p ≡ true → q ≡ false
 fails {p} e h = sym e ∙ not-true p h
-
-pub or-else-first : (a b : ℕ) → (a ≡ 0 → ⊥) → or-else a b ≡ a
-unfolding or-else
-or-else-first a b h = rw (ne-eqb a 0 h)
-
-pub or-else-next : (a b : ℕ) → a ≡ 0 → or-else a b ≡ b
-unfolding or-else
-or-else-next a b e = rw (eq-eqb a 0 e)
-
-pub or-else-zero : (a b : ℕ) → or-else a b ≡ 0 → (a ≡ 0) × (b ≡ 0)
-or-else-zero a b e = elim (ℕ-discrete a 0) [
-  | yes q ↦ (q, sym (or-else-next a b q) ∙ e)
-  | no q ↦ absurd (q (sym (or-else-first a b q) ∙ e))
-]
 
 -- ---- ticks
 pub some-ticks : (k : ℕ) → ticks-good k ≡ true → (1 ≤ k) × (k ≤ 65535)
@@ -57,93 +34,86 @@ some-ticks k g =
 -- ---- files
 -- 1, 2, 3
 pub record Headed (f : List ℕ) : Type 0 where
-  pub head : 16 ≤ length f
-  pub long : length f ≡ 16 + 10 * run-count f + 8 * start-count f
-  pub wide : side-good (width-in f) ≡ true
-  pub high : side-good (height-in f) ≡ true
-  pub ticks : ticks-good (ticks-in f) ≡ true
+  pub head : head-size ≤ length f
+  pub long : length f ≡ file-size (head-in f .runs) (head-in f .starts)
+  pub sides : sides-good (head-in f .width) (head-in f .height) ≡ true
+  pub ticks : ticks-good (head-in f .ticks) ≡ true
 
-pub headed : (f : List ℕ) → head-refusal f ≡ 0 → Headed f
-unfolding head-refusal length-good sides-good
+pub headed : (f : List ℕ) → head-refusal f .number ≡ 0 → Headed f
+unfolding head-refusal length-good
 headed f e =
-    let r1 = met (length-good f) 0 _ e in
-    let one = and-true (leb 16 (length f)) (eqb (length f) (16 + 10 * run-count f + 8 * start-count f)) (r1 .0) in
-    let r2 = met (sides-good (width-in f) (height-in f)) 1 _ (r1 .1) in
-    let sides = and-true (side-good (width-in f)) (side-good (height-in f)) (r2 .0) in
+    let x = head-in f in
+    let r1 = fulfilled (length-good f) 0 _ e in
+    let one = and-true (leb head-size (length f)) _ (r1 .0) in
+    let r2 = fulfilled (sides-good (x .width) (x .height)) 1 _ (r1 .1) in
     record {
-      head = leb-true 16 (length f) (one .0);
-      long = eqb-true (length f) (16 + 10 * run-count f + 8 * start-count f) (one .1);
-      wide = sides .0;
-      high = sides .1;
-      ticks = met (ticks-good (ticks-in f)) 2 0 (r2 .1) .0;
+      head = leb-true head-size (length f) (one .0);
+      long = eqb-true (length f) (file-size (x .runs) (x .starts)) (one .1);
+      sides = r2 .0;
+      ticks = fulfilled (ticks-good (x .ticks)) 2 _ (r2 .1) .0;
     }
 
 -- 5, 6
 pub record Laid (f : List ℕ) : Type 0 where
-  pub ground : ground-in f ≤ 4095
+  pub ground : head-in f .ground ≤ 4095
   pub slows : any-above 4095 (map (λ x. x .slow) (runs-in f)) ≡ false
-  pub runs : runs-good (size (held f)) (ground-in f) 0 (ground-in f) (runs-in f) ≡ true
+  pub runs : runs-good (size (held f)) (head-in f .ground) 0 (head-in f .ground) (runs-in f) ≡ true
 
-pub laid : (f : List ℕ) → runs-refusal f ≡ 0 → Laid f
+pub laid : (f : List ℕ) → runs-refusal f .number ≡ 0 → Laid f
 unfolding runs-refusal any-above
 laid f e =
-    let r5 = passed (any-above 4095 (ground-in f ∷ map (λ x. x .slow) (runs-in f))) 4 _ e in
-    let steep = or-false (ltb 4095 (ground-in f)) (any-above 4095 (map (λ x. x .slow) (runs-in f))) (r5 .0) in
+    let g = head-in f .ground in
+    let r5 = passed (any-above 4095 (g ∷ map (λ x. x .slow) (runs-in f))) 4 _ e in
+    let steep = or-false (ltb 4095 g) _ (r5 .0) in
     record {
-      ground = ltb-false 4095 (ground-in f) (steep .0);
+      ground = ltb-false 4095 g (steep .0);
       slows = steep .1;
-      runs = met (runs-good (size (held f)) (ground-in f) 0 (ground-in f) (runs-in f)) 5 0 (r5 .1) .0;
+      runs = fulfilled (runs-good (size (held f)) g 0 g (runs-in f)) 5 _ (r5 .1) .0;
     }
 
 -- and 7, 8, 9
 pub record Accepted (f : List ℕ) : Type 0 where
   pub front : Headed f
   pub rest : Laid f
-  pub starts : starts-refusal (held f) ≡ 0
+  pub starts : starts-refusal (held f) .number ≡ 0
 
-pub accepted : (f : List ℕ) → file-refusal f ≡ 0 → Accepted f
+pub accepted : (f : List ℕ) → file-refusal f .number ≡ 0 → Accepted f
 unfolding file-refusal
 accepted f e =
-    let r = or-else-zero (head-refusal f) _ e in
-    let s = or-else-zero (runs-refusal f) _ (r .1) in
+    let r = neither (head-refusal f) _ e in
+    let s = neither (runs-refusal f) _ (r .1) in
     record { front = headed f (r .0); rest = laid f (s .0); starts = s .1 }
 
-pub accepts : (f : List ℕ) → Accepted f → file-refusal f ≡ 0
-unfolding file-refusal head-refusal length-good sides-good runs-refusal any-above or-else
+pub accepts : (f : List ℕ) → Accepted f → file-refusal f .number ≡ 0
+unfolding file-refusal head-refusal length-good runs-refusal any-above or-else
 accepts f a =
     rw (
-      le-leb 16 (length f) (a .front .head),
-      eq-eqb (length f) (16 + 10 * run-count f + 8 * start-count f) (a .front .long),
-      a .front .wide,
-      a .front .high,
+      le-leb head-size (length f) (a .front .head),
+      eq-eqb (length f) (file-size (head-in f .runs) (head-in f .starts)) (a .front .long),
+      a .front .sides,
       a .front .ticks,
-      le-ltb 4095 (ground-in f) (a .rest .ground),
+      le-ltb 4095 (head-in f .ground) (a .rest .ground),
       a .rest .slows,
       a .rest .runs,
-      a .starts,
     )
+    (a .starts)
 
 -- ---- boards
-pub side-most : (n : ℕ) → side-good n ≡ true → n ≤ 256
-unfolding side-good
-side-most n e = leb-true n 256 (and-true (leb 1 n) (leb n 256) e .1)
-
-pub size-most : (b : Board) → side-good (b .wide) ≡ true → side-good (b .high) ≡ true → size b ≤ 65536
+pub size-most : (b : Board) → sides-good (b .wide) (b .high) ≡ true → size b ≤ 65536
 unfolding size
-size-most b w h = mul-le-mul (side-most (b .wide) w) (side-most (b .high) h)
+size-most b e = let s = sides-within (b .wide) (b .high) e in mul-le-mul (s .1) (s .3)
 
 pub record Sound (b : Board) : Type 0 where
   pub rise : starts-rise (size b) 0 (b .starts) ≡ true
   pub early : late (b .starts) ≡ false
   pub free : on-wall b (b .starts) ≡ false
 
-pub sound : (b : Board) → starts-refusal b ≡ 0 → Sound b
+pub sound : (b : Board) → starts-refusal b .number ≡ 0 → Sound b
 unfolding starts-refusal
 sound b e =
-    let r7 = passed (not (starts-rise (size b) 0 (b .starts))) 6 _ e in
+    let r7 = fulfilled (starts-rise (size b) 0 (b .starts)) 6 _ e in
     let r8 = passed (late (b .starts)) 7 _ (r7 .1) in
-    let r9 = passed (on-wall b (b .starts)) 8 0 (r8 .1) in
-    record { rise = not-false _ (r7 .0); early = r8 .0; free = r9 .0 }
+    record { rise = r7 .0; early = r8 .0; free = passed (on-wall b (b .starts)) 8 _ (r8 .1) .0 }
 
 -- cells that rise are no more than the board has
 pub rise-count : (n l : ℕ) (xs : List Start) → starts-rise n l xs ≡ true → l ≤ n → l + length xs ≤ n

@@ -1,4 +1,4 @@
--- Lists that are filled from the front: what stands in front of a place, and what is put behind it. Assumes nothing.
+-- Lists that are filled from the front: what stands in front of a place, and what is put behind it.
 use mathlib.Core.Path.{_≡_, sym, ap, _∙_}
 use mathlib.Core.List.{List, [], _∷_, _++_, append-assoc, append-nil}
 use Prim.Native.Nat.{ℕ, suc, _+_, _-_, _≤_, _<_}
@@ -19,7 +19,8 @@ two-stored l at a b h =
     ∙ one-more l at a (b ∷ []) (omega arith)
 
 -- pieces put one behind the other
-pub put-behind : (at n m : ℕ) (l o p x y : List ℕ) → take (at + n) o ≡ take at l ++ x → take (at + n + m) p ≡ take (at + n) o ++ y → take (at + (n + m)) p ≡ take at l ++ (x ++ y)
+pub put-behind : (at n m : ℕ) (l o p x y : List ℕ) → take (at + n) o ≡ take at l ++ x → take (at + n + m) p ≡ take (at + n) o ++ y
+    → take (at + (n + m)) p ≡ take at l ++ (x ++ y)
 put-behind at n m l o p x y e q =
     ap (λ u. take u p) (let r : at + (n + m) ≡ at + n + m = omega arith in r) ∙ q ∙ ap (λ u. u ++ y) e ∙ append-assoc (take at l) x y
 

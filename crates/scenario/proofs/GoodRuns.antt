@@ -1,4 +1,4 @@
--- What the rules of runs say, as facts, and the maximal runs of a list of slownesses obey them. Assumes nothing.
+-- What the rules of runs say, as facts, and the maximal runs of a list of slownesses obey them.
 use mathlib.Core.Path.{_≡_, refl, sym, ap, ap₂, _∙_}
 use mathlib.Core.Bool.{Bool, true, false, _&&_, not, cond, true≢false}
 use mathlib.Core.List.{List, [], _∷_, map}
@@ -72,22 +72,30 @@ unfolding runs-good run end
 closed-good n g b y a i z xs m l ground other = elim (ℕ-discrete z g) [
   | yes q ↦ rw (ap (λ u. closed g a i u xs) q ∙ closed-ground g a i xs) (ground q)
   | no q ↦
-      let fit : Fits n g b y (run a (i - a) z) = record { behind = m .low; some = omega (arith, m .some q); within = omega (arith, m .high); other = q; apart = m .apart q } in
+      let more = m .some q in
       let e : a + (i - a) ≡ i = omega (arith, m .high) in
+      let fit : Fits n g b y (run a (i - a) z) = record { behind = m .low; some = omega arith; within = omega arith; other = q; apart = m .apart q } in
       rw (closed-run g a i z xs q, fits-good n g b y (run a (i - a) z) fit, e) (other q)
 ]
 
 runs-on-good : (n g b y a i z : ℕ) (ss : List ℕ) → May g b y a i z → i + length ss ≡ n → runs-good n g b y (runs-on g a i z ss) ≡ true
 unfolding runs-on runs-good
 runs-on-good n g b y a i z [] m e = closed-good n g b y a i z [] m (omega arith) (λ _. refl) (λ _. refl)
-runs-on-good n g b y a i z (s ∷ ss) m e = go (eqb s z) refl (runs-on-good n g b y a (suc i) z ss) (runs-on-good n g b y i (suc i) s ss) (runs-on-good n g i z i (suc i) s ss)
+runs-on-good n g b y a i z (s ∷ ss) m e =
+    go (eqb s z) refl (runs-on-good n g b y a (suc i) z ss) (runs-on-good n g b y i (suc i) s ss) (runs-on-good n g i z i (suc i) s ss)
   where
     go : (p : Bool) → eqb s z ≡ p → (May g b y a (suc i) z → suc i + length ss ≡ n → runs-good n g b y (runs-on g a (suc i) z ss) ≡ true)
         → (May g b y i (suc i) s → suc i + length ss ≡ n → runs-good n g b y (runs-on g i (suc i) s ss) ≡ true)
         → (May g i z i (suc i) s → suc i + length ss ≡ n → runs-good n g i z (runs-on g i (suc i) s ss) ≡ true)
         → runs-good n g b y (cond p (runs-on g a (suc i) z ss) (closed g a i z (runs-on g i (suc i) s ss))) ≡ true
     go true q on past new =
-        on (record { low = m .low; high = omega (arith, m .high); ground = λ h. ⊎-elim (λ k. inl k) (λ k. inr (omega arith)) (m .ground h); some = λ h. omega (arith, m .high); apart = m .apart }) (omega arith)
+        on (record {
+          low = m .low;
+          high = omega (arith, m .high);
+          ground = λ h. ⊎-elim (λ k. inl k) (λ k. inr (omega arith)) (m .ground h);
+          some = λ h. omega (arith, m .high);
+          apart = m .apart;
+        }) (omega arith)
     go false q on past new =
         let d = eqb-false s z q in
         closed-good n g b y a i z (runs-on g i (suc i) s ss) m (omega arith)
@@ -98,7 +106,7 @@ runs-on-good n g b y a i z (s ∷ ss) m e = go (eqb s z) refl (runs-on-good n g 
           some = λ _. omega arith;
           apart = λ _ k r. ⊎-elim (λ v. d (r ∙ v ∙ sym h)) (λ v. omega arith) (m .ground h);
         }) (omega arith))
-        (λ h. new (record { low = omega arith; high = omega arith; ground = λ k. inr (omega arith); some = λ _. omega arith; apart = λ _ _ r. d r }) (omega arith))
+        (λ h. new (record { low = omega arith; high = omega arith; ground = λ k. inr (omega arith); some = λ _. omega arith; apart = λ _ _. d }) (omega arith))
 
 -- THE MAXIMAL RUNS OBEY THE RULES
 pub runs-of-good : (g : ℕ) (ss : List ℕ) → runs-good (length ss) g 0 g (runs-of g ss) ≡ true
@@ -148,12 +156,13 @@ runs-on-count : (g a i z : ℕ) (ss : List ℕ) → length (runs-on g a i z ss) 
 unfolding runs-on
 runs-on-count g a i z [] = closed-count g a i z []
 runs-on-count g a i z (s ∷ ss) =
-    go (eqb s z) (runs-on-count g a (suc i) z ss) (closed-count g a i z (runs-on g i (suc i) s ss)) (runs-on-count g i (suc i) s ss)
+    let new = runs-on g i (suc i) s ss in
+    go (eqb s z) (runs-on-count g a (suc i) z ss) (omega (arith, closed-count g a i z new, runs-on-count g i (suc i) s ss))
   where
-    go : (p : Bool) → length (runs-on g a (suc i) z ss) ≤ suc (length ss) → length (closed g a i z (runs-on g i (suc i) s ss)) ≤ suc (length (runs-on g i (suc i) s ss))
-        → length (runs-on g i (suc i) s ss) ≤ suc (length ss) → length (cond p (runs-on g a (suc i) z ss) (closed g a i z (runs-on g i (suc i) s ss))) ≤ suc (suc (length ss))
-    go true h k l = omega arith
-    go false h k l = omega arith
+    go : (p : Bool) → length (runs-on g a (suc i) z ss) ≤ suc (length ss) → length (closed g a i z (runs-on g i (suc i) s ss)) ≤ suc (suc (length ss))
+        → length (cond p (runs-on g a (suc i) z ss) (closed g a i z (runs-on g i (suc i) s ss))) ≤ suc (suc (length ss))
+    go true h k = omega arith
+    go false h k = k
 
 pub runs-of-count : (g : ℕ) (ss : List ℕ) → length (runs-of g ss) ≤ suc (length ss)
 unfolding runs-of

@@ -9,7 +9,6 @@ pub mod Reading
 pub mod Accepted
 pub mod Written
 pub mod Writing
-pub mod Beginning
 pub mod Composed
 pub mod Turns
 pub mod Promises

@@ -1,4 +1,4 @@
--- Numbers in bytes: each comes back from its bytes, and bytes come back from their number. Assumes nothing.
+-- Numbers in bytes: each comes back from its bytes, and bytes come back from their number.
 use mathlib.Core.Path.{_≡_, ap₂}
 use mathlib.Core.List.{List, [], _∷_, _++_}
 use Prim.Native.Nat.{ℕ, _+_, _*_, _/_, _%_, _≤_, _<_}

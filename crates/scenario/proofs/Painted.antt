@@ -1,4 +1,4 @@
--- Good runs are the maximal runs of the slownesses that they come to, and the maximal runs of a list come to that list. Assumes nothing.
+-- Good runs are the maximal runs of the slownesses that they come to, and the maximal runs of a list come to that list.
 use mathlib.Core.Path.{_≡_, refl, sym, ap, ap₂, _∙_}
 use mathlib.Core.Bool.{Bool, true, false, cond}
 use mathlib.Core.List.{List, [], _∷_, _++_, map, append-assoc, append-nil}
@@ -63,8 +63,10 @@ scanned n g a i z (x ∷ xs) e =
     go : Fits n g i z x → runs-on g (x .offset) (x .offset + x .long) (x .slow) rest ≡ closed g (x .offset) (x .offset + x .long) (x .slow) xs
         → runs-on g a i z (replicate (x .offset - i) g ++ (replicate (x .long) (x .slow) ++ rest)) ≡ closed g a i z (x ∷ xs)
     go f on = gap g a i z (x .offset - i) (replicate (x .long) (x .slow) ++ rest) (x ∷ xs)
-        (λ b. ap (λ u. runs-on g b u g (replicate (x .long) (x .slow) ++ rest)) (let q : i + (x .offset - i) ≡ x .offset = omega (arith, f .behind) in q) ∙ key b g (f .other) ∙ closed-ground g b (x .offset) (x ∷ xs))
-        (λ k. let q : x .offset ≡ i = omega (arith, f .behind) in ap (λ u. runs-on g a u z (replicate (x .long) (x .slow) ++ rest)) (sym q) ∙ key a z (f .apart q) ∙ ap (λ u. closed g a u z (x ∷ xs)) q)
+        (λ b. let q : i + (x .offset - i) ≡ x .offset = omega (arith, f .behind) in
+        ap (λ u. runs-on g b u g (replicate (x .long) (x .slow) ++ rest)) q ∙ key b g (f .other) ∙ closed-ground g b (x .offset) (x ∷ xs))
+        (λ k. let q : x .offset ≡ i = omega (arith, f .behind) in
+        ap (λ u. runs-on g a u z (replicate (x .long) (x .slow) ++ rest)) (sym q) ∙ key a z (f .apart q) ∙ ap (λ u. closed g a u z (x ∷ xs)) q)
       where
         key : (b y : ℕ) → (x .slow ≡ y → ⊥) → runs-on g b (x .offset) y (replicate (x .long) (x .slow) ++ rest) ≡ closed g b (x .offset) y (x ∷ xs)
         key b y h =
@@ -126,7 +128,8 @@ closed-painted n g b a i z xs ss l m ground new = elim (ℕ-discrete z g) [
       rw (closed-run g a i z xs q, e) (ap (λ u. replicate (a - b) g ++ (replicate (i - a) z ++ u)) (new q))
 ]
 
-painted-on : (n g b a i z : ℕ) (ss : List ℕ) → b ≤ a → a ≤ i → i + length ss ≡ n → painted g b n (runs-on g a i z ss) ≡ replicate (a - b) g ++ (replicate (i - a) z ++ ss)
+painted-on : (n g b a i z : ℕ) (ss : List ℕ) → b ≤ a → a ≤ i → i + length ss ≡ n
+    → painted g b n (runs-on g a i z ss) ≡ replicate (a - b) g ++ (replicate (i - a) z ++ ss)
 unfolding runs-on
 painted-on n g b a i z [] l m e = closed-painted n g b a i z [] [] l m (λ _. some) (λ _. none)
   where
@@ -145,10 +148,13 @@ painted-on n g b a i z (s ∷ ss) l m e =
         → (b ≤ a → a ≤ suc i → suc i + length ss ≡ n → painted g b n (runs-on g a (suc i) z ss) ≡ replicate (a - b) g ++ (replicate (suc i - a) z ++ ss))
         → (b ≤ i → i ≤ suc i → suc i + length ss ≡ n → painted g b n (runs-on g i (suc i) s ss) ≡ replicate (i - b) g ++ (replicate (suc i - i) s ++ ss))
         → (i ≤ i → i ≤ suc i → suc i + length ss ≡ n → painted g i n (runs-on g i (suc i) s ss) ≡ replicate (i - i) g ++ (replicate (suc i - i) s ++ ss))
-        → painted g b n (cond p (runs-on g a (suc i) z ss) (closed g a i z (runs-on g i (suc i) s ss))) ≡ replicate (a - b) g ++ (replicate (i - a) z ++ (s ∷ ss))
+        → painted g b n (cond p (runs-on g a (suc i) z ss) (closed g a i z (runs-on g i (suc i) s ss)))
+        ≡ replicate (a - b) g ++ (replicate (i - a) z ++ (s ∷ ss))
     go true q on past new =
+        let r : suc i - a ≡ suc (i - a) = omega arith in
         on l (omega arith) (omega arith)
-        ∙ ap (λ u. replicate (a - b) g ++ u) (ap (λ u. replicate u z ++ ss) (let r : suc i - a ≡ suc (i - a) = omega arith in r) ∙ snoc (i - a) z ss ∙ ap (λ u. replicate (i - a) z ++ (u ∷ ss)) (sym (eqb-true s z q)))
+        ∙ ap (λ u. replicate (a - b) g ++ u)
+        (ap (λ u. replicate u z ++ ss) r ∙ snoc (i - a) z ss ∙ ap (λ u. replicate (i - a) z ++ (u ∷ ss)) (sym (eqb-true s z q)))
     go false q on past new =
         closed-painted n g b a i z (runs-on g i (suc i) s ss) (s ∷ ss) l m
         (λ _. past (omega arith) (omega arith) (omega arith) ∙ ap (λ u. replicate (i - b) g ++ (replicate u s ++ ss)) one)

@@ -1,4 +1,4 @@
--- What is promised of the scenario file and of turns, proved. Assumes nothing.
+-- What is promised of the scenario file and of turns, proved.
 use Rattle.scenario.specs.Promise.{Accepted-is-file-of, One-file, File-of-is-accepted, Read-then-write, Write-then-read, Turn-closes, One-turn}
 use Rattle.scenario.proofs.Accepted.{accepted-is-file-of, one-file}
 use Rattle.scenario.proofs.Written.{file-of-is-accepted}

@@ -1,49 +1,82 @@
--- The reader's call: what it has when its number is 0, and what its answer and lists come to. Assumes nothing.
+-- The reader's call: what it has when its number is 0, and what its answer and lists come to.
 use mathlib.Core.Path.{_≡_, sym, ap, _∙_}
-use mathlib.Core.List.{List, map}
+use mathlib.Core.List.{List}
 use Prim.Native.Nat.{ℕ, _*_, _≤_, min}
 use native.Mathlib.Omega.{arith}
 use lib.Dec.{leb}
-use lib.ListN.{length}
+use lib.ListN.{length, drop, length-map}
 use borrow.Author.Tests.{leb-true}
 use Rattle.eikonal.specs.Board.{size}
+use Rattle.eikonal.specs.Refusals.{cells-of, begins-of}
+use Rattle.eikonal.proofs.Causes.{fulfilled, neither}
 use Rattle.eikonal.proofs.Good.{and-true}
+use Rattle.scenario.specs.declared.Head.{Head}
 use Rattle.scenario.specs.declared.Scenario.{Scenario}
-use Rattle.scenario.specs.File.{start-in, width-in, height-in, ground-in, start-count, runs-in, starts-in, held, file-refusal}
+use Rattle.scenario.specs.Bytes.{records}
+use Rattle.scenario.specs.File.{head-size, run-size, start-size, runs-end, file-size}
+use Rattle.scenario.specs.File.{head-in, run-in, start-in, start-count, runs-in, starts-in, held, file-refusal}
 use Rattle.scenario.specs.Calls.{filled, room-good, reader-refusal, reader-answer, Reads}
 use Rattle.scenario.proofs.Records.{length-records}
 use Rattle.scenario.proofs.Painted.{length-painted}
-use Rattle.scenario.proofs.Causes.{Accepted, met, or-else-zero}
+use Rattle.scenario.proofs.Causes.{Headed, Accepted}
 use Rattle.scenario.proofs.Answers.{reader-number, kept}
 
-pub slow-length : (f : List ℕ) → Accepted f → length (held f .slow) ≡ width-in f * height-in f
+pub slow-length : (f : List ℕ) → Accepted f → length (held f .slow) ≡ head-in f .width * head-in f .height
 unfolding held size
-slow-length f a = length-painted (width-in f * height-in f) (ground-in f) 0 (ground-in f) (runs-in f) (a .rest .runs) (omega arith) ∙ omega arith
+slow-length f a =
+    let x = head-in f in
+    length-painted (x .width * x .height) (x .ground) 0 (x .ground) (runs-in f) (a .rest .runs) (omega arith) ∙ omega arith
 
 pub count-starts : (f : List ℕ) → length (starts-in f) ≡ start-count f
 unfolding starts-in
-count-starts f = length-records 8 start-in (start-count f) _
+count-starts f = length-records start-size start-in (start-count f) _
 
-pub read-zero : (f : List ℕ) (n q : ℕ) → reader-refusal f n q ≡ 0 → file-refusal f ≡ 0
+pub count-cells : (f : List ℕ) → length (cells-of (starts-in f)) ≡ start-count f
+unfolding cells-of
+count-cells f = length-map (starts-in f) (λ x. x .cell) ∙ count-starts f
+
+pub count-begins : (f : List ℕ) → length (begins-of (starts-in f)) ≡ start-count f
+unfolding begins-of
+count-begins f = length-map (starts-in f) (λ x. x .time) ∙ count-starts f
+
+-- ---- what is read by a file's head
+module _ (f : List ℕ) (x : Head) (e : x ≡ head-in f) where
+  pub file-long : Headed f → length f ≡ file-size (x .runs) (x .starts)
+  file-long h = rw e (h .long)
+
+  pub cells-read : (n : ℕ) → n ≡ x .width * x .height → n ≡ size (held f)
+  unfolding held size
+  cells-read n p = rw e at p
+
+  pub runs-read : (n : ℕ) → n ≡ x .runs → records run-size run-in n (drop head-size f) ≡ runs-in f
+  unfolding runs-in
+  runs-read n p = rw (p, e)
+
+  pub starts-read : (n base : ℕ) → n ≡ x .starts → base ≡ runs-end (x .runs) → records start-size start-in n (drop base f) ≡ starts-in f
+  unfolding starts-in
+  starts-read n base p q = rw (p, q, e)
+
+-- ---- the call
+pub read-zero : (f : List ℕ) (n q : ℕ) → reader-refusal f n q .number ≡ 0 → file-refusal f .number ≡ 0
 unfolding reader-refusal
-read-zero f n q e = or-else-zero (file-refusal f) _ e .0
+read-zero f n q e = neither (file-refusal f) _ e .0
 
 -- a file that is accepted, with room for what it holds
 pub record Room (f : List ℕ) (n q : ℕ) : Type 0 where
-  pub accepted : file-refusal f ≡ 0
+  pub accepted : file-refusal f .number ≡ 0
   pub slows : size (held f) ≤ n
   pub starts : start-count f ≤ q
 
 pub room : (f : List ℕ) (n q : ℕ) (x : Scenario) → x ≡ reader-answer (reader-refusal f n q) f → x .number ≡ 0 → Room f n q
-unfolding reader-refusal room-good
+unfolding reader-refusal room-good held size
 room f n q x e z =
-    let k : reader-refusal f n q ≡ 0 = sym (reader-number (reader-refusal f n q) f) ∙ ap (λ u. u .number) (sym e) ∙ z in
-    let r = or-else-zero (file-refusal f) _ k in
-    let s = and-true (leb (size (held f)) n) (leb (start-count f) q) (met (room-good f n q) 13 0 (r .1) .0) in
+    let k : reader-refusal f n q .number ≡ 0 = sym (reader-number (reader-refusal f n q) f) ∙ ap (λ u. u .number) (sym e) ∙ z in
+    let r = neither (file-refusal f) _ k in
+    let s = and-true (leb (size (held f)) n) (leb (start-count f) q) (fulfilled (room-good (head-in f) n q) 13 _ (r .1) .0) in
     record { accepted = r .0; slows = leb-true (size (held f)) n (s .0); starts = leb-true (start-count f) q (s .1) }
 
-module _ (f slow slow-now cells begins : List ℕ) (x : Scenario) (q : ℕ) (shorter : q ≡ min (length cells) (length begins)) (e : x ≡ reader-answer (reader-refusal f (length slow) q) f)
-    (holds : slow-now ≡ filled (x .number) (held f .slow) slow) where
+module _ (f slow slow-now cells begins : List ℕ) (x : Scenario) (q : ℕ) (shorter : q ≡ min (length cells) (length begins))
+    (e : x ≡ reader-answer (reader-refusal f (length slow) q) f) (holds : slow-now ≡ filled (x .number) (held f .slow) slow) where
   answer : x ≡ reader-answer (reader-refusal f (length slow) (min (length cells) (length begins))) f
   answer = e ∙ ap (λ u. reader-answer (reader-refusal f (length slow) u) f) shorter
 
@@ -51,6 +84,6 @@ module _ (f slow slow-now cells begins : List ℕ) (x : Scenario) (q : ℕ) (sho
   reads-refused h = record { answers = answer; slow-holds = holds; cells-hold = kept (x .number) _ cells h; begins-hold = kept (x .number) _ begins h }
 
   pub reads-done : (cells-now begins-now : List ℕ) → x .number ≡ 0
-      → cells-now ≡ filled 0 (map (λ s. s .cell) (starts-in f)) cells → begins-now ≡ filled 0 (map (λ s. s .time) (starts-in f)) begins
+      → cells-now ≡ filled 0 (cells-of (starts-in f)) cells → begins-now ≡ filled 0 (begins-of (starts-in f)) begins
       → Reads f slow slow-now cells cells-now begins begins-now x
   reads-done cells-now begins-now z c b = record { answers = answer; slow-holds = holds; cells-hold = rw z c; begins-hold = rw z b }

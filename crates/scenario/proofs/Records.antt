@@ -1,5 +1,5 @@
 -- Records one after the other in bytes: what is written comes back, what is read can be written again, and what a loop over
--- them sees at each turn. Assumes nothing.
+-- them sees at each turn.
 use mathlib.Core.Path.{_≡_, refl, sym, ap, ap₂, _∙_}
 use mathlib.Core.List.{List, [], _∷_, _++_, append-assoc}
 use Prim.Native.Nat.{ℕ, zero, suc, _+_, _*_, _-_, _≤_, _<_}
@@ -29,7 +29,7 @@ module _ {A : Type 0} (k : ℕ) (f : List ℕ → A) where
   records-append (suc n) m bs =
       let q : suc n + m ≡ suc (n + m) = omega arith in
       let e : k + k * n ≡ k * suc n = omega arith in
-      rw q (ap (λ u. f bs ∷ u) (records-append n m (drop k bs) ∙ ap (λ u. records k f n (drop k bs) ++ records k f m u) (drop-drop (k * n) k bs ∙ ap (λ u. drop u bs) e)))
+      rw (q, records-append n m (drop k bs), drop-drop (k * n) k bs, e)
 
   -- the records from the i-th on, of n that begin at a base
   abbrev pub onward : (bs : List ℕ) (base n i : ℕ) → List A

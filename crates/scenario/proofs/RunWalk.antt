@@ -1,15 +1,15 @@
--- A walk over the runs of a file: what the run in hand says of all from there on. Assumes nothing.
+-- A walk over the runs of a file: what the run in hand says of all from there on.
 use mathlib.Core.Path.{_≡_, sym, _∙_}
 use mathlib.Core.Bool.{Bool, true, false, not}
 use mathlib.Core.List.{List, [], _∷_, map}
-use Prim.Native.Nat.{ℕ, _+_, _*_, _≤_, _<_}
+use Prim.Native.Nat.{ℕ, _+_, _≤_, _<_}
 use lib.ListN.{drop}
 use borrow.Author.Tests.{lt-ltb, le-ltb, le-leb, lt-leb, not-true, not-false}
 use Rattle.eikonal.specs.Refusals.{any-above}
 use Rattle.scenario.specs.declared.Run.{Run}
 use Rattle.scenario.specs.Bytes.{records}
 use Rattle.scenario.specs.Runs.{end, run-good, runs-good}
-use Rattle.scenario.specs.File.{run-in}
+use Rattle.scenario.specs.File.{head-size, run-size, runs-end, run-in}
 use Rattle.scenario.specs.Inner.Walk.{runs-onward, past, near}
 use Rattle.scenario.proofs.Records.{onward-none, onward-next, onward-all}
 
@@ -17,13 +17,13 @@ abbrev pub steep : List Run → Bool
 steep xs = any-above 4095 (map (λ x. x .slow) xs)
 
 -- all runs, from the first on
-pub runs-all : (f : List ℕ) (count : ℕ) → records 10 run-in count (drop 16 f) ≡ runs-onward f count 0
-runs-all f count = sym (onward-all 10 run-in f 16 count)
+pub runs-all : (f : List ℕ) (count : ℕ) → records run-size run-in count (drop head-size f) ≡ runs-onward f count 0
+runs-all f count = sym (onward-all run-size run-in f head-size count)
 
 -- none is left
 module _ (f : List ℕ) (count i : ℕ) (l : count ≤ i) where
   none : runs-onward f count i ≡ []
-  none = onward-none 10 run-in f 16 count i l
+  none = onward-none run-size run-in f head-size count i l
 
   pub steep-none : steep (runs-onward f count i) ≡ false
   unfolding any-above
@@ -42,9 +42,9 @@ module _ (f : List ℕ) (count i : ℕ) (l : count ≤ i) where
   near-none g c = rw none
 
 -- the run in hand
-module _ (f : List ℕ) (count i : ℕ) (x : Run) (l : i < count) (e : x ≡ run-in (drop (16 + 10 * i) f)) where
+module _ (f : List ℕ) (count i : ℕ) (x : Run) (l : i < count) (e : x ≡ run-in (drop (runs-end i) f)) where
   pub runs-next : runs-onward f count i ≡ x ∷ runs-onward f count (i + 1)
-  runs-next = onward-next 10 run-in f 16 count i x l e
+  runs-next = onward-next run-size run-in f head-size count i x l e
 
   pub steep-here : 4095 < x .slow → steep (runs-onward f count i) ≡ true
   unfolding any-above
@@ -58,7 +58,8 @@ module _ (f : List ℕ) (count i : ℕ) (x : Run) (l : i < count) (e : x ≡ run
   unfolding runs-good
   good-here n g a z p q h = rw (runs-next, sym q ∙ not-true p h)
 
-  pub good-next : (n g a z : ℕ) (p : Bool) → p ≡ run-good n g a z x → not p ≡ false → runs-good n g a z (runs-onward f count i) ≡ runs-good n g (x .offset + x .long) (x .slow) (runs-onward f count (i + 1))
+  pub good-next : (n g a z : ℕ) (p : Bool) → p ≡ run-good n g a z x → not p ≡ false
+      → runs-good n g a z (runs-onward f count i) ≡ runs-good n g (x .offset + x .long) (x .slow) (runs-onward f count (i + 1))
   unfolding runs-good end
   good-next n g a z p q h = rw (runs-next, sym q ∙ not-false p h)
 

@@ -1,4 +1,4 @@
--- Turns: when they close, and what the call answers. Assumes nothing.
+-- Turns: when they close, and what the call answers.
 use mathlib.Core.Path.{_≡_, sym, ap, _∙_}
 use mathlib.Core.Bool.{true, false}
 use Prim.Native.Nat.{ℕ, _+_, _*_, _/_, _-_, _≤_, _<_}

@@ -1,138 +1,213 @@
--- The writer's call: what it has when a board is not refused, and what its answer and bytes come to. Assumes nothing.
-use mathlib.Core.Path.{_≡_, refl, sym, ap, _∙_}
-use mathlib.Core.Bool.{true, false, _&&_, cond}
-use mathlib.Core.List.{List, [], _∷_}
-use Prim.Native.Nat.{ℕ, suc, _+_, _*_, _≤_, _<_}
+-- The writer's call: what a board has that is not refused; all in front of the starts, then the starts.
+use mathlib.Core.Path.{_≡_, refl, sym, ap, ap₂, _∙_}
+use mathlib.Core.Bool.{true, false, _&&_}
+use mathlib.Core.List.{List, _∷_, _++_, append-assoc}
+use mathlib.Core.Logic.{_≢_}
+use Prim.Native.Nat.{ℕ, _+_, _*_, _≤_, _<_}
 use native.Mathlib.Omega.{arith}
-use native.Mathlib.Decide.{ℕ-discrete}
 use lib.Dec.{ltb, eqb}
-use lib.ListN.{length}
+use lib.ListN.{length, take, drop, length-append, length-drop}
+use lib.Seq.{take-at, drop-at, drop-drop}
 use borrow.Author.Tests.{eq-eqb, eqb-true, lt-ltb, le-ltb, ltb-false}
 use Rattle.eikonal.specs.Board.{size}
-use Rattle.eikonal.specs.Refusals.{or-else, side-good, any-above, starts-refusal, board-refusal, Plain, board, starts-of}
-use Rattle.eikonal.specs.Ledger.{answer}
+use Rattle.eikonal.specs.Refusals.{cause, none, sides-good, any-above, starts-refusal, handed-refusal, board-refusal, Handed}
+use Rattle.eikonal.specs.Ledger.{answer, answered}
+use Rattle.eikonal.specs.Inner.Judge.{judged-refusal}
+use Rattle.eikonal.specs.declared.Refusal.{Refusal}
 use Rattle.eikonal.specs.declared.Reply.{Reply}
+use Rattle.eikonal.specs.declared.Start.{Start}
+use Rattle.eikonal.specs.declared.refusals.Judged.{Judged}
+use Rattle.eikonal.proofs.Causes.{fulfilled, passed, neither, caused, spared, first, next}
 use Rattle.eikonal.proofs.Good.{and-true, or-false}
-use Rattle.eikonal.proofs.Answers.{answered-zero, answered-refused}
+use Rattle.eikonal.proofs.Judging.{judge-refuses}
+use Rattle.eikonal.proofs.Answers.{answered-number, answered-zero, answered-refused}
+use Rattle.scenario.specs.Bytes.{bytes-of}
 use Rattle.scenario.specs.Runs.{runs-of}
-use Rattle.scenario.specs.File.{sides-good, ticks-good}
+use Rattle.scenario.specs.File.{start-size, runs-end, file-size, start-bytes, head-of, front, file-of, ticks-good}
 use Rattle.scenario.specs.Calls.{filled, given-refusal, written, writer-refusal, Writes}
-use Rattle.scenario.proofs.GoodRuns.{runs-of-count}
-use Rattle.scenario.proofs.Causes.{met, passed, or-else-first, or-else-next, or-else-zero, size-most, sound, rise-count}
-use Rattle.scenario.proofs.Answers.{kept}
-use Rattle.scenario.proofs.Written.{length-file}
+use Rattle.scenario.specs.Inner.Begin.{given-by, Judges, Begins}
+use Rattle.scenario.proofs.Causes.{size-most, sound, rise-count}
+use Rattle.scenario.proofs.Answers.{filled-in, kept}
+use Rattle.scenario.proofs.Written.{starts-length, front-length, length-file}
 
-pub record Taken (p : Plain) (t g : ℕ) : Type 0 where
-  pub wide : side-good (p .wide) ≡ true
-  pub high : side-good (p .high) ≡ true
+-- ---- a board that is not refused: by 2, 3, 4, 5, and by its starts
+pub record Given (p : Handed) (t g : ℕ) : Type 0 where
+  pub sides : sides-good (p .board .wide) (p .board .high) ≡ true
   pub ticks : ticks-good t ≡ true
-  pub long : length (p .slow) ≡ p .wide * p .high
-  pub pairs : length (p .cells) ≡ length (p .begins)
+  pub paired : p .paired ≡ true
+  pub long : length (p .board .slow) ≡ size (p .board)
   pub ground : g ≤ 4095
-  pub slows : any-above 4095 (p .slow) ≡ false
-  pub starts : starts-refusal (board p) ≡ 0
+  pub slows : any-above 4095 (p .board .slow) ≡ false
 
-pub took : (p : Plain) (t g : ℕ) → given-refusal p t g ≡ 0 → starts-refusal (board p) ≡ 0 → Taken p t g
-unfolding given-refusal any-above sides-good
-took p t g e starts =
-    let r2 = met (sides-good (p .wide) (p .high)) 1 _ e in
-    let r3 = met (ticks-good t) 2 _ (r2 .1) in
-    let r4 = met (eqb (length (p .slow)) (p .wide * p .high) && eqb (length (p .cells)) (length (p .begins))) 3 _ (r3 .1) in
-    let r5 = passed (any-above 4095 (g ∷ p .slow)) 4 0 (r4 .1) in
-    let sides = and-true (side-good (p .wide)) (side-good (p .high)) (r2 .0) in
-    let lengths = and-true (eqb (length (p .slow)) (p .wide * p .high)) (eqb (length (p .cells)) (length (p .begins))) (r4 .0) in
-    let steep = or-false (ltb 4095 g) (any-above 4095 (p .slow)) (r5 .0) in
-    record {
-      wide = sides .0;
-      high = sides .1;
-      ticks = r3 .0;
-      long = eqb-true (length (p .slow)) (p .wide * p .high) (lengths .0);
-      pairs = eqb-true (length (p .cells)) (length (p .begins)) (lengths .1);
-      ground = ltb-false 4095 g (steep .0);
-      slows = steep .1;
-      starts = starts;
-    }
+pub record Taken (p : Handed) (t g : ℕ) : Type 0 where
+  pub given : Given p t g
+  pub starts : starts-refusal (p .board) .number ≡ 0
 
-pub board-taken : (p : Plain) (t g : ℕ) → Taken p t g → board-refusal (board p) ≡ 0
-unfolding board-refusal board size
-board-taken p t g k = rw (k .wide, k .high, eq-eqb (length (p .slow)) (p .wide * p .high) (k .long), k .slows) (k .starts)
+module _ (p : Handed) (t g : ℕ) where
+  pub gave : given-refusal p t g .number ≡ 0 → Given p t g
+  unfolding given-refusal any-above
+  gave e =
+      let b = p .board in
+      let r2 = fulfilled (sides-good (b .wide) (b .high)) 1 _ e in
+      let r3 = fulfilled (ticks-good t) 2 _ (r2 .1) in
+      let r4 = fulfilled (p .paired && eqb (length (b .slow)) (size b)) 3 _ (r3 .1) in
+      let even = and-true (p .paired) (eqb (length (b .slow)) (size b)) (r4 .0) in
+      let steep = or-false (ltb 4095 g) (any-above 4095 (b .slow)) (passed (any-above 4095 (g ∷ b .slow)) 4 _ (r4 .1) .0) in
+      record {
+        sides = r2 .0;
+        ticks = r3 .0;
+        paired = even .0;
+        long = eqb-true (length (b .slow)) (size b) (even .1);
+        ground = ltb-false 4095 g (steep .0);
+        slows = steep .1;
+      }
 
-pub given-long : (p : Plain) (t g : ℕ) → given-refusal p t g ≡ 0 → length (p .slow) ≡ p .wide * p .high
-unfolding given-refusal
-given-long p t g e =
-    let r2 = met (sides-good (p .wide) (p .high)) 1 _ e in
-    let r3 = met (ticks-good t) 2 _ (r2 .1) in
-    let r4 = met (eqb (length (p .slow)) (p .wide * p .high) && eqb (length (p .cells)) (length (p .begins))) 3 _ (r3 .1) in
-    eqb-true (length (p .slow)) (p .wide * p .high) (and-true (eqb (length (p .slow)) (p .wide * p .high)) _ (r4 .0) .0)
-
-pub took-written : (p : Plain) (t g n : ℕ) → writer-refusal p t g n ≡ 0 → Taken p t g
-unfolding writer-refusal
-took-written p t g n e =
-    let r = or-else-zero (given-refusal p t g) _ e in
-    took p t g (r .0) (or-else-zero (starts-refusal (board p)) _ (r .1) .0)
-
-pub length-starts : (cs ts : List ℕ) → length cs ≡ length ts → length (starts-of cs ts) ≡ length cs
-unfolding starts-of
-length-starts [] ts e = refl
-length-starts (c ∷ cs) [] e = absurd (omega arith)
-length-starts (c ∷ cs) (t ∷ ts) e = ap suc (length-starts cs ts (omega arith))
-
-pub taken : (p : Plain) (t g n : ℕ) → n ≡ or-else (given-refusal p t g) (starts-refusal (board p)) → n ≡ 0 → Taken p t g
-taken p t g n e z = let r = or-else-zero (given-refusal p t g) _ (sym e ∙ z) in took p t g (r .0) (r .1)
-
--- a board that is not refused is small, and so is its file
-module _ {p : Plain} {t g : ℕ} (k : Taken p t g) where
-  pub slow-most : length (p .slow) ≤ 65536
-  unfolding board size
-  slow-most = omega (arith, k .long, size-most (board p) (k .wide) (k .high))
-
-  pub cells-most : length (p .cells) ≤ 65536
-  unfolding board
-  cells-most =
-      omega (
-        arith,
-        length-starts (p .cells) (p .begins) (k .pairs),
-        size-most (board p) (k .wide) (k .high),
-        rise-count (size (board p)) 0 (starts-of (p .cells) (p .begins)) (sound (board p) (k .starts) .rise) (omega arith),
-      )
-
-  pub written-length : length (written p t g) ≡ 16 + 10 * length (runs-of g (p .slow)) + 8 * length (p .cells)
-  unfolding written
-  written-length =
-      length-file (p .wide) (p .high) t g (p .slow) (starts-of (p .cells) (p .begins))
-      ∙ ap (λ u. 16 + 10 * length (runs-of g (p .slow)) + 8 * u) (length-starts (p .cells) (p .begins) (k .pairs))
-
-  pub written-most : length (written p t g) < 4294967296
-  written-most = omega (arith, written-length, runs-of-count g (p .slow), slow-most, cells-most)
-
--- ---- the three ways out, where n is 2, 3, 4, 5, 7, 8 or 9, or 0
-or-else-assoc : (a b c : ℕ) → or-else a (or-else b c) ≡ or-else (or-else a b) c
-or-else-assoc a b c = elim (ℕ-discrete a 0) [
-  | yes q ↦ or-else-next a (or-else b c) q ∙ ap (λ u. or-else u c) (sym (or-else-next a b q))
-  | no q ↦ or-else-first a (or-else b c) q ∙ sym (ap (λ u. or-else u c) (or-else-first a b q) ∙ or-else-first a c q)
-]
-
-module _ (p : Plain) (t g : ℕ) (out : List ℕ) (n : ℕ) (e : n ≡ or-else (given-refusal p t g) (starts-refusal (board p))) (x : Reply) where
-  refusal : writer-refusal p t g (length out) ≡ or-else n (cond (ltb (length out) (length (written p t g))) 14 0)
+  pub took : (n : ℕ) → writer-refusal p t g n .number ≡ 0 → Taken p t g × (length (written p t g) ≤ n)
   unfolding writer-refusal
-  refusal = or-else-assoc (given-refusal p t g) (starts-refusal (board p)) _ ∙ ap (λ u. or-else u (cond (ltb (length out) (length (written p t g))) 14 0)) (sym e)
+  took n e =
+      let r = neither (given-refusal p t g) _ e in
+      let s = neither (starts-refusal (p .board)) _ (r .1) in
+      let l = passed (ltb n (length (written p t g))) 13 _ (s .1) .0 in
+      (record { given = gave (r .0); starts = s .0 }, ltb-false n (length (written p t g)) l)
 
-  refused-with : (k : ℕ) → (k ≡ 0 → ⊥) → writer-refusal p t g (length out) ≡ k → x ≡ answer k 0 → Writes p t g out out x
+  -- the refusal that code finds, cause by cause
+  module _ (n : ℕ) where
+    pub refuses-given : (k : Refusal) → k ≡ given-refusal p t g → k .number ≢ 0 → k ≡ writer-refusal p t g n
+    unfolding writer-refusal
+    refuses-given k e d = first _ _ k e (λ z. d (ap (λ u. u .number) e ∙ z))
+
+    module _ (z : given-refusal p t g .number ≡ 0) where
+      pub refuses-starts : (k : Refusal) → k ≡ starts-refusal (p .board) → k .number ≢ 0 → k ≡ writer-refusal p t g n
+      unfolding writer-refusal
+      refuses-starts k e d = next _ _ k z (first _ _ k e (λ q. d (ap (λ u. u .number) e ∙ q)))
+
+      module _ (y : starts-refusal (p .board) .number ≡ 0) where
+        pub refuses-short : n < length (written p t g) → cause 14 ≡ writer-refusal p t g n
+        unfolding writer-refusal
+        refuses-short l = next _ _ _ z (next _ _ _ y (caused _ (cause 14) none (lt-ltb n (length (written p t g)) l)))
+
+        pub refuses-none : length (written p t g) ≤ n → none ≡ writer-refusal p t g n
+        unfolding writer-refusal
+        refuses-none l = next _ _ _ z (next _ _ _ y (spared _ (cause 14) none none (le-ltb n (length (written p t g)) l) refl))
+
+-- it is small, and so is its file
+module _ {p : Handed} {t g : ℕ} (k : Taken p t g) where
+  pub board-taken : board-refusal (p .board) .number ≡ 0
+  unfolding handed-refusal
+  board-taken = rw (k .given .sides, eq-eqb (length (p .board .slow)) (size (p .board)) (k .given .long), k .given .slows) (k .starts)
+
+  pub slow-most : length (p .board .slow) ≤ 65536
+  slow-most = omega (arith, k .given .long, size-most (p .board) (k .given .sides))
+
+  pub starts-most : length (p .board .starts) ≤ 65536
+  starts-most =
+      let b = p .board in
+      omega (arith, size-most b (k .given .sides), rise-count (size b) 0 (b .starts) (sound b (k .starts) .rise) (omega arith))
+
+pub written-length : (p : Handed) (t g : ℕ) → length (written p t g) ≡ file-size (length (runs-of g (p .board .slow))) (length (p .board .starts))
+unfolding written
+written-length p t g = length-file t g (p .board)
+
+-- ---- the first part: its ways out, whatever the starts are that were judged
+module _ {ss : List ℕ} {cells begins : ℕ} {j : Judged} {xs : List Start} (js : Judges ss cells begins j xs) (w h t g : ℕ)
+    (z : given-refusal (given-by w h ss cells begins xs) t g .number ≡ 0) where
+  -- the judgement is the starts' refusal
+  pub judges-starts : judged-refusal j ≡ starts-refusal (given-by w h ss cells begins xs .board)
+  judges-starts = let p = given-by w h ss cells begins xs in ap judged-refusal (js .is) ∙ judge-refuses (p .board) (gave p t g z .long)
+
+  pub judges-many : length xs ≡ cells
+  judges-many = js .many (eqb-true cells begins (gave (given-by w h ss cells begins xs) t g z .paired))
+
+  pub judges-taken : judged-refusal j .number ≡ 0 → Taken (given-by w h ss cells begins xs) t g
+  judges-taken y = record { given = gave (given-by w h ss cells begins xs) t g z; starts = sym (ap (λ u. u .number) judges-starts) ∙ y }
+
+  pub judges-length : length (written (given-by w h ss cells begins xs) t g) ≡ file-size (length (runs-of g ss)) cells
+  judges-length = written-length (given-by w h ss cells begins xs) t g ∙ ap (file-size (length (runs-of g ss))) judges-many
+
+module _ (w h t g : ℕ) (ss : List ℕ) (cells begins : ℕ) (j : Judged) (out : List ℕ) (x : Reply) where
+  pub begins-refused : (k : Refusal) → k .number ≢ 0 → x ≡ answer (k .number) 0
+      → ((xs : List Start) → Judges ss cells begins j xs → k ≡ writer-refusal (given-by w h ss cells begins xs) t g (length out))
+      → Begins w h t g ss cells begins j out out x
   unfolding answer
-  refused-with k h r q = record {
-    answers = q ∙ sym (answered-refused (writer-refusal p t g (length out)) k _ r h);
-    leaves = kept (x .number) _ out (λ z. h (sym (ap (λ u. u .number) q) ∙ z));
+  begins-refused k n q f = record {
+    answers = λ xs js. q ∙ sym (answered-refused k (length (written (given-by w h ss cells begins xs) t g)) n) ∙ ap₂ answered (f xs js) refl;
+    leaves = kept (x .number) _ out (λ z. n (sym (ap (λ u. u .number) q) ∙ z));
   }
 
-  pub writes-refused : (n ≡ 0 → ⊥) → x ≡ answer n 0 → Writes p t g out out x
-  writes-refused h q = refused-with n h (refusal ∙ or-else-first n _ h) q
-
-  pub writes-short : n ≡ 0 → length out < length (written p t g) → x ≡ answer 14 0 → Writes p t g out out x
-  writes-short z l q = refused-with 14 (λ w. omega arith) (refusal ∙ or-else-next n _ z ∙ rw (lt-ltb (length out) (length (written p t g)) l) refl) q
-
-  pub writes-done : n ≡ 0 → length (written p t g) ≤ length out → x ≡ answer 0 (length (written p t g)) → (now : List ℕ) → now ≡ filled 0 (written p t g) out → Writes p t g out now x
+  pub begins-done : (need : ℕ) → x ≡ answer 0 need
+      → ((xs : List Start) → Judges ss cells begins j xs → let p = given-by w h ss cells begins xs in
+      (none ≡ writer-refusal p t g (length out)) × (length (written p t g) ≡ need))
+      → (now : List ℕ) → now ≡ filled 0 (front (head-of w h t g ss cells) ss) out → Begins w h t g ss cells begins j out now x
   unfolding answer
-  writes-done z l q now h = record {
-    answers = q ∙ sym (answered-zero _ _ (refusal ∙ or-else-next n _ z ∙ rw (le-ltb (length out) (length (written p t g)) l) refl));
-    leaves = h ∙ ap (λ u. filled u (written p t g) out) (sym (ap (λ u. u .number) q));
+  begins-done need q f now e = record {
+    answers = λ xs js. q ∙ ap (answer 0) (sym (f xs js .1)) ∙ sym (answered-zero none _ refl) ∙ ap₂ answered (f xs js .0) refl;
+    leaves = e ∙ ap (λ u. filled u (front (head-of w h t g ss cells) ss) out) (sym (ap (λ u. u .number) q));
   }
+
+-- ---- the second part: the starts behind it
+-- what an accepted call has in hand where the starts are still to be written
+pub record Awaits (g : ℕ) (ss : List ℕ) (cells begins : ℕ) (xs : List Start) (out mid : List ℕ) (x : Reply) : Type 0 where
+  pub pairs : cells ≡ begins
+  pub many : length xs ≡ cells
+  pub count : x .count ≡ file-size (length (runs-of g ss)) cells
+  pub fits : x .count ≤ length out
+  pub long : length mid ≡ length out
+
+module _ {w h t g : ℕ} {ss : List ℕ} {cells begins : ℕ} {j : Judged} {out mid : List ℕ} {x : Reply} (b : Begins w h t g ss cells begins j out mid x)
+    {xs : List Start} (js : Judges ss cells begins j xs) where
+  pub writes-none : x .number ≢ 0 → Writes (given-by w h ss cells begins xs) t g out mid x
+  writes-none n = record { answers = b .answers xs js; leaves = b .leaves ∙ sym (kept (x .number) _ out n) ∙ kept (x .number) _ out n }
+
+  module _ (z : x .number ≡ 0) where
+    mid-is : mid ≡ front (head-of w h t g ss cells) ss ++ drop (length (front (head-of w h t g ss cells) ss)) out
+    mid-is = b .leaves ∙ filled-in (x .number) _ out z
+
+    pub awaits : Awaits g ss cells begins xs out mid x
+    unfolding answer head-of
+    awaits =
+        let p = given-by w h ss cells begins xs in
+        let zero = sym (answered-number _ _) ∙ ap (λ u. u .number) (sym (b .answers xs js)) ∙ z in
+        let k = took p t g (length out) zero in
+        let pairs = eqb-true cells begins (k .0 .given .paired) in
+        let count : x .count ≡ length (written p t g) = ap (λ u. u .count) (b .answers xs js ∙ answered-zero _ _ zero) in
+        let r = length (runs-of g ss) in
+        let size : x .count ≡ file-size r cells = count ∙ written-length p t g ∙ ap (file-size r) (js .many pairs) in
+        let y = front (head-of w h t g ss cells) ss in
+        let before = front-length (head-of w h t g ss cells) ss in
+        let long : length mid ≡ length out =
+        ap length mid-is ∙ length-append y (drop (length y) out) ∙ simp length-drop (omega (arith, before, size, count, k .1)) in
+        record { pairs = pairs; many = js .many pairs; count = size; fits = omega (arith, count, k .1); long = long }
+
+    pub writes-all : (at : ℕ) (now : List ℕ) → at ≡ runs-end (length (runs-of g ss))
+        → now ≡ take at mid ++ (bytes-of start-bytes xs ++ drop (at + start-size * cells) mid) → Writes (given-by w h ss cells begins xs) t g out now x
+    unfolding written file-of head-of
+    writes-all at now e f = record { answers = b .answers xs js; leaves = f ∙ whole ∙ sym (filled-in (x .number) (written p t g) out z) }
+      where
+        p : Handed
+        p = given-by w h ss cells begins xs
+
+        a : List ℕ
+        a = front (head-of w h t g ss cells) ss
+
+        ys : List ℕ
+        ys = bytes-of start-bytes xs
+
+        many : length xs ≡ cells
+        many = awaits .many
+
+        at-is : length a ≡ at
+        at-is = front-length (head-of w h t g ss cells) ss ∙ sym e
+
+        long : length (a ++ ys) ≡ length a + start-size * cells
+        long = length-append a ys ∙ ap (λ u. length a + u) (starts-length xs ∙ ap (λ u. start-size * u) many)
+
+        rest : drop (at + start-size * cells) mid ≡ drop (length (a ++ ys)) out
+        rest =
+            sym (drop-drop (start-size * cells) at mid) ∙ ap (drop (start-size * cells)) (ap (drop at) mid-is ∙ drop-at a (drop (length a) out) at at-is)
+            ∙ drop-drop (start-size * cells) (length a) out ∙ ap (λ u. drop u out) (sym long)
+
+        whole : take at mid ++ (ys ++ drop (at + start-size * cells) mid) ≡ written p t g ++ drop (length (written p t g)) out
+        whole =
+            ap₂ (λ u v. u ++ (ys ++ v)) (ap (take at) mid-is ∙ take-at a (drop (length a) out) at at-is) rest
+            ∙ sym (append-assoc a ys (drop (length (a ++ ys)) out))
+            ∙ ap (λ q. (front (head-of w h t g ss q) ss ++ ys) ++ drop (length (front (head-of w h t g ss q) ss ++ ys)) out) (sym many)

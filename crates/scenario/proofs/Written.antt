@@ -1,226 +1,218 @@
--- The file of a good board is accepted, and holds that board. Assumes nothing.
-use mathlib.Core.Path.{_≡_, refl, ap, _∙_}
-use mathlib.Core.Bool.{true, false, _&&_, not}
+-- The file of a good board is accepted, and holds that board.
+use mathlib.Core.Path.{_≡_, refl, sym, ap, _∙_}
+use mathlib.Core.Bool.{true, false}
 use mathlib.Core.List.{List, [], _++_, map, append-assoc, append-nil}
 use Prim.Native.Nat.{ℕ, _+_, _*_, _≤_, _<_}
 use native.Mathlib.Omega.{arith}
 use lib.Dec.{eqb}
 use lib.ListN.{length, drop, length-append}
 use lib.Seq.{drop-at, drop-drop}
-use borrow.Author.Tests.{eqb-true, not-false}
-use Rattle.eikonal.specs.Board.{Board, Start, size}
-use Rattle.eikonal.specs.Refusals.{side-good, any-above, starts-refusal, board-refusal}
-use Rattle.eikonal.proofs.Good.{and-true}
-use Rattle.scenario.specs.Bytes.{two, four, two-bytes, four-bytes, records, bytes-of}
+use borrow.Author.Tests.{eqb-true}
+use Rattle.eikonal.specs.Board.{Board, size}
+use Rattle.eikonal.specs.declared.Start.{Start}
+use Rattle.eikonal.specs.Refusals.{sides-good, any-above, starts-refusal, handed-refusal, board-refusal}
+use Rattle.eikonal.proofs.Causes.{fulfilled, passed}
+use Rattle.eikonal.proofs.Good.{sides-within}
+use Rattle.scenario.specs.Bytes.{two, four, two-bytes, four-bytes, bytes-of}
+use Rattle.scenario.specs.declared.Head.{Head}
 use Rattle.scenario.specs.declared.Run.{Run}
 use Rattle.scenario.specs.Runs.{run, painted, runs-good, runs-of}
-use Rattle.scenario.specs.File.{run-bytes, start-bytes, head-bytes, file-of, run-in, start-in, width-in, height-in, ticks-in, ground-in, run-count, start-count, runs-in, starts-in, held, ticks-good, file-refusal}
+use Rattle.scenario.specs.File.{head-size, run-size, start-size, runs-end, file-size, head-bytes, run-bytes, start-bytes, head-of, front, file-of}
+use Rattle.scenario.specs.File.{head-in, run-in, start-in, runs-in, starts-in, held, ticks-good, file-refusal}
 use Rattle.scenario.specs.Promise.{File-of-is-accepted}
 use Rattle.scenario.proofs.Numbers.{two-front, four-front}
-use Rattle.scenario.proofs.Records.{All, read-back, length-bytes}
+use Rattle.scenario.proofs.Records.{read-back, length-bytes}
 use Rattle.scenario.proofs.GoodRuns as GoodRuns
 use Rattle.scenario.proofs.GoodRuns.{runs-of-good, runs-of-above, runs-of-count}
 use Rattle.scenario.proofs.Painted.{painted-runs}
 use Rattle.scenario.proofs.Causes as Causes
-use Rattle.scenario.proofs.Causes.{accepts, Sound, sound, passed, rise-count, side-most, size-most, some-ticks}
+use Rattle.scenario.proofs.Causes.{accepts, Sound, sound, rise-count, size-most, some-ticks}
 
--- ---- a record comes back from its bytes
-pub run-length : (x : Run) → length (run-bytes x) ≡ 10
+-- ---- a head, a run and a start come back from their bytes
+-- the numbers of a head fit their bytes
+record Small (x : Head) : Type 0 where
+  width : x .width < 65536
+  height : x .height < 65536
+  ticks : x .ticks < 65536
+  ground : x .ground < 65536
+  runs : x .runs < 4294967296
+  starts : x .starts < 4294967296
+
+head-front : (x : Head) (bs : List ℕ) → Small x → head-in (head-bytes x ++ bs) ≡ x
+unfolding head-in head-bytes four-bytes two-bytes four two
+head-front x bs s = λ i. record {
+  width = two-front (x .width) [] (s .width) i;
+  height = two-front (x .height) [] (s .height) i;
+  ticks = two-front (x .ticks) [] (s .ticks) i;
+  ground = two-front (x .ground) [] (s .ground) i;
+  runs = four-front (x .runs) [] (s .runs) i;
+  starts = four-front (x .starts) [] (s .starts) i;
+}
+
+head-length : (x : Head) → length (head-bytes x) ≡ head-size
+unfolding head-bytes four-bytes two-bytes
+head-length x = refl
+
+head-next : (x : Head) (bs : List ℕ) → drop head-size (head-bytes x ++ bs) ≡ bs
+unfolding head-bytes four-bytes two-bytes
+head-next x bs = refl
+
+pub run-length : (x : Run) → length (run-bytes x) ≡ run-size
 unfolding run-bytes four-bytes two-bytes
 run-length x = refl
 
-pub start-length : (x : Start) → length (start-bytes x) ≡ 8
+pub start-length : (x : Start) → length (start-bytes x) ≡ start-size
 unfolding start-bytes four-bytes two-bytes
 start-length x = refl
 
-run-next : (x : Run) (bs : List ℕ) → drop 10 (run-bytes x ++ bs) ≡ bs
+run-next : (x : Run) (bs : List ℕ) → drop run-size (run-bytes x ++ bs) ≡ bs
 unfolding run-bytes four-bytes two-bytes
 run-next x bs = refl
 
-start-next : (x : Start) (bs : List ℕ) → drop 8 (start-bytes x ++ bs) ≡ bs
+start-next : (x : Start) (bs : List ℕ) → drop start-size (start-bytes x ++ bs) ≡ bs
 unfolding start-bytes four-bytes two-bytes
 start-next x bs = refl
 
 run-front : (x : Run) (bs : List ℕ) → GoodRuns.Small x → run-in (run-bytes x ++ bs) ≡ x
 unfolding run-in run run-bytes four-bytes two-bytes four two
-run-front x bs s =
-    λ i. record { offset = four-front (x .offset) [] (s .offset) i; long = four-front (x .long) [] (s .long) i; slow = two-front (x .slow) [] (s .slow) i }
+run-front x bs s = λ i. record {
+  offset = four-front (x .offset) [] (s .offset) i;
+  long = four-front (x .long) [] (s .long) i;
+  slow = two-front (x .slow) [] (s .slow) i;
+}
 
 start-front : (x : Start) (bs : List ℕ) → Causes.Small x → start-in (start-bytes x ++ bs) ≡ x
 unfolding start-in start-bytes four-bytes two-bytes four two
 start-front x bs s = λ i. record { cell = four-front (x .cell) [] (s .cell) i; time = four-front (x .time) [] (s .time) i }
 
--- ---- the numbers in front
-module _ (w h t g r q : ℕ) (body : List ℕ) where
-  head-width : w < 65536 → width-in (head-bytes w h t g r q ++ body) ≡ w
-  unfolding width-in head-bytes two-bytes four-bytes two
-  head-width l = two-front w [] l
+-- ---- the bytes in front of the starts, and all
+runs-length : (rs : List Run) → length (bytes-of run-bytes rs) ≡ run-size * length rs
+runs-length rs = length-bytes run-size run-bytes run-length rs
 
-  head-height : h < 65536 → height-in (head-bytes w h t g r q ++ body) ≡ h
-  unfolding height-in head-bytes two-bytes four-bytes two
-  head-height l = two-front h [] l
+pub starts-length : (xs : List Start) → length (bytes-of start-bytes xs) ≡ start-size * length xs
+starts-length xs = length-bytes start-size start-bytes start-length xs
 
-  head-ticks : t < 65536 → ticks-in (head-bytes w h t g r q ++ body) ≡ t
-  unfolding ticks-in head-bytes two-bytes four-bytes two
-  head-ticks l = two-front t [] l
+pub front-length : (x : Head) (ss : List ℕ) → length (front x ss) ≡ runs-end (length (runs-of (x .ground) ss))
+unfolding front
+front-length x ss =
+    let rs = bytes-of run-bytes (runs-of (x .ground) ss) in
+    omega (arith, length-append (head-bytes x) rs, head-length x, runs-length (runs-of (x .ground) ss))
 
-  head-ground : g < 65536 → ground-in (head-bytes w h t g r q ++ body) ≡ g
-  unfolding ground-in head-bytes two-bytes four-bytes two
-  head-ground l = two-front g [] l
-
-  head-runs : r < 4294967296 → run-count (head-bytes w h t g r q ++ body) ≡ r
-  unfolding run-count head-bytes two-bytes four-bytes four two
-  head-runs l = four-front r [] l
-
-  head-starts : q < 4294967296 → start-count (head-bytes w h t g r q ++ body) ≡ q
-  unfolding start-count head-bytes two-bytes four-bytes four two
-  head-starts l = four-front q [] l
-
-  pub head-length : length (head-bytes w h t g r q) ≡ 16
-  unfolding head-bytes two-bytes four-bytes
-  head-length = refl
-
-  pub head-next : drop 16 (head-bytes w h t g r q ++ body) ≡ body
-  unfolding head-bytes two-bytes four-bytes
-  head-next = refl
-
--- ---- the body behind them
-module _ (rs : List Run) (xs : List Start) where
-  body : List ℕ
-  body = bytes-of run-bytes rs ++ bytes-of start-bytes xs
-
-  body-length : length body ≡ 10 * length rs + 8 * length xs
-  unfolding body
-  body-length = omega (arith, length-append (bytes-of run-bytes rs) (bytes-of start-bytes xs), length-bytes 10 run-bytes run-length rs, length-bytes 8 start-bytes start-length xs)
-
-  body-runs : All GoodRuns.Small rs → records 10 run-in (length rs) body ≡ rs
-  unfolding body
-  body-runs a = read-back 10 run-in run-bytes GoodRuns.Small run-front run-next rs (bytes-of start-bytes xs) a
-
-  body-starts : All Causes.Small xs → records 8 start-in (length xs) (drop (10 * length rs) body) ≡ xs
-  unfolding body
-  body-starts a =
-      rw (drop-at (bytes-of run-bytes rs) (bytes-of start-bytes xs) (10 * length rs) (length-bytes 10 run-bytes run-length rs), ← append-nil (bytes-of start-bytes xs))
-      (read-back 8 start-in start-bytes Causes.Small start-front start-next xs [] a)
+pub length-file : (t g : ℕ) (b : Board) → length (file-of t g b) ≡ file-size (length (runs-of g (b .slow))) (length (b .starts))
+unfolding file-of head-of
+length-file t g b =
+    let x = head-of (b .wide) (b .high) t g (b .slow) (length (b .starts)) in
+    omega (arith, length-append (front x (b .slow)) (bytes-of start-bytes (b .starts)), front-length x (b .slow), starts-length (b .starts))
 
 -- ---- a board that is not refused
 record Given (b : Board) : Type 0 where
-  wide : side-good (b .wide) ≡ true
-  high : side-good (b .high) ≡ true
+  sides : sides-good (b .wide) (b .high) ≡ true
   long : length (b .slow) ≡ size b
   slows : any-above 4095 (b .slow) ≡ false
-  starts : starts-refusal b ≡ 0
+  starts : starts-refusal b .number ≡ 0
 
-given : (b : Board) → board-refusal b ≡ 0 → Given b
-unfolding board-refusal
+given : (b : Board) → board-refusal b .number ≡ 0 → Given b
+unfolding handed-refusal
 given b e =
-    let r2 = passed (not (side-good (b .wide) && side-good (b .high))) 1 _ e in
-    let sides = and-true (side-good (b .wide)) (side-good (b .high)) (not-false _ (r2 .0)) in
-    let r4 = passed (not (eqb (length (b .slow)) (size b))) 3 _ (r2 .1) in
+    let r2 = fulfilled (sides-good (b .wide) (b .high)) 1 _ e in
+    let r4 = fulfilled (eqb (length (b .slow)) (size b)) 3 _ (r2 .1) in
     let r5 = passed (any-above 4095 (b .slow)) 4 _ (r4 .1) in
-    record { wide = sides .0; high = sides .1; long = eqb-true (length (b .slow)) (size b) (not-false _ (r4 .0)); slows = r5 .0; starts = r5 .1 }
-
--- the file in two pieces: the numbers in front, and the rest
-pub in-front : (w h t g : ℕ) (ss : List ℕ) (xs : List Start)
-    → file-of w h t g ss xs ≡ head-bytes w h t g (length (runs-of g ss)) (length xs) ++ (bytes-of run-bytes (runs-of g ss) ++ bytes-of start-bytes xs)
-unfolding file-of
-in-front w h t g ss xs = append-assoc (head-bytes w h t g (length (runs-of g ss)) (length xs)) (bytes-of run-bytes (runs-of g ss)) (bytes-of start-bytes xs)
-
-pub length-file : (w h t g : ℕ) (ss : List ℕ) (xs : List Start) → length (file-of w h t g ss xs) ≡ 16 + 10 * length (runs-of g ss) + 8 * length xs
-unfolding body
-length-file w h t g ss xs =
-    ap length (in-front w h t g ss xs)
-    ∙ omega (arith, length-append (head-bytes w h t g (length (runs-of g ss)) (length xs)) (bytes-of run-bytes (runs-of g ss) ++ bytes-of start-bytes xs), head-length w h t g (length (runs-of g ss)) (length xs) [], body-length (runs-of g ss) xs)
+    record { sides = r2 .0; long = eqb-true (length (b .slow)) (size b) (r4 .0); slows = r5 .0; starts = r5 .1 }
 
 module _ (b : Board) (t g : ℕ) (a : Given b) (tl : t ≤ 65535) (gl : g ≤ 4095) where
   rs : List Run
   rs = runs-of g (b .slow)
 
+  x : Head
+  x = head-of (b .wide) (b .high) t g (b .slow) (length (b .starts))
+
   f : List ℕ
-  f = head-bytes (b .wide) (b .high) t g (length rs) (length (b .starts)) ++ body rs (b .starts)
+  f = head-bytes x ++ (bytes-of run-bytes rs ++ bytes-of start-bytes (b .starts))
+
+  is-file : file-of t g b ≡ f
+  unfolding file-of front head-of x f rs
+  is-file = append-assoc (head-bytes x) (bytes-of run-bytes rs) (bytes-of start-bytes (b .starts))
 
   n-most : size b ≤ 65536
-  n-most = size-most b (a .wide) (a .high)
-
-  r-most : length rs < 4294967296
-  unfolding rs
-  r-most = omega (arith, runs-of-count g (b .slow), a .long, n-most)
+  n-most = size-most b (a .sides)
 
   starts-sound : Sound b
   starts-sound = sound b (a .starts)
-
-  q-most : length (b .starts) < 4294967296
-  q-most = omega (arith, rise-count (size b) 0 (b .starts) (starts-sound .rise) (omega arith), n-most)
 
   good : runs-good (size b) g 0 g rs ≡ true
   unfolding rs
   good = rw (a .long) at (runs-of-good g (b .slow))
 
-  above : any-above 4095 (map (λ x. x .slow) rs) ≡ false
+  above : any-above 4095 (map (λ y. y .slow) rs) ≡ false
   unfolding rs
   above = runs-of-above 4095 g (b .slow) gl (a .slows)
 
-  holds-width : width-in f ≡ b .wide
-  unfolding f
-  holds-width = head-width _ _ _ _ _ _ _ (omega (arith, side-most (b .wide) (a .wide)))
+  head-small : Small x
+  unfolding x head-of
+  head-small = record {
+    width = omega (arith, sides-within (b .wide) (b .high) (a .sides) .1);
+    height = omega (arith, sides-within (b .wide) (b .high) (a .sides) .3);
+    ticks = omega arith;
+    ground = omega arith;
+    runs = omega (arith, runs-of-count g (b .slow), a .long, n-most);
+    starts = omega (arith, rise-count (size b) 0 (b .starts) (starts-sound .rise) (omega arith), n-most);
+  }
 
-  holds-height : height-in f ≡ b .high
+  holds-head : head-in f ≡ x
   unfolding f
-  holds-height = head-height _ _ _ _ _ _ _ (omega (arith, side-most (b .high) (a .high)))
+  holds-head = head-front x _ head-small
 
-  holds-ticks : ticks-in f ≡ t
+  behind : drop head-size f ≡ bytes-of run-bytes rs ++ bytes-of start-bytes (b .starts)
   unfolding f
-  holds-ticks = head-ticks _ _ _ _ _ _ _ (omega arith)
-
-  holds-ground : ground-in f ≡ g
-  unfolding f
-  holds-ground = head-ground _ _ _ _ _ _ _ (omega arith)
-
-  counts-runs : run-count f ≡ length rs
-  unfolding f
-  counts-runs = head-runs _ _ _ _ _ _ _ r-most
-
-  counts-starts : start-count f ≡ length (b .starts)
-  unfolding f
-  counts-starts = head-starts _ _ _ _ _ _ _ q-most
-
-  behind : drop 16 f ≡ body rs (b .starts)
-  unfolding f
-  behind = head-next (b .wide) (b .high) t g (length rs) (length (b .starts)) (body rs (b .starts))
+  behind = head-next x _
 
   holds-runs : runs-in f ≡ rs
-  unfolding runs-in
-  holds-runs = rw (counts-runs, behind) (body-runs rs (b .starts) (GoodRuns.all-small (size b) g 0 g rs (omega (arith, n-most)) good above))
+  unfolding runs-in x head-of rs
+  holds-runs =
+      rw (holds-head, behind)
+      (read-back run-size run-in run-bytes GoodRuns.Small run-front run-next rs _ (GoodRuns.all-small (size b) g 0 g rs (omega (arith, n-most)) good above))
 
   holds-starts : starts-in f ≡ b .starts
-  unfolding starts-in
+  unfolding starts-in x head-of rs
   holds-starts =
-      rw (counts-starts, counts-runs, ← drop-drop (10 * length rs) 16 f, behind)
-      (body-starts rs (b .starts) (Causes.all-small (size b) 0 (b .starts) (omega (arith, n-most)) (starts-sound .rise) (starts-sound .early)))
+      let small = Causes.all-small (size b) 0 (b .starts) (omega (arith, n-most)) (starts-sound .rise) (starts-sound .early) in
+      rw (
+        holds-head,
+        ← drop-drop (run-size * length rs) head-size f,
+        behind,
+        drop-at (bytes-of run-bytes rs) (bytes-of start-bytes (b .starts)) (run-size * length rs) (runs-length rs),
+        ← append-nil (bytes-of start-bytes (b .starts)),
+      )
+      (read-back start-size start-in start-bytes Causes.Small start-front start-next (b .starts) [] small)
 
   holds-slow : painted g 0 (b .wide * b .high) rs ≡ b .slow
   unfolding rs size
   holds-slow = rw (a .long) at (painted-runs g (b .slow))
 
   holds : held f ≡ b
-  unfolding held
-  holds = rw (holds-width, holds-height, holds-ground, holds-runs, holds-starts, holds-slow)
+  unfolding held x head-of
+  holds = rw (holds-head, holds-runs, holds-starts, holds-slow)
 
-  long : length f ≡ 16 + 10 * run-count f + 8 * start-count f
-  unfolding f rs body
-  long = rw (counts-runs, counts-starts, ← in-front (b .wide) (b .high) t g (b .slow) (b .starts)) (length-file (b .wide) (b .high) t g (b .slow) (b .starts))
+  long : length f ≡ file-size (x .runs) (x .starts)
+  unfolding x head-of
+  long = ap length (sym is-file) ∙ length-file t g b
 
-  is-accepted : ticks-good t ≡ true → file-refusal f ≡ 0
+  is-accepted : ticks-good t ≡ true → file-refusal f .number ≡ 0
+  unfolding x head-of
   is-accepted tg = accepts f (record {
-    front = record { head = omega (arith, long); long = long; wide = rw holds-width (a .wide); high = rw holds-height (a .high); ticks = rw holds-ticks tg };
-    rest = record { ground = rw holds-ground gl; slows = rw holds-runs above; runs = rw (holds, holds-ground, holds-runs) good };
+    front = record { head = omega (arith, long); long = rw holds-head long; sides = rw holds-head (a .sides); ticks = rw holds-head tg };
+    rest = record { ground = rw holds-head gl; slows = rw holds-runs above; runs = rw (holds, holds-head, holds-runs) good };
     starts = rw holds (a .starts);
   })
 
+  is-read : (head-in f .ticks ≡ t) × (head-in f .ground ≡ g)
+  unfolding x head-of
+  is-read = rw holds-head (refl, refl)
+
 pub file-of-is-accepted : File-of-is-accepted
-unfolding File-of-is-accepted body f rs
+unfolding File-of-is-accepted
 file-of-is-accepted b t g file e tg gl q =
     let a = given b e in
     let tl = some-ticks t tg .1 in
-    rw (q ∙ in-front (b .wide) (b .high) t g (b .slow) (b .starts))
-    (is-accepted b t g a tl gl tg, holds b t g a tl gl, holds-ticks b t g a tl gl, holds-ground b t g a tl gl)
+    let read = is-read b t g a tl gl in
+    rw (q ∙ is-file b t g a tl gl) (is-accepted b t g a tl gl tg, holds b t g a tl gl, read .0, read .1)

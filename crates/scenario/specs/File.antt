@@ -1,15 +1,38 @@
 -- The scenario file: its bytes, what it holds, and its refusals ("The scenario file" and "Turned down" of document 01).
--- Assumes nothing: these are definitions.
 use mathlib.Core.Bool.{Bool, _&&_, not, cond}
 use mathlib.Core.List.{List, _∷_, _++_, map}
 use Prim.Native.Nat.{ℕ, _+_, _*_}
 use lib.Dec.{leb, eqb}
 use lib.ListN.{length, drop}
-use Rattle.eikonal.specs.Board.{Board, Start, size}
-use Rattle.eikonal.specs.Refusals.{or-else, side-good, any-above, starts-refusal}
+use Rattle.eikonal.specs.Board.{Board, board-of, size}
+use Rattle.eikonal.specs.declared.Start.{Start}
+use Rattle.eikonal.specs.Refusals.{cause, none, or-else, sides-good, any-above, starts-refusal}
+use Rattle.eikonal.specs.declared.Refusal.{Refusal}
 use Rattle.scenario.specs.Bytes.{two, four, two-bytes, four-bytes, records, bytes-of}
+use Rattle.scenario.specs.declared.Head.{Head}
 use Rattle.scenario.specs.declared.Run.{Run}
 use Rattle.scenario.specs.Runs.{run, painted, runs-good, runs-of}
+
+-- HOW MANY BYTES a head, a run and a start have; where so many runs end, and where the file does
+abbrev pub head-size : ℕ
+head-size = 16
+
+abbrev pub run-size : ℕ
+run-size = 10
+
+abbrev pub start-size : ℕ
+start-size = 8
+
+abbrev pub runs-end : (runs : ℕ) → ℕ
+runs-end r = head-size + run-size * r
+
+abbrev pub file-size : (runs starts : ℕ) → ℕ
+file-size r q = runs-end r + start-size * q
+
+-- THEIR BYTES
+unfoldable pub head-bytes : Head → List ℕ
+head-bytes x =
+    two-bytes (x .width) ++ two-bytes (x .height) ++ two-bytes (x .ticks) ++ two-bytes (x .ground) ++ four-bytes (x .runs) ++ four-bytes (x .starts)
 
 unfoldable pub run-bytes : Run → List ℕ
 run-bytes x = four-bytes (x .offset) ++ four-bytes (x .long) ++ two-bytes (x .slow)
@@ -17,76 +40,69 @@ run-bytes x = four-bytes (x .offset) ++ four-bytes (x .long) ++ two-bytes (x .sl
 unfoldable pub start-bytes : Start → List ℕ
 start-bytes x = four-bytes (x .cell) ++ four-bytes (x .time)
 
--- width, height, ticks per turn, ground slowness, count of runs, count of starts
-unfoldable pub head-bytes : (w h ticks ground r q : ℕ) → List ℕ
-head-bytes w h t g r q = two-bytes w ++ two-bytes h ++ two-bytes t ++ two-bytes g ++ four-bytes r ++ four-bytes q
+-- the head of a board with so many starts, and all bytes in front of these
+unfoldable pub head-of : (w h ticks ground : ℕ) → (slow : List ℕ) → (starts : ℕ) → Head
+head-of w h t g ss q = record { width = w; height = h; ticks = t; ground = g; runs = length (runs-of g ss); starts = q }
 
--- THE ONE FILE that fits a board, its ticks per turn, ground and starts
-unfoldable pub file-of : (w h ticks ground : ℕ) → (slow : List ℕ) → List Start → List ℕ
-file-of w h t g ss xs =
-    let rs = runs-of g ss in
-    head-bytes w h t g (length rs) (length xs) ++ bytes-of run-bytes rs ++ bytes-of start-bytes xs
+unfoldable pub front : Head → (slow : List ℕ) → List ℕ
+front x ss = head-bytes x ++ bytes-of run-bytes (runs-of (x .ground) ss)
+
+-- THE ONE FILE that fits a board, its ticks per turn and its ground
+unfoldable pub file-of : (ticks ground : ℕ) → Board → List ℕ
+file-of t g b =
+    front (head-of (b .wide) (b .high) t g (b .slow) (length (b .starts))) (b .slow) ++ bytes-of start-bytes (b .starts)
 
 -- WHAT A FILE HOLDS
+unfoldable pub head-in : List ℕ → Head
+head-in f = record {
+  width = two f;
+  height = two (drop 2 f);
+  ticks = two (drop 4 f);
+  ground = two (drop 6 f);
+  runs = four (drop 8 f);
+  starts = four (drop 12 f);
+}
+
+abbrev pub start-count : List ℕ → ℕ
+start-count f = head-in f .starts
+
 unfoldable pub run-in : List ℕ → Run
 run-in bs = run (four bs) (four (drop 4 bs)) (two (drop 8 bs))
 
 unfoldable pub start-in : List ℕ → Start
 start-in bs = record { cell = four bs; time = four (drop 4 bs) }
 
-unfoldable pub width-in : List ℕ → ℕ
-width-in f = two f
-
-unfoldable pub height-in : List ℕ → ℕ
-height-in f = two (drop 2 f)
-
-unfoldable pub ticks-in : List ℕ → ℕ
-ticks-in f = two (drop 4 f)
-
-unfoldable pub ground-in : List ℕ → ℕ
-ground-in f = two (drop 6 f)
-
-unfoldable pub run-count : List ℕ → ℕ
-run-count f = four (drop 8 f)
-
-unfoldable pub start-count : List ℕ → ℕ
-start-count f = four (drop 12 f)
-
 unfoldable pub runs-in : List ℕ → List Run
-runs-in f = records 10 run-in (run-count f) (drop 16 f)
+runs-in f = records run-size run-in (head-in f .runs) (drop head-size f)
 
 unfoldable pub starts-in : List ℕ → List Start
-starts-in f = records 8 start-in (start-count f) (drop (16 + 10 * run-count f) f)
+starts-in f = records start-size start-in (head-in f .starts) (drop (runs-end (head-in f .runs)) f)
 
 unfoldable pub held : List ℕ → Board
-held f = record {
-  wide = width-in f;
-  high = height-in f;
-  slow = painted (ground-in f) 0 (width-in f * height-in f) (runs-in f);
-  starts = starts-in f;
-}
+held f =
+    let x = head-in f in
+    board-of (x .width) (x .height) (painted (x .ground) 0 (x .width * x .height) (runs-in f)) (starts-in f)
 
--- REFUSALS of a file: 0, or the lowest number with a cause
+-- WHY A FILE IS REFUSED: the causes in the table's order
 unfoldable pub ticks-good : ℕ → Bool
 ticks-good t = leb 1 t && leb t 65535
 
-unfoldable pub sides-good : (width height : ℕ) → Bool
-sides-good w h = side-good w && side-good h
-
 unfoldable pub length-good : List ℕ → Bool
-length-good f = leb 16 (length f) && eqb (length f) (16 + 10 * run-count f + 8 * start-count f)
+length-good f = leb head-size (length f) && eqb (length f) (file-size (head-in f .runs) (head-in f .starts))
 
 -- 1, 2, 3: length, sides, ticks
-unfoldable pub head-refusal : List ℕ → ℕ
+unfoldable pub head-refusal : List ℕ → Refusal
 head-refusal f =
-    cond (not (length-good f)) 1 (cond (not (sides-good (width-in f) (height-in f))) 2 (cond (not (ticks-good (ticks-in f))) 3 0))
+    let x = head-in f in
+    cond (not (length-good f)) (cause 1) (cond (not (sides-good (x .width) (x .height))) (cause 2) (cond (not (ticks-good (x .ticks))) (cause 3) none))
 
 -- 5, 6: the ground's and all runs' slownesses, then the rules of runs
-unfoldable pub runs-refusal : List ℕ → ℕ
+unfoldable pub runs-refusal : List ℕ → Refusal
 runs-refusal f =
-    cond (any-above 4095 (ground-in f ∷ map (λ x. x .slow) (runs-in f))) 5
-    (cond (not (runs-good (size (held f)) (ground-in f) 0 (ground-in f) (runs-in f))) 6 0)
+    let g = head-in f .ground in
+    cond (any-above 4095 (g ∷ map (λ x. x .slow) (runs-in f))) (cause 5)
+    (cond (not (runs-good (size (held f)) g 0 g (runs-in f))) (cause 6) none)
 
 -- 7, 8, 9 are those of the board that it holds
-unfoldable pub file-refusal : List ℕ → ℕ
+unfoldable pub file-refusal : List ℕ → Refusal
 file-refusal f = or-else (head-refusal f) (or-else (runs-refusal f) (starts-refusal (held f)))

@@ -1,16 +1,15 @@
--- What is promised of the scenario file and of turns. Each statement is a type; proofs/Promises.antt has their proofs. Assumes nothing: these are definitions.
+-- What is promised of the scenario file and of turns. Each statement is a type; proofs/Promises.antt has their proofs.
 use mathlib.Core.Path.{_≡_}
 use mathlib.Core.Bool.{true}
 use mathlib.Core.List.{List, _++_}
 use Prim.Native.Nat.{ℕ, _+_, _*_, _≤_, _<_}
 use lib.ListN.{length, take, drop}
 use Rattle.eikonal.specs.Board.{Board, largest}
-use Rattle.eikonal.specs.Refusals.{board-refusal}
+use Rattle.eikonal.specs.Refusals.{board-refusal, by-lists}
 use Rattle.eikonal.specs.Ledger.{answer}
-use Rattle.eikonal.specs.Entry.{plain}
 use Rattle.eikonal.specs.declared.Reply.{Reply}
 use Rattle.scenario.specs.Bytes.{Bytes}
-use Rattle.scenario.specs.File.{file-of, held, width-in, height-in, ticks-in, ground-in, ticks-good, file-refusal}
+use Rattle.scenario.specs.File.{file-of, head-in, held, ticks-good, file-refusal}
 use Rattle.scenario.specs.Calls.{Reads, Writes, scenario}
 use Rattle.scenario.specs.Turns.{turn-of, to-go}
 use Rattle.scenario.specs.declared.Scenario.{Scenario}
@@ -18,37 +17,37 @@ use Rattle.scenario.specs.declared.Scenario.{Scenario}
 -- EVERY ACCEPTED FILE is the file of what it holds
 unfoldable pub Accepted-is-file-of : Type 0
 Accepted-is-file-of =
-    (f : List ℕ) → Bytes f → file-refusal f ≡ 0 →
-    f ≡ file-of (width-in f) (height-in f) (ticks-in f) (ground-in f) (held f .slow) (held f .starts)
+    (f : List ℕ) → Bytes f → file-refusal f .number ≡ 0 → f ≡ file-of (head-in f .ticks) (head-in f .ground) (held f)
 
 -- so a board, its ticks and its ground have one file
 unfoldable pub One-file : Type 0
 One-file =
-    (e f : List ℕ) → Bytes e → Bytes f → file-refusal e ≡ 0 → file-refusal f ≡ 0 →
-    held e ≡ held f → ticks-in e ≡ ticks-in f → ground-in e ≡ ground-in f → e ≡ f
+    (e f : List ℕ) → Bytes e → Bytes f → file-refusal e .number ≡ 0 → file-refusal f .number ≡ 0 →
+    held e ≡ held f → head-in e .ticks ≡ head-in f .ticks → head-in e .ground ≡ head-in f .ground → e ≡ f
 
 -- THE FILE OF A GOOD BOARD is accepted, and holds that board
 unfoldable pub File-of-is-accepted : Type 0
 File-of-is-accepted =
-    (b : Board) (t g : ℕ) (f : List ℕ) → board-refusal b ≡ 0 → ticks-good t ≡ true → g ≤ 4095 →
-    f ≡ file-of (b .wide) (b .high) t g (b .slow) (b .starts) →
-    (file-refusal f ≡ 0) × (held f ≡ b) × (ticks-in f ≡ t) × (ground-in f ≡ g)
+    (b : Board) (t g : ℕ) (f : List ℕ) → board-refusal b .number ≡ 0 → ticks-good t ≡ true → g ≤ 4095 →
+    f ≡ file-of t g b → (file-refusal f .number ≡ 0) × (held f ≡ b) × (head-in f .ticks ≡ t) × (head-in f .ground ≡ g)
 
 -- READ, THEN WRITTEN with the same ground, an accepted file has the same bytes. The lists that were lent may be longer than needed
 unfoldable pub Read-then-write : Type 0
 Read-then-write =
     (f slow slow-now cells cells-now begins begins-now : List ℕ) (x : Scenario) (out out-now : List ℕ) (y : Reply) → Bytes f →
     Reads f slow slow-now cells cells-now begins begins-now x → x .number ≡ 0 →
-    Writes (plain (x .width) (x .height) (take (x .width * x .height) slow-now) (take (x .starts) cells-now) (take (x .starts) begins-now)) (x .ticks) (x .ground) out out-now y →
+    Writes (by-lists (x .width) (x .height) (take (x .width * x .height) slow-now) (take (x .starts) cells-now) (take (x .starts) begins-now))
+    (x .ticks) (x .ground) out out-now y →
     length f ≤ length out → (y ≡ answer 0 (length f)) × (out-now ≡ f ++ drop (length f) out)
 
 -- WRITTEN, THEN READ into lists that are long enough, a board is the same board
 unfoldable pub Write-then-read : Type 0
 Write-then-read =
     (w h t g : ℕ) (slow cells begins out out-now : List ℕ) (y : Reply) (s s-now c c-now b b-now : List ℕ) (x : Scenario) →
-    Writes (plain w h slow cells begins) t g out out-now y → y .number ≡ 0 → Reads (take (y .count) out-now) s s-now c c-now b b-now x →
+    Writes (by-lists w h slow cells begins) t g out out-now y → y .number ≡ 0 → Reads (take (y .count) out-now) s s-now c c-now b b-now x →
     length slow ≤ length s → length cells ≤ length c → length cells ≤ length b →
-    (x ≡ scenario 0 w h t g (length cells)) × (s-now ≡ slow ++ drop (length slow) s) × (c-now ≡ cells ++ drop (length cells) c) × (b-now ≡ begins ++ drop (length begins) b)
+    (x ≡ scenario 0 w h t g (length cells)) × (s-now ≡ slow ++ drop (length slow) s)
+    × (c-now ≡ cells ++ drop (length cells) c) × (b-now ≡ begins ++ drop (length begins) b)
 
 -- THE TURN OF A TIME that is not never closes then, or less than a turn later: turn × ticks is exactly the time and the ticks to go
 unfoldable pub Turn-closes : Type 0

@@ -44,14 +44,6 @@ pub fn put_four(out: &mut [u8], at: usize, x: u32)
     put_two(out, at + 2, x / 65536);
 }
 
-pub fn put_pair(out: &mut [u8], at: usize, x: u32, y: u32)
-    requires { ⌜ at + 4 ≤ length (now out) ⌝ }
-    ensures { λ r. ⌜ take (at + 4) (now (out .exit)) ≡ take at (now (out .entry)) ++ (two-bytes x ++ two-bytes y) ⌝ }
-{
-    put_two(out, at, x);
-    put_two(out, at + 2, y);
-}
-
 pub fn put_wide_pair(out: &mut [u8], at: usize, x: u32, y: u32)
     requires { ⌜ at + 8 ≤ length (now out) ⌝ }
     ensures { λ r. ⌜ take (at + 8) (now (out .exit)) ≡ take at (now (out .entry)) ++ (four-bytes x ++ four-bytes y) ⌝ }

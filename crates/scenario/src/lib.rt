@@ -1,10 +1,15 @@
 // The scenario file: its format, with numbers and runs as bytes; and turn numbers.
 pub mod bytes;
+pub mod heads;
 pub mod runs;
+pub mod starts;
 
 ghost use mathlib.Core.Path.{_≡_};
-ghost use Rattle.scenario.specs.File.{sides-good, ticks-good};
+ghost use Rattle.eikonal.specs.Refusals.{sides-good};
+ghost use Rattle.scenario.specs.File.{ticks-good};
 ghost use Rattle.scenario.specs.Turns.{turn-reply, Turn-says};
+use eikonal::arrival::LARGEST;
+use eikonal::arrival::NEVER;
 use eikonal::refusals::side_good;
 
 // What a file holds besides its lists: number 0 and the rest, or a refusal's number and zeros.
@@ -26,14 +31,29 @@ pub struct TurnReply {
     pub to_go: u32,
 }
 
+// How many bytes a head, a run and a start have.
+pub const HEAD: usize = 16;
+
+pub const RUN: usize = 10;
+
+pub const START: usize = 8;
+
+// The numbers that a file begins with: sides, ticks per turn, the ground's slowness, how many runs and starts follow.
+pub struct Head {
+    pub width: u32,
+    pub height: u32,
+    pub ticks: u32,
+    pub ground: u32,
+    pub runs: u32,
+    pub starts: u32,
+}
+
 // So many cells from an offset on, with one slowness.
 pub struct Run {
     pub offset: u32,
     pub long: u32,
     pub slow: u32,
 }
-
-const NEVER: u32 = 4294967295;
 
 pub fn sides_good(width: u32, height: u32) -> bool
     ensures { λ r. ⌜ r ≡ sides-good width height ⌝ }
@@ -70,7 +90,7 @@ pub fn turn(time: u32, ticks: u32) -> TurnReply
     if !ticks_good(ticks) {
         return turn_reply(3, 0, 0);
     }
-    if time > 300000000 {
+    if time > LARGEST {
         return turn_reply(0, NEVER, 0);
     }
     let turn = (time + ticks - 1) / ticks;

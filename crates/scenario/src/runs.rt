@@ -1,15 +1,19 @@
 // The runs in a file, judged before anything is written.
 ghost use mathlib.Core.Path.{_≡_};
-ghost use mathlib.Core.List.{map};
-ghost use Prim.Native.Nat.{_+_, _*_, _≤_};
-ghost use lib.ListN.{length, drop};
+ghost use mathlib.Core.List.{_++_, map};
+ghost use Prim.Native.Nat.{_+_, _≤_};
+ghost use lib.ListN.{length, take, drop};
 ghost use Rattle.eikonal.specs.Refusals.{any-above};
 ghost use Rattle.scenario.specs.Bytes.{records};
 ghost use Rattle.scenario.specs.Runs.{run-good, runs-good};
-ghost use Rattle.scenario.specs.File.{run-in};
+ghost use Rattle.scenario.specs.File.{head-size, run-size, runs-end, run-bytes, run-in};
 ghost use Rattle.scenario.specs.Inner.Walk.{runs-onward, past, near};
+use super::HEAD;
+use super::RUN;
 use super::Run;
 use super::bytes::four_at;
+use super::bytes::put_two;
+use super::bytes::put_wide_pair;
 use super::bytes::two_at;
 
 pub fn wide(x: u32) -> usize
@@ -26,7 +30,7 @@ pub fn run_end(x: Run) -> usize
 }
 
 pub fn run_at(file: &[u8], at: usize) -> Run
-    requires { ⌜ at + 10 ≤ length (now file) ⌝ }
+    requires { ⌜ at + run-size ≤ length (now file) ⌝ }
     ensures { λ r. ⌜ r ≡ run-in (drop at (now (file .entry))) ⌝ }
 {
     Run {
@@ -34,6 +38,15 @@ pub fn run_at(file: &[u8], at: usize) -> Run
         long: four_at(file, at + 4),
         slow: two_at(file, at + 8),
     }
+}
+
+// The bytes in front of the run stay.
+pub fn put_run(out: &mut [u8], at: usize, x: Run)
+    requires { ⌜ at + run-size ≤ length (now out) ⌝ }
+    ensures { λ r. ⌜ take (at + run-size) (now (out .exit)) ≡ take at (now (out .entry)) ++ run-bytes x ⌝ }
+{
+    put_wide_pair(out, at, x.offset, x.long);
+    put_two(out, at + 8, x.slow);
 }
 
 // The rules of a run, where cells are free from one on, and the run that ends there has a slowness.
@@ -61,12 +74,12 @@ fn run_good(n: usize, ground: u32, free: usize, last: u32, x: Run) -> bool
 
 // Whether a run has a slowness above 4,095.
 pub fn any_steep(file: &[u8], count: usize) -> bool
-    requires { ⌜ 16 + 10 * count ≤ length (now file) ⌝ }
-    ensures { λ r. ⌜ r ≡ any-above 4095 (map (λ x. x .slow) (records 10 run-in count (drop 16 (now (file .entry))))) ⌝ }
+    requires { ⌜ runs-end count ≤ length (now file) ⌝ }
+    ensures { λ r. ⌜ r ≡ any-above 4095 (map (λ x. x .slow) (records run-size run-in count (drop head-size (now (file .entry))))) ⌝ }
 {
     let mut i = 0;
     while i < count {
-        let x = run_at(file, 16 + 10 * i);
+        let x = run_at(file, HEAD + RUN * i);
         if x.slow > 4095 {
             return true;
         }
@@ -76,14 +89,14 @@ pub fn any_steep(file: &[u8], count: usize) -> bool
 }
 
 pub fn runs_good(file: &[u8], count: usize, n: usize, ground: u32) -> bool
-    requires { ⌜ 16 + 10 * count ≤ length (now file) ⌝ }
-    ensures { λ r. ⌜ r ≡ runs-good n ground 0 ground (records 10 run-in count (drop 16 (now (file .entry)))) ⌝ }
+    requires { ⌜ runs-end count ≤ length (now file) ⌝ }
+    ensures { λ r. ⌜ r ≡ runs-good n ground 0 ground (records run-size run-in count (drop head-size (now (file .entry)))) ⌝ }
 {
     let mut free = 0;
     let mut last = ground;
     let mut i = 0;
     while i < count {
-        let x = run_at(file, 16 + 10 * i);
+        let x = run_at(file, HEAD + RUN * i);
         if !run_good(n, ground, free, last, x) {
             return false;
         }
@@ -96,13 +109,13 @@ pub fn runs_good(file: &[u8], count: usize, n: usize, ground: u32) -> bool
 
 // The first run from the i-th on that ends behind a cell.
 pub fn pass(file: &[u8], count: usize, i: usize, cell: usize) -> usize
-    requires { ⌜ (16 + 10 * count ≤ length (now file)) × (i ≤ count) ⌝ }
+    requires { ⌜ (runs-end count ≤ length (now file)) × (i ≤ count) ⌝ }
     ensures most { λ r. ⌜ r ≤ count ⌝ }
     ensures is { λ r. ⌜ runs-onward (now (file .entry)) count r ≡ past cell (runs-onward (now (file .entry)) count i) ⌝ }
 {
     let mut k = i;
     while k < count {
-        if cell < run_end(run_at(file, 16 + 10 * k)) {
+        if cell < run_end(run_at(file, HEAD + RUN * k)) {
             return k;
         }
         k += 1;
@@ -112,11 +125,11 @@ pub fn pass(file: &[u8], count: usize, i: usize, cell: usize) -> usize
 
 // The slowness of a cell that lies in the i-th run or in front of it.
 pub fn slow_near(file: &[u8], count: usize, i: usize, cell: usize, ground: u32) -> u32
-    requires { ⌜ 16 + 10 * count ≤ length (now file) ⌝ }
+    requires { ⌜ runs-end count ≤ length (now file) ⌝ }
     ensures { λ r. ⌜ r ≡ near ground cell (runs-onward (now (file .entry)) count i) ⌝ }
 {
     if i < count {
-        let x = run_at(file, 16 + 10 * i);
+        let x = run_at(file, HEAD + RUN * i);
         if wide(x.offset) <= cell {
             return x.slow;
         }

@@ -1,15 +1,15 @@
--- A list of slownesses, painted run by run. Assumes nothing.
+-- A list of slownesses, painted run by run.
 use mathlib.Core.Path.{_≡_, refl, sym, ap, _∙_}
 use mathlib.Core.Bool.{true}
 use mathlib.Core.List.{List, _∷_, _++_, append-assoc}
-use Prim.Native.Nat.{ℕ, _+_, _*_, _-_, _≤_, _<_}
+use Prim.Native.Nat.{ℕ, _+_, _-_, _≤_, _<_}
 use native.Mathlib.Omega.{arith}
 use lib.ListN.{length, take, drop, replicate}
 use lib.Seq.{take-all}
 use Rattle.eikonal.proofs.Good.{and-true}
 use Rattle.scenario.specs.declared.Run.{Run}
 use Rattle.scenario.specs.Runs.{end, painted, run-good, runs-good}
-use Rattle.scenario.specs.File.{run-in}
+use Rattle.scenario.specs.File.{head-size, run-size, runs-end, run-in}
 use Rattle.scenario.specs.Inner.Walk.{runs-onward}
 use Rattle.scenario.proofs.Records.{onward-none}
 use Rattle.scenario.proofs.GoodRuns.{Fits, good-fits}
@@ -36,11 +36,12 @@ pub record Painting (f : List ℕ) (count g n : ℕ) (slow : List ℕ) (free i :
   pub good : runs-good n g free last (runs-onward f count i) ≡ true
   pub done : take free slow ++ painted g free n (runs-onward f count i) ≡ painted g 0 n (runs-onward f count 0)
 
-pub painting-none : (f : List ℕ) (count g n : ℕ) (slow : List ℕ) → length slow ≡ n → runs-good n g 0 g (runs-onward f count 0) ≡ true → Painting f count g n slow 0 0
+pub painting-none : (f : List ℕ) (count g n : ℕ) (slow : List ℕ) → length slow ≡ n → runs-good n g 0 g (runs-onward f count 0) ≡ true
+    → Painting f count g n slow 0 0
 painting-none f count g n slow l e = record { upto = omega arith; within = omega arith; long = l; last = g; good = e; done = refl }
 
 module _ {f : List ℕ} {count g n : ℕ} {slow : List ℕ} {free i : ℕ} (p : Painting f count g n slow free i) where
-  module _ (x : Run) (l : i < count) (e : x ≡ run-in (drop (16 + 10 * i) f)) where
+  module _ (x : Run) (l : i < count) (e : x ≡ run-in (drop (runs-end i) f)) where
     next : runs-onward f count i ≡ x ∷ runs-onward f count (i + 1)
     next = runs-next f count i x l e
 
@@ -51,7 +52,8 @@ module _ {f : List ℕ} {count g n : ℕ} {slow : List ℕ} {free i : ℕ} (p : 
     pub painting-fits : Fits n g free (p .last) x
     painting-fits = good-fits n g free (p .last) x (both .0)
 
-    next-painted : replicate (x .offset - free) g ++ (replicate (x .long) (x .slow) ++ painted g (x .offset + x .long) n (runs-onward f count (i + 1))) ≡ painted g free n (runs-onward f count i)
+    next-painted : replicate (x .offset - free) g ++ (replicate (x .long) (x .slow) ++ painted g (x .offset + x .long) n (runs-onward f count (i + 1)))
+        ≡ painted g free n (runs-onward f count i)
     unfolding painted end
     next-painted = ap (painted g free n) (sym next)
 
@@ -69,7 +71,9 @@ module _ {f : List ℕ} {count g n : ℕ} {slow : List ℕ} {free i : ℕ} (p : 
           ∙ ap (λ u. take free slow ++ u) (append-assoc (replicate (x .offset - free) g) _ _ ∙ next-painted) ∙ p .done;
     })
 
-  pub painting-end : count ≤ i → (now : List ℕ) → length now ≡ n → take n now ≡ take free slow ++ replicate (n - free) g → now ≡ painted g 0 n (runs-onward f count 0)
+  pub painting-end : count ≤ i → (now : List ℕ) → length now ≡ n → take n now ≡ take free slow ++ replicate (n - free) g
+      → now ≡ painted g 0 n (runs-onward f count 0)
   unfolding painted
   painting-end l now h q =
-      sym (take-all n now (omega arith)) ∙ q ∙ ap (λ u. take free slow ++ painted g free n u) (sym (onward-none 10 run-in f 16 count i l)) ∙ p .done
+      sym (take-all n now (omega arith)) ∙ q
+      ∙ ap (λ u. take free slow ++ painted g free n u) (sym (onward-none run-size run-in f head-size count i l)) ∙ p .done

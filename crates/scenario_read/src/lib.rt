@@ -4,61 +4,65 @@ pub mod paint;
 pub mod starts;
 
 ghost use mathlib.Core.Path.{_≡_};
-ghost use mathlib.Core.List.{map};
-ghost use Prim.Native.Nat.{_+_, _*_, _≤_, min};
+ghost use Prim.Native.Nat.{_+_, _*_, _≤_};
 ghost use lib.ListN.{length, drop};
 ghost use Rattle.eikonal.specs.Board.{size};
+ghost use Rattle.eikonal.specs.Refusals.{cells-of, begins-of};
 ghost use Rattle.scenario.specs.Bytes.{records};
-ghost use Rattle.scenario.specs.File.{held, start-in, start-count, starts-in, file-refusal};
+ghost use Rattle.scenario.specs.File.{start-size, held, start-in, start-count, starts-in, file-refusal};
 ghost use Rattle.scenario.specs.Calls.{filled, reader-refusal, reader-answer, Reads};
+use eikonal::refusals::shorter;
+use scenario::START;
 use scenario::Scenario;
-use scenario::bytes::four_at;
-
-fn shorter(a: usize, b: usize) -> usize
-    ensures { λ r. ⌜ r ≡ min a b ⌝ }
-{
-    if a < b { a } else { b }
-}
+use scenario::heads::board_size;
+use scenario::heads::head_of;
+use scenario::heads::starts_base;
+use scenario::runs::wide;
+use scenario::starts::start_at;
 
 // The starts from a place in the file on, as many as the lists hold.
 pub fn read_starts(file: &[u8], base: usize, cells: &mut [u32], begins: &mut [u32])
-    requires { ⌜ (base + 8 * length (now cells) ≤ length (now file)) × (length (now cells) ≡ length (now begins)) ⌝ }
-    ensures cells { λ r. ⌜ now (cells .exit) ≡ map (λ x. x .cell) (records 8 start-in (length (now (cells .entry))) (drop base (now (file .entry)))) ⌝ }
-    ensures begins { λ r. ⌜ now (begins .exit) ≡ map (λ x. x .time) (records 8 start-in (length (now (cells .entry))) (drop base (now (file .entry)))) ⌝ }
+    requires { ⌜ (base + start-size * length (now cells) ≤ length (now file)) × (length (now cells) ≡ length (now begins)) ⌝ }
+    ensures cells { λ r. ⌜ now (cells .exit) ≡ cells-of (records start-size start-in (length (now (cells .entry))) (drop base (now (file .entry)))) ⌝ }
+    ensures begins { λ r. ⌜ now (begins .exit) ≡ begins-of (records start-size start-in (length (now (cells .entry))) (drop base (now (file .entry)))) ⌝ }
 {
     let mut i = 0;
     while i < cells.len() {
-        let at = base + 8 * i;
-        cells[i] = four_at(file, at);
-        begins[i] = four_at(file, at + 4);
+        let start = start_at(file, base + START * i);
+        cells[i] = start.cell;
+        begins[i] = start.time;
         i += 1;
     }
 }
 
 // The slownesses of a file that was judged; later entries stay.
 pub fn fill_slow(file: &[u8], slow: &mut [u32])
-    requires { ⌜ (file-refusal (now file) ≡ 0) × (size (held (now file)) ≤ length (now slow)) ⌝ }
+    requires { ⌜ (file-refusal (now file) .number ≡ 0) × (size (held (now file)) ≤ length (now slow)) ⌝ }
     ensures { λ r. ⌜ now (slow .exit) ≡ filled 0 (held (now (file .entry)) .slow) (now (slow .entry)) ⌝ }
 {
-    let n = judge::board_size(file);
-    paint::read_slow(file, &mut slow[..n]);
+    let head = head_of(file);
+    let n = board_size(head);
+    paint::read_slow(file, head, &mut slow[..n]);
 }
 
 // Its starts; later entries stay.
 fn fill_starts(file: &[u8], cells: &mut [u32], begins: &mut [u32])
-    requires { ⌜ (file-refusal (now file) ≡ 0) × (start-count (now file) ≤ length (now cells)) × (start-count (now file) ≤ length (now begins)) ⌝ }
-    ensures cells { λ r. ⌜ now (cells .exit) ≡ filled 0 (map (λ x. x .cell) (starts-in (now (file .entry)))) (now (cells .entry)) ⌝ }
-    ensures begins { λ r. ⌜ now (begins .exit) ≡ filled 0 (map (λ x. x .time) (starts-in (now (file .entry)))) (now (begins .entry)) ⌝ }
+    requires file { ⌜ file-refusal (now file) .number ≡ 0 ⌝ }
+    requires room { ⌜ (start-count (now file) ≤ length (now cells)) × (start-count (now file) ≤ length (now begins)) ⌝ }
+    ensures cells { λ r. ⌜ now (cells .exit) ≡ filled 0 (cells-of (starts-in (now (file .entry)))) (now (cells .entry)) ⌝ }
+    ensures begins { λ r. ⌜ now (begins .exit) ≡ filled 0 (begins-of (starts-in (now (file .entry)))) (now (begins .entry)) ⌝ }
 {
-    let base = judge::starts_base(file);
-    let q = judge::start_count(file);
+    let head = head_of(file);
+    let base = starts_base(head);
+    let q = wide(head.starts);
     read_starts(file, base, &mut cells[..q], &mut begins[..q]);
 }
 
 // What the reader answers, where there is room for so many starts; the slownesses of an accepted file are filled in. A refused
 // one leaves the list as it was.
 pub fn read_ground(file: &[u8], slow: &mut [u32], starts: usize) -> Scenario
-    ensures { λ x. ⌜ (x ≡ reader-answer (reader-refusal (now (file .entry)) (length (now (slow .entry))) starts) (now (file .entry))) × (now (slow .exit) ≡ filled (x .number) (held (now (file .entry)) .slow) (now (slow .entry))) ⌝ }
+    ensures { λ x. ⌜ (x ≡ reader-answer (reader-refusal (now (file .entry)) (length (now (slow .entry))) starts) (now (file .entry)))
+        × (now (slow .exit) ≡ filled (x .number) (held (now (file .entry)) .slow) (now (slow .entry))) ⌝ }
 {
     let judged = judge::judge_scenario(file, slow.len(), starts);
     if judged.number != 0 {
@@ -76,7 +80,8 @@ pub fn read_scenario(
     cells: &mut [u32],
     begins: &mut [u32],
 ) -> Scenario
-    ensures { λ x. ⌜ Reads (now (file .entry)) (now (slow .entry)) (now (slow .exit)) (now (cells .entry)) (now (cells .exit)) (now (begins .entry)) (now (begins .exit)) x ⌝ }
+    ensures { λ x. ⌜ Reads (now (file .entry)) (now (slow .entry)) (now (slow .exit))
+        (now (cells .entry)) (now (cells .exit)) (now (begins .entry)) (now (begins .exit)) x ⌝ }
 {
     let answer = read_ground(file, slow, shorter(cells.len(), begins.len()));
     if answer.number != 0 {

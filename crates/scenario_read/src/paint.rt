@@ -2,13 +2,14 @@
 ghost use mathlib.Core.Path.{_≡_};
 ghost use mathlib.Core.Bool.{true};
 ghost use mathlib.Core.List.{_++_};
-ghost use Prim.Native.Nat.{_+_, _*_, _-_, _≤_};
+ghost use Prim.Native.Nat.{_+_, _-_, _≤_};
 ghost use lib.ListN.{length, take, replicate};
 ghost use Rattle.scenario.specs.Runs.{painted, runs-good};
-ghost use Rattle.scenario.specs.File.{ground-in, run-count, runs-in};
-use super::judge::run_count;
+ghost use Rattle.scenario.specs.File.{runs-end, head-in, runs-in};
+use scenario::HEAD;
+use scenario::Head;
+use scenario::RUN;
 use scenario::Run;
-use scenario::bytes::two_at;
 use scenario::runs::run_at;
 use scenario::runs::run_end;
 use scenario::runs::wide;
@@ -28,7 +29,8 @@ fn fill(slow: &mut [u32], from: usize, until: usize, x: u32)
 // Ground up to a run, and then the run.
 fn paint(slow: &mut [u32], from: usize, ground: u32, x: Run)
     requires { ⌜ (from ≤ x .offset) × (x .offset + x .long ≤ length (now slow)) ⌝ }
-    ensures { λ r. ⌜ take (x .offset + x .long) (now (slow .exit)) ≡ take from (now (slow .entry)) ++ (replicate (x .offset - from) ground ++ replicate (x .long) (x .slow)) ⌝ }
+    ensures { λ r. ⌜ take (x .offset + x .long) (now (slow .exit))
+        ≡ take from (now (slow .entry)) ++ (replicate (x .offset - from) ground ++ replicate (x .long) (x .slow)) ⌝ }
 {
     let offset = wide(x.offset);
     fill(slow, from, offset, ground);
@@ -36,16 +38,17 @@ fn paint(slow: &mut [u32], from: usize, ground: u32, x: Run)
 }
 
 // A list as long as the board has cells.
-pub fn read_slow(file: &[u8], slow: &mut [u32])
-    requires { ⌜ (16 + 10 * run-count (now file) ≤ length (now file)) × (runs-good (length (now slow)) (ground-in (now file)) 0 (ground-in (now file)) (runs-in (now file)) ≡ true) ⌝ }
-    ensures { λ r. ⌜ now (slow .exit) ≡ painted (ground-in (now (file .entry))) 0 (length (now (slow .entry))) (runs-in (now (file .entry))) ⌝ }
+pub fn read_slow(file: &[u8], head: Head, slow: &mut [u32])
+    requires head { ⌜ («head» ≡ head-in (now file)) × (runs-end («head» .runs) ≤ length (now file)) ⌝ }
+    requires runs { ⌜ runs-good (length (now slow)) («head» .ground) 0 («head» .ground) (runs-in (now file)) ≡ true ⌝ }
+    ensures { λ r. ⌜ now (slow .exit) ≡ painted («head» .ground) 0 (length (now (slow .entry))) (runs-in (now (file .entry))) ⌝ }
 {
-    let ground = two_at(file, 6);
-    let count = run_count(file);
+    let ground = head.ground;
+    let count = wide(head.runs);
     let mut free = 0;
     let mut i = 0;
     while i < count {
-        let x = run_at(file, 16 + 10 * i);
+        let x = run_at(file, HEAD + RUN * i);
         paint(slow, free, ground, x);
         free = run_end(x);
         i += 1;

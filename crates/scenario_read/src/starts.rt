@@ -6,22 +6,23 @@ ghost use lib.ListN.{length, drop};
 ghost use Rattle.eikonal.specs.Board.{size};
 ghost use Rattle.eikonal.specs.Refusals.{starts-rise, late};
 ghost use Rattle.scenario.specs.Bytes.{records};
-ghost use Rattle.scenario.specs.File.{run-in, start-in, held};
+ghost use Rattle.scenario.specs.File.{head-size, run-size, start-size, runs-end, run-in, start-in, held};
 ghost use Rattle.scenario.specs.Inner.Walk.{wall-among};
-use scenario::bytes::four_at;
+use scenario::START;
 use scenario::runs::pass;
 use scenario::runs::slow_near;
 use scenario::runs::wide;
+use scenario::starts::start_at;
 
 // Whether the cells lie on a board of n cells, each above the one before.
 pub fn starts_rise(file: &[u8], base: usize, count: usize, n: usize) -> bool
-    requires { ⌜ base + 8 * count ≤ length (now file) ⌝ }
-    ensures { λ r. ⌜ r ≡ starts-rise n 0 (records 8 start-in count (drop base (now (file .entry)))) ⌝ }
+    requires { ⌜ base + start-size * count ≤ length (now file) ⌝ }
+    ensures { λ r. ⌜ r ≡ starts-rise n 0 (records start-size start-in count (drop base (now (file .entry)))) ⌝ }
 {
     let mut least = 0;
     let mut i = 0;
     while i < count {
-        let cell = wide(four_at(file, base + 8 * i));
+        let cell = wide(start_at(file, base + START * i).cell);
         if cell < least {
             return false;
         }
@@ -36,12 +37,12 @@ pub fn starts_rise(file: &[u8], base: usize, count: usize, n: usize) -> bool
 
 // Whether a start has a time above 1,000,000.
 pub fn starts_late(file: &[u8], base: usize, count: usize) -> bool
-    requires { ⌜ base + 8 * count ≤ length (now file) ⌝ }
-    ensures { λ r. ⌜ r ≡ late (records 8 start-in count (drop base (now (file .entry)))) ⌝ }
+    requires { ⌜ base + start-size * count ≤ length (now file) ⌝ }
+    ensures { λ r. ⌜ r ≡ late (records start-size start-in count (drop base (now (file .entry)))) ⌝ }
 {
     let mut i = 0;
     while i < count {
-        if four_at(file, base + 8 * i + 4) > 1000000 {
+        if start_at(file, base + START * i).time > 1000000 {
             return true;
         }
         i += 1;
@@ -51,13 +52,15 @@ pub fn starts_late(file: &[u8], base: usize, count: usize) -> bool
 
 // Whether a start lies on a wall. Starts and runs both rise by cell: one walk over both finds the run of each start.
 pub fn starts_on_wall(file: &[u8], runs: usize, base: usize, count: usize, ground: u32) -> bool
-    requires { ⌜ (16 + 10 * runs ≤ length (now file)) × (base + 8 * count ≤ length (now file)) × (starts-rise (size (held (now file))) 0 (records 8 start-in count (drop base (now file))) ≡ true) ⌝ }
-    ensures { λ r. ⌜ r ≡ wall-among ground (records 10 run-in runs (drop 16 (now (file .entry)))) (records 8 start-in count (drop base (now (file .entry)))) ⌝ }
+    requires room { ⌜ (runs-end runs ≤ length (now file)) × (base + start-size * count ≤ length (now file)) ⌝ }
+    requires rise { ⌜ starts-rise (size (held (now file))) 0 (records start-size start-in count (drop base (now file))) ≡ true ⌝ }
+    ensures { λ r. ⌜ r ≡ wall-among ground (records run-size run-in runs (drop head-size (now (file .entry))))
+        (records start-size start-in count (drop base (now (file .entry)))) ⌝ }
 {
     let mut run = 0;
     let mut i = 0;
     while i < count {
-        let cell = wide(four_at(file, base + 8 * i));
+        let cell = wide(start_at(file, base + START * i).cell);
         run = pass(file, runs, run, cell);
         if slow_near(file, runs, run, cell, ground) == 0 {
             return true;

@@ -1,4 +1,4 @@
--- A board scanned stretch by stretch: where one ends, and what it adds to the runs and their bytes. Assumes nothing.
+-- A board scanned stretch by stretch: where one ends, and what it adds to the runs and their bytes.
 use mathlib.Core.Path.{_≡_, refl, sym, ap, _∙_}
 use mathlib.Core.Bool.{Bool, true, false, cond}
 use mathlib.Core.List.{List, [], _∷_, _++_}
@@ -74,5 +74,6 @@ one-at-most false = omega arith
 pub closed-length : (g a i z : ℕ) (xs ys : List Run) → ys ≡ closed g a i z xs → length ys ≡ length (closed g a i z []) + length xs
 closed-length g a i z xs ys e = ap length (e ∙ closed-append g a i z xs) ∙ length-append (closed g a i z []) xs
 
-pub closed-bytes : (g a i z : ℕ) (xs ys : List Run) → ys ≡ closed g a i z xs → bytes-of run-bytes ys ≡ bytes-of run-bytes (closed g a i z []) ++ bytes-of run-bytes xs
+pub closed-bytes : (g a i z : ℕ) (xs ys : List Run) → ys ≡ closed g a i z xs
+    → bytes-of run-bytes ys ≡ bytes-of run-bytes (closed g a i z []) ++ bytes-of run-bytes xs
 closed-bytes g a i z xs ys e = ap (bytes-of run-bytes) (e ∙ closed-append g a i z xs) ∙ bytes-append run-bytes (closed g a i z []) xs

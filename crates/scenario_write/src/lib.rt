@@ -2,16 +2,17 @@
 pub mod given;
 pub mod write;
 
-ghost use mathlib.Core.Path.{_≡_};
-ghost use Prim.Native.Nat.{_≤_};
-ghost use lib.ListN.{length};
-ghost use Rattle.eikonal.specs.Entry.{plain};
+ghost use Rattle.eikonal.specs.Refusals.{by-lists};
 ghost use Rattle.scenario.specs.Calls.{Writes};
-ghost use Rattle.scenario.specs.Inner.Begin.{Begins};
+ghost use Rattle.scenario.specs.Inner.Begin.{Judging, Begins};
 use eikonal::Reply;
 use eikonal::refusals::Judged;
 use eikonal::refusals::judge_starts;
+use eikonal::refusals::judged_refusal;
 use eikonal::refusals::nothing_judged;
+use scenario::START;
+use scenario::heads::file_length;
+use scenario::heads::starts_base;
 
 // Writes all but the starts, which are so many and judged already, and answers the whole file's length. A refused call
 // leaves the bytes as they were.
@@ -26,32 +27,24 @@ pub fn begin_file(
     judged: Judged,
     out: &mut [u8],
 ) -> Reply
-    requires { ⌜ («judged» .number ≡ 0 → cells ≡ begins → cells ≤ length (now slow)) ⌝ }
+    requires { ⌜ Judging (now slow) cells begins «judged» ⌝ }
     ensures { λ x. ⌜ Begins width height ticks ground (now (slow .entry)) cells begins «judged» (now (out .entry)) (now (out .exit)) x ⌝ }
 {
     let given = given::given_refusal(width, height, ticks, ground, slow, cells, begins);
-    if given != 0 {
+    if given.number != 0 {
         return eikonal::refused(given);
     }
-    if judged.number != 0 {
-        return eikonal::refused(judged.number);
+    let starts = judged_refusal(judged);
+    if starts.number != 0 {
+        return eikonal::refused(starts);
     }
-    let runs = write::count_runs(slow, ground);
-    let at = 16 + 10 * runs;
-    let need = at + 8 * cells;
+    let head = write::head_for(width, height, ticks, ground, slow, cells);
+    let at = starts_base(head);
+    let need = file_length(head);
     if out.len() < need {
-        return eikonal::refused(14);
+        return eikonal::refused(eikonal::cause(14));
     }
-    write::write_front(
-        &mut out[..at],
-        width,
-        height,
-        ticks,
-        ground,
-        runs,
-        slow,
-        cells,
-    );
+    write::write_front(&mut out[..at], head, slow);
     Reply {
         number: 0,
         count: need as u32,
@@ -69,7 +62,8 @@ pub fn write_scenario(
     begins: &[u32],
     out: &mut [u8],
 ) -> Reply
-    ensures { λ x. ⌜ Writes (plain width height (now (slow .entry)) (now (cells .entry)) (now (begins .entry))) ticks ground (now (out .entry)) (now (out .exit)) x ⌝ }
+    ensures { λ x. ⌜ Writes (by-lists width height (now (slow .entry)) (now (cells .entry)) (now (begins .entry))) ticks ground
+        (now (out .entry)) (now (out .exit)) x ⌝ }
 {
     let judged = judge_starts(slow, cells, begins, nothing_judged());
     let reply = begin_file(
@@ -86,7 +80,7 @@ pub fn write_scenario(
     if reply.number != 0 {
         return reply;
     }
-    let at = reply.count as usize - 8 * cells.len();
+    let at = reply.count as usize - START * cells.len();
     write::put_starts(out, at, cells, begins);
     reply
 }

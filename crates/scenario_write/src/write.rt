@@ -8,18 +8,22 @@ ghost use lib.ListN.{length, take, drop, getD};
 ghost use Rattle.eikonal.specs.Refusals.{starts-of};
 ghost use Rattle.scenario.specs.Bytes.{bytes-of};
 ghost use Rattle.scenario.specs.Runs.{closed, runs-on, runs-of};
-ghost use Rattle.scenario.specs.File.{run-bytes, start-bytes, head-bytes};
-ghost use Rattle.scenario.specs.Inner.Begin.{front};
+ghost use Rattle.scenario.specs.File.{head-size, run-size, start-size, runs-end, run-bytes, start-bytes, head-of, front};
+use scenario::HEAD;
+use scenario::Head;
+use scenario::RUN;
 use scenario::Run;
-use scenario::bytes::put_pair;
-use scenario::bytes::put_two;
+use scenario::START;
 use scenario::bytes::put_wide_pair;
+use scenario::heads::put_head;
+use scenario::runs::put_run;
 
 // Where the stretch of equal slowness ends that begins at a cell.
 fn stretch_end(slow: &[u32], from: usize) -> usize
     requires { ⌜ from < length (now slow) ⌝ }
     ensures bounds { λ r. ⌜ (from < r) × (r ≤ length (now (slow .entry))) ⌝ }
-    ensures is { λ r. ⌜ ((g : ℕ) → runs-on g from from g (drop from (now (slow .entry))) ≡ closed g from r (getD (now (slow .entry)) from 0) (runs-on g r r g (drop r (now (slow .entry))))) ⌝ }
+    ensures is { λ r. ⌜ ((g : ℕ) → runs-on g from from g (drop from (now (slow .entry)))
+        ≡ closed g from r (getD (now (slow .entry)) from 0) (runs-on g r r g (drop r (now (slow .entry))))) ⌝ }
 {
     let x = slow[from];
     let mut i = from + 1;
@@ -50,18 +54,10 @@ pub fn count_runs(slow: &[u32], ground: u32) -> usize
     count
 }
 
-fn put_run(out: &mut [u8], at: usize, x: Run)
-    requires { ⌜ at + 10 ≤ length (now out) ⌝ }
-    ensures { λ r. ⌜ take (at + 10) (now (out .exit)) ≡ take at (now (out .entry)) ++ run-bytes x ⌝ }
-{
-    put_wide_pair(out, at, x.offset, x.long);
-    put_two(out, at + 8, x.slow);
-}
-
 // A stretch from a cell up to another is a run, unless it is ground. Answers the next place.
 fn put_stretch(out: &mut [u8], at: usize, from: usize, until: usize, x: u32, ground: u32) -> usize
-    requires { ⌜ (at + 10 * length (closed ground from until x []) ≤ length (now out)) × (from ≤ until) × (until < 4294967296) ⌝ }
-    ensures at { λ r. ⌜ r ≡ at + 10 * length (closed ground from until x []) ⌝ }
+    requires { ⌜ (at + run-size * length (closed ground from until x []) ≤ length (now out)) × (from ≤ until) × (until < 4294967296) ⌝ }
+    ensures at { λ r. ⌜ r ≡ at + run-size * length (closed ground from until x []) ⌝ }
     ensures is { λ r. ⌜ take r (now (out .exit)) ≡ take at (now (out .entry)) ++ bytes-of run-bytes (closed ground from until x []) ⌝ }
 {
     if x == ground {
@@ -73,15 +69,16 @@ fn put_stretch(out: &mut [u8], at: usize, from: usize, until: usize, x: u32, gro
         slow: x,
     };
     put_run(out, at, run);
-    at + 10
+    at + RUN
 }
 
-// The runs behind the first 16 bytes.
+// The runs behind the head.
 pub fn write_runs(out: &mut [u8], slow: &[u32], ground: u32)
-    requires { ⌜ (16 + 10 * length (runs-of ground (now slow)) ≤ length (now out)) × (length (now slow) ≤ 65536) ⌝ }
-    ensures { λ r. ⌜ take (16 + 10 * length (runs-of ground (now (slow .entry)))) (now (out .exit)) ≡ take 16 (now (out .entry)) ++ bytes-of run-bytes (runs-of ground (now (slow .entry))) ⌝ }
+    requires { ⌜ (runs-end (length (runs-of ground (now slow))) ≤ length (now out)) × (length (now slow) ≤ 65536) ⌝ }
+    ensures { λ r. ⌜ (let rs = runs-of ground (now (slow .entry)) in
+        take (runs-end (length rs)) (now (out .exit)) ≡ take head-size (now (out .entry)) ++ bytes-of run-bytes rs) ⌝ }
 {
-    let mut at = 16;
+    let mut at = HEAD;
     let mut i = 0;
     while i < slow.len() {
         let until = stretch_end(slow, i);
@@ -90,66 +87,57 @@ pub fn write_runs(out: &mut [u8], slow: &[u32], ground: u32)
     }
 }
 
-pub fn write_head(
-    out: &mut [u8],
-    width: u32,
-    height: u32,
-    ticks: u32,
-    ground: u32,
-    runs: u32,
-    starts: u32,
-)
-    requires { ⌜ 16 ≤ length (now out) ⌝ }
-    ensures { λ r. ⌜ take 16 (now (out .exit)) ≡ head-bytes width height ticks ground runs starts ⌝ }
-{
-    put_pair(out, 0, width, height);
-    put_pair(out, 4, ticks, ground);
-    put_wide_pair(out, 8, runs, starts);
-}
-
 // The starts of a part of the lists, from a place on.
 fn write_starts(out: &mut [u8], at: usize, cells: &[u32], begins: &[u32])
-    requires { ⌜ (at + 8 * length (now cells) ≤ length (now out)) × (length (now cells) ≡ length (now begins)) ⌝ }
-    ensures { λ r. ⌜ take (at + 8 * length (now (cells .entry))) (now (out .exit)) ≡ take at (now (out .entry)) ++ bytes-of start-bytes (starts-of (now (cells .entry)) (now (begins .entry))) ⌝ }
+    requires { ⌜ (at + start-size * length (now cells) ≤ length (now out)) × (length (now cells) ≡ length (now begins)) ⌝ }
+    ensures { λ r. ⌜ take (at + start-size * length (now (cells .entry))) (now (out .exit))
+        ≡ take at (now (out .entry)) ++ bytes-of start-bytes (starts-of (now (cells .entry)) (now (begins .entry))) ⌝ }
 {
     let mut i = 0;
     while i < cells.len() {
-        put_wide_pair(out, at + 8 * i, cells[i], begins[i]);
+        put_wide_pair(out, at + START * i, cells[i], begins[i]);
         i += 1;
     }
 }
 
-// A list that ends where the starts begin: the numbers in front, the runs.
-pub fn write_front(
-    out: &mut [u8],
+// The head of a board with so many starts.
+pub fn head_for(
     width: u32,
     height: u32,
     ticks: u32,
     ground: u32,
-    runs: usize,
     slow: &[u32],
     starts: usize,
-)
-    requires { ⌜ (length (now out) ≡ 16 + 10 * runs) × (runs ≡ length (runs-of ground (now slow))) × (length (now slow) ≤ 65536) × (starts ≤ 65536) ⌝ }
-    ensures { λ r. ⌜ now (out .exit) ≡ front width height ticks ground (now (slow .entry)) starts ⌝ }
+) -> Head
+    requires { ⌜ (length (now slow) ≤ 65536) × (starts ≤ 65536) ⌝ }
+    ensures { λ r. ⌜ r ≡ head-of width height ticks ground (now (slow .entry)) starts ⌝ }
 {
-    write_head(
-        out,
-        width,
-        height,
-        ticks,
-        ground,
-        runs as u32,
-        starts as u32,
-    );
-    write_runs(out, slow, ground);
+    Head {
+        width: width,
+        height: height,
+        ticks: ticks,
+        ground: ground,
+        runs: count_runs(slow, ground) as u32,
+        starts: starts as u32,
+    }
+}
+
+// A list that ends where the starts begin: the head, the runs.
+pub fn write_front(out: &mut [u8], head: Head, slow: &[u32])
+    requires out { ⌜ length (now out) ≡ runs-end («head» .runs) ⌝ }
+    requires slow { ⌜ («head» .runs ≡ length (runs-of («head» .ground) (now slow))) × (length (now slow) ≤ 65536) ⌝ }
+    ensures { λ r. ⌜ now (out .exit) ≡ front «head» (now (slow .entry)) ⌝ }
+{
+    put_head(out, head);
+    write_runs(out, slow, head.ground);
 }
 
 // The starts of a part of the lists, from a place on; all other bytes stay.
 pub fn put_starts(out: &mut [u8], at: usize, cells: &[u32], begins: &[u32])
-    requires { ⌜ (at + 8 * length (now cells) ≤ length (now out)) × (length (now cells) ≡ length (now begins)) ⌝ }
-    ensures { λ r. ⌜ now (out .exit) ≡ take at (now (out .entry)) ++ (bytes-of start-bytes (starts-of (now (cells .entry)) (now (begins .entry))) ++ drop (at + 8 * length (now (cells .entry))) (now (out .entry))) ⌝ }
+    requires { ⌜ (at + start-size * length (now cells) ≤ length (now out)) × (length (now cells) ≡ length (now begins)) ⌝ }
+    ensures { λ r. ⌜ now (out .exit) ≡ take at (now (out .entry)) ++ (bytes-of start-bytes (starts-of (now (cells .entry)) (now (begins .entry)))
+        ++ drop (at + start-size * length (now (cells .entry))) (now (out .entry))) ⌝ }
 {
-    let end = at + 8 * cells.len();
+    let end = at + START * cells.len();
     write_starts(&mut out[at..end], 0, cells, begins);
 }

@@ -1,4 +1,4 @@
--- The rising order names every tile once. Assumes nothing.
+-- The rising order names every tile once.
 use mathlib.Core.Path.{_≡_, refl, _∙_}
 use mathlib.Core.Bool.{true, or-true}
 use mathlib.Core.List.{List, [], _∷_, _++_}
@@ -10,7 +10,7 @@ use borrow.Author.Tests.{eq-eqb}
 use Rattle.eikonal.specs.Board.{Board}
 use Rattle.eikonal.specs.Tiles.{tile-count}
 use Rattle.eikonal.specs.Refusals.{member, all-there, order-good}
-use Rattle.tablet.proofs.Parts.{part-long, part-back}
+use Rattle.tablet.proofs.Parts.{back}
 
 member-at : (xs : List ℕ) (k v : ℕ) → k < length xs → getD xs k 0 ≡ v → member v xs ≡ true
 unfolding member
@@ -29,6 +29,7 @@ module _ (xs : List ℕ) (rises : (k : ℕ) → k < length xs → getD xs k 0 �
   rise-good b tw th e = rw (eq-eqb (length xs) (tile-count b tw th) e, all-rise (tile-count b tw th) (omega arith))
 
 -- the part of a longer list that was filled so
-pub part-good : (n : ℕ) (l part : List ℕ) → n ≤ length l → length part ≡ length (take n l) → ((k : ℕ) → k < length (take n l) → getD part k 0 ≡ k)
-    → (b : Board) (tw th : ℕ) → n ≡ tile-count b tw th → order-good b tw th (take n (part ++ drop n l)) ≡ true
-part-good n l part h e r b tw th q = rw (part-back n l part h e) (rise-good part (λ k i. r k (omega arith)) b tw th (part-long n l part h e ∙ q))
+pub part-good : (n : ℕ) (l part : List ℕ) → n ≤ length l → length part ≡ length (take n l)
+    → ((k : ℕ) → k < length (take n l) → getD part k 0 ≡ k) → (b : Board) (tw th : ℕ) → n ≡ tile-count b tw th
+    → order-good b tw th (take n (part ++ drop n l)) ≡ true
+part-good n l part h e r b tw th q = let p = back n l part h e in rw (p .same) (rise-good part (λ k i. r k (omega arith)) b tw th (p .long ∙ q))

@@ -1,4 +1,4 @@
--- A part of a list that was lent and came back: it stands in front of the rest. Assumes nothing.
+-- The first n entries of a list were lent and came back: they stand in front of the rest.
 use mathlib.Core.Path.{_≡_, sym, _∙_}
 use mathlib.Core.List.{List, _++_}
 use Prim.Native.Nat.{ℕ, _≤_}
@@ -6,15 +6,14 @@ use native.Mathlib.Omega.{arith}
 use lib.ListN.{length, take, drop}
 use lib.Seq.{length-take-le, length-front, take-at}
 
-module _ (n : ℕ) (l part : List ℕ) (h : n ≤ length l) (e : length part ≡ length (take n l)) where
-  pub part-long : length part ≡ n
-  part-long = e ∙ length-take-le n l h
+pub record Back (n : ℕ) (l part : List ℕ) : Type 0 where
+  pub long : length part ≡ n
+  pub same : take n (part ++ drop n l) ≡ part
+  pub fits : n ≤ length (part ++ drop n l)
+  pub count : n ≡ length (take n (part ++ drop n l))
 
-  pub part-back : take n (part ++ drop n l) ≡ part
-  part-back = take-at part (drop n l) n part-long
-
-  pub part-fits : n ≤ length (part ++ drop n l)
-  part-fits = omega (arith, length-front l part n e)
-
-  pub part-count : n ≡ length (take n (part ++ drop n l))
-  part-count = sym (length-take-le n (part ++ drop n l) part-fits)
+pub back : (n : ℕ) (l part : List ℕ) → n ≤ length l → length part ≡ length (take n l) → Back n l part
+back n l part h e =
+    let long = e ∙ length-take-le n l h in
+    let fits : n ≤ length (part ++ drop n l) = omega (arith, length-front l part n e) in
+    record { long = long; same = take-at part (drop n l) n long; fits = fits; count = sym (length-take-le n (part ++ drop n l) fits) }

@@ -1,4 +1,4 @@
--- THE PROMISES of the tablet's call: each statement of specs/Promise.antt with its proof. Assumes nothing.
+-- THE PROMISES of the tablet's call: each statement of specs/Promise.antt with its proof.
 use mathlib.Core.Path.{_≡_, sym, ap, _∙_}
 use mathlib.Core.Bool.{true}
 use mathlib.Core.List.{List}
@@ -22,10 +22,10 @@ use Rattle.tablet.proofs.SmallFiles.{small, board-taken, cells-few}
 use Rattle.tablet.proofs.Answers.{taken}
 
 -- ---- a call that is accepted: its board, its stride, its answer
-module _ (f : List ℕ) (s tw th n : ℕ) (e : tablet-refusal f s tw th n ≡ 0) where
+module _ (f : List ℕ) (s tw th n : ℕ) (e : tablet-refusal f s tw th n .number ≡ 0) where
   legal : board-good (held f) ≡ true
   unfolding board-good
-  legal = eq-eqb (board-refusal (held f)) 0 (board-taken f (small f (taken f s tw th n e .accepted) .taken))
+  legal = eq-eqb (board-refusal (held f) .number) 0 (board-taken f (small f (taken f s tw th n e .accepted) .taken))
 
   few : size (held f) ≤ 1024
   few = cells-few f (small f (taken f s tw th n e .accepted))
@@ -33,7 +33,7 @@ module _ (f : List ℕ) (s tw th n : ℕ) (e : tablet-refusal f s tw th n ≡ 0)
   low : 1 ≤ s
   low = taken f s tw th n e .tiles .least
 
-answers : (f : List ℕ) (s tw th : ℕ) (out out-now : List ℕ) (x : ℕ) → Tablet-says f s tw th out out-now x → tablet-refusal f s tw th (length out) ≡ 0
+answers : (f : List ℕ) (s tw th : ℕ) (out out-now : List ℕ) (x : ℕ) → Tablet-says f s tw th out out-now x → tablet-refusal f s tw th (length out) .number ≡ 0
     → x ≡ rounds (held f) tw th s horizon * 256
 unfolding tablet-answer
 answers f s tw th out out-now x says e = says .answers ∙ rw e

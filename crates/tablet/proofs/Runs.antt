@@ -1,4 +1,4 @@
--- A run with the tablet's horizon that nothing refuses: its rounds and its times. Assumes nothing.
+-- A run with the tablet's horizon that nothing refuses: its rounds and its times.
 use mathlib.Core.Path.{_≡_, ap, _∙_}
 use mathlib.Core.Bool.{true}
 use mathlib.Core.List.{List}
@@ -9,36 +9,38 @@ use lib.ListN.{length}
 use borrow.Author.Tests.{eq-eqb, ne-eqb, le-ltb}
 use Rattle.eikonal.specs.Board.{size, largest, marched}
 use Rattle.eikonal.specs.Tiles.{rounds}
-use Rattle.eikonal.specs.Refusals.{board, or-else, order-good, plain-refusal, lists-refusal, tiles-refusal, run-refusal}
-use Rattle.eikonal.specs.Ledger.{refusal, entered, counted, answer, answered, ledger-answer, ledger-after}
-use Rattle.eikonal.specs.Entry.{plain, Run-says}
+use Rattle.eikonal.specs.Refusals.{Handed, or-else, order-good, handed-refusal, lists-refusal, tiles-refusal, job-refusal}
+use Rattle.eikonal.specs.Ledger.{call, refusal, entered, counted, answer, answered, ledger-answer, ledger-after}
+use Rattle.eikonal.specs.Entry.{lent, Says}
 use Rattle.eikonal.specs.declared.Reply.{Reply}
+use Rattle.eikonal.specs.declared.Job.the-variants.{Run}
 use Rattle.tablet.specs.Small.{horizon, Tiled}
 
 -- a board with sides to 32, tiles in a good order, as many times as cells, and 4,096 entries to work in
-module _ (w h : ℕ) (slow cells begins : List ℕ) (tw th s : ℕ) (t : Tiled s tw th) (xs ts ws : List ℕ)
-    (fine : (plain-refusal (plain w h slow cells begins) ≡ 0) × (w ≤ 32) × (h ≤ 32) × (length ts ≡ w * h))
-    (ordered : order-good (board (plain w h slow cells begins)) tw th xs ≡ true) (room : length ws ≡ 4096) where
-  accepted : run-refusal (plain w h slow cells begins) tw th s horizon xs (length ts) (length ws) ≡ 0
-  unfolding run-refusal or-else tiles-refusal lists-refusal size board plain
+module _ (p : Handed) {tw th s : ℕ} (xs ts ws : List ℕ) (fine : handed-refusal p .number ≡ 0)
+    (sides : (p .board .wide ≤ 32) × (p .board .high ≤ 32) × (length ts ≡ p .board .wide * p .board .high))
+    (t : Tiled s tw th) (ordered : order-good (p .board) tw th xs ≡ true) (room : length ws ≡ 4096) where
+  accepted : refusal (call p (Run tw th s horizon) xs (length ws)) (length ts) .number ≡ 0
+  unfolding refusal or-else job-refusal tiles-refusal lists-refusal size
   accepted =
-      let few : w * h ≤ 32 * 32 = mul-le-mul (fine .1) (fine .2) in
+      let n = p .board .wide * p .board .high in
+      let few : n ≤ 32 * 32 = mul-le-mul (sides .0) (sides .1) in
       rw (
-        fine .0,
+        fine,
         ne-eqb s 0 (λ q. omega (arith, t .least)),
         le-ltb largest s (t .most),
-        t .wide,
-        t .high,
+        t .sides,
         ordered,
-        eq-eqb (length ts) (w * h) (fine .3),
-        le-ltb (length ws) (4 * (w * h)) (omega arith),
+        eq-eqb (length ts) n (sides .2),
+        le-ltb (length ws) (4 * n) (omega arith),
       )
 
-  module _ (x : Reply) (ts-now ws-now : List ℕ) (k : Run-says w h slow cells begins tw th s horizon xs x ts ts-now ws ws-now) where
-    pub run-rounds : x .count ≡ rounds (board (plain w h slow cells begins)) tw th s horizon
-    unfolding Run-says ledger-answer answered answer refusal counted
-    run-rounds = ap (λ u. u .count) (k .answers) ∙ rw accepted
+  module _ (x : Reply) (ts-now ws-now : List ℕ) (z : ℕ) (k : Says (call p (Run tw th s z) xs (length ws)) x (lent ts ws) (lent ts-now ws-now))
+      (is : z ≡ horizon) where
+    pub run-rounds : x .count ≡ rounds (p .board) tw th s horizon
+    unfolding ledger-answer answered answer counted
+    run-rounds = ap (λ u. u .count) (k .answers) ∙ rw (is, accepted)
 
-    pub run-times : ts-now ≡ marched (board (plain w h slow cells begins)) horizon
-    unfolding Run-says ledger-after refusal entered
-    run-times = k .leaves ∙ rw accepted
+    pub run-times : ts-now ≡ marched (p .board) horizon
+    unfolding ledger-after entered
+    run-times = k .leaves ∙ rw (is, accepted)

@@ -1,4 +1,4 @@
--- Times written as bytes, one behind the other. Assumes nothing.
+-- Times written as bytes, one behind the other.
 use mathlib.Core.Path.{_≡_, sym, ap, _∙_}
 use mathlib.Core.List.{List, [], _++_, append-assoc}
 use Prim.Native.Nat.{ℕ, _+_, _*_, _≤_, _<_}

@@ -1,5 +1,5 @@
 -- What is promised of the tablet's call where one tile covers the board. Each statement is a type; proofs/Promises.antt has their proofs.
--- Assumes nothing: these are definitions.
+--
 use mathlib.Core.Path.{_≡_}
 use mathlib.Core.List.{List}
 use Prim.Native.Nat.{ℕ, _*_, _≤_}
@@ -14,12 +14,13 @@ use Rattle.tablet.specs.Tablet.{tablet-refusal, Tablet-says}
 unfoldable pub One-tile-tablet-counts : Type 0
 One-tile-tablet-counts =
     (f : List ℕ) (s tw th : ℕ) (out out-now : List ℕ) (x : ℕ) →
-    Tablet-says f s tw th out out-now x → tablet-refusal f s tw th (length out) ≡ 0 → held f .wide ≤ tw → held f .high ≤ th →
+    Tablet-says f s tw th out out-now x → tablet-refusal f s tw th (length out) .number ≡ 0 →
+    held f .wide ≤ tw → held f .high ≤ th →
     (x ≡ exact-rounds s horizon (solved (held f)) * 256) × (x ≡ exact-rounds s horizon (marched (held f) horizon) * 256)
 
 -- for strides to 810,815 they are K, whatever the file holds: known before the call
 unfoldable pub One-tile-tablet-beforehand : Type 0
 One-tile-tablet-beforehand =
     (f : List ℕ) (s tw th : ℕ) (out out-now : List ℕ) (x : ℕ) →
-    Tablet-says f s tw th out out-now x → tablet-refusal f s tw th (length out) ≡ 0 → held f .wide ≤ tw → held f .high ≤ th → s ≤ 810815 →
-    x ≡ strides s horizon * 256
+    Tablet-says f s tw th out out-now x → tablet-refusal f s tw th (length out) .number ≡ 0 →
+    held f .wide ≤ tw → held f .high ≤ th → s ≤ 810815 → x ≡ strides s horizon * 256

@@ -7,45 +7,46 @@ ghost use Prim.Native.Nat.{_*_};
 ghost use lib.ListN.{length};
 ghost use Rattle.scenario.specs.Bytes.{four-bytes, bytes-of};
 ghost use Rattle.tablet.specs.Tablet.{tiling-refusal, tablet-refusal, Tablet-says};
-use eikonal::refusals::side_good;
+use eikonal::Refusal;
+use eikonal::arrival::LARGEST;
+use eikonal::cause;
 use scenario::bytes::put_four;
-use scenario_read::judge::board_size;
+use scenario::heads::board_size;
+use scenario::heads::head_of;
+use scenario::sides_good;
 
 // 10 and 11.
-fn tiling_refusal(stride: u32, across: u32, down: u32) -> u32
+fn tiling_refusal(stride: u32, across: u32, down: u32) -> Refusal
     ensures { λ r. ⌜ r ≡ tiling-refusal stride across down ⌝ }
 {
     if stride == 0 {
-        return 10;
+        return cause(10);
     }
-    if stride > 300000000 {
-        return 10;
+    if stride > LARGEST {
+        return cause(10);
     }
-    if !side_good(across) {
-        return 11;
+    if !sides_good(across, down) {
+        return cause(11);
     }
-    if !side_good(down) {
-        return 11;
-    }
-    0
+    cause(0)
 }
 
 // All that the tablet is refused by, for an output of so many bytes.
-fn tablet_refusal(file: &[u8], stride: u32, across: u32, down: u32, room: usize) -> u32
+fn tablet_refusal(file: &[u8], stride: u32, across: u32, down: u32, room: usize) -> Refusal
     ensures { λ r. ⌜ r ≡ tablet-refusal (now (file .entry)) stride across down room ⌝ }
 {
-    let number = small::small_refusal(file);
-    if number != 0 {
-        return number;
+    let small = small::small_refusal(file);
+    if small.number != 0 {
+        return small;
     }
     let tiling = tiling_refusal(stride, across, down);
-    if tiling != 0 {
+    if tiling.number != 0 {
         return tiling;
     }
-    if room < 4 * board_size(file) {
-        return 14;
+    if room < 4 * board_size(head_of(file)) {
+        return cause(14);
     }
-    0
+    cause(0)
 }
 
 // Each time as 4 bytes, into a list that is just as long.
@@ -65,11 +66,11 @@ fn put_times(out: &mut [u8], times: &[u32])
 pub fn tablet_run(file: &[u8], stride: u32, across: u32, down: u32, out: &mut [u8]) -> u64
     ensures { λ x. ⌜ Tablet-says (now (file .entry)) stride across down (now (out .entry)) (now (out .exit)) x ⌝ }
 {
-    let number = tablet_refusal(file, stride, across, down, out.len());
-    if number != 0 {
-        return number as u64;
+    let refusal = tablet_refusal(file, stride, across, down, out.len());
+    if refusal.number != 0 {
+        return refusal.number as u64;
     }
-    let n = board_size(file);
+    let n = board_size(head_of(file));
     let mut times = run::entries();
     let rounds = run::run_file(file, stride, across, down, &mut times[..n]);
     let bytes = 4 * n;

@@ -3,13 +3,14 @@ ghost use mathlib.Core.Path.{_≡_};
 ghost use Prim.Native.Nat.{ℕ, _*_, _≤_, _<_};
 ghost use lib.ListN.{length, getD};
 ghost use Rattle.eikonal.specs.Board.{size, marched};
-ghost use Rattle.eikonal.specs.Tiles.{up, rounds};
-ghost use Rattle.eikonal.specs.Refusals.{board, plain-refusal};
-ghost use Rattle.eikonal.specs.Entry.{plain};
+ghost use Rattle.eikonal.specs.Tiles.{rounds};
+ghost use Rattle.eikonal.specs.Refusals.{by-lists, handed-refusal};
 ghost use Rattle.scenario.specs.File.{held};
 ghost use Rattle.tablet.specs.Small.{horizon, small-refusal, Tiled};
-use scenario::bytes::two_at;
-use scenario_read::judge;
+use refusals::tiles_along;
+use scenario::heads::head_of;
+use scenario::heads::starts_base;
+use scenario::runs::wide;
 
 const HORIZON: u32 = 6000000;
 
@@ -24,15 +25,6 @@ fn work_entries() -> [u32; 4096]
     ensures { λ r. ⌜ length r ≡ 4096 ⌝ }
 {
     [0; 4096]
-}
-
-// How many tiles of a side lie along a side of the board.
-fn tiles_along(side: u32, tile: u32) -> usize
-    requires { ⌜ (side ≤ 32) × (1 ≤ tile) × (tile ≤ 256) ⌝ }
-    ensures is { λ r. ⌜ r ≡ up side tile ⌝ }
-    ensures most { λ r. ⌜ r ≤ 32 ⌝ }
-{
-    ((side + tile - 1) / tile) as usize
 }
 
 // 0, 1, 2, ..
@@ -59,13 +51,15 @@ fn run_board(
     down: u32,
     times: &mut [u32],
 ) -> u32
-    requires board { ⌜ (plain-refusal (plain width height (now slow) (now cells) (now begins)) ≡ 0) × (width ≤ 32) × (height ≤ 32) × (length (now times) ≡ width * height) ⌝ }
+    requires board { ⌜ handed-refusal (by-lists width height (now slow) (now cells) (now begins)) .number ≡ 0 ⌝ }
+    requires sides { ⌜ (width ≤ 32) × (height ≤ 32) × (length (now times) ≡ width * height) ⌝ }
     requires tiles { ⌜ Tiled stride across down ⌝ }
-    ensures rounds { λ r. ⌜ r ≡ rounds (board (plain width height (now (slow .entry)) (now (cells .entry)) (now (begins .entry)))) across down stride horizon ⌝ }
-    ensures times { λ r. ⌜ now (times .exit) ≡ marched (board (plain width height (now (slow .entry)) (now (cells .entry)) (now (begins .entry)))) horizon ⌝ }
+    ensures rounds { λ r. ⌜ r
+        ≡ rounds (by-lists width height (now (slow .entry)) (now (cells .entry)) (now (begins .entry)) .board) across down stride horizon ⌝ }
+    ensures times { λ r. ⌜ now (times .exit) ≡ marched (by-lists width height (now (slow .entry)) (now (cells .entry)) (now (begins .entry)) .board) horizon ⌝ }
 {
     let mut order = entries();
-    let tiles = tiles_along(width, across) * tiles_along(height, down);
+    let tiles = (tiles_along(width, across) * tiles_along(height, down)) as usize;
     rise(&mut order[..tiles]);
     let mut work = work_entries();
     let reply = engine::calls::tile_run(
@@ -94,19 +88,20 @@ fn run_starts(
     down: u32,
     times: &mut [u32],
 ) -> u32
-    requires board { ⌜ (small-refusal (now file) ≡ 0) × (now slow ≡ held (now file) .slow) × (length (now times) ≡ size (held (now file))) ⌝ }
+    requires board { ⌜ (small-refusal (now file) .number ≡ 0) × (now slow ≡ held (now file) .slow) × (length (now times) ≡ size (held (now file))) ⌝ }
     requires tiles { ⌜ Tiled stride across down ⌝ }
     ensures rounds { λ r. ⌜ r ≡ rounds (held (now (file .entry))) across down stride horizon ⌝ }
     ensures times { λ r. ⌜ now (times .exit) ≡ marched (held (now (file .entry))) horizon ⌝ }
 {
-    let q = judge::start_count(file);
-    let base = judge::starts_base(file);
+    let head = head_of(file);
+    let q = wide(head.starts);
+    let base = starts_base(head);
     let mut cells = entries();
     let mut begins = entries();
     scenario_read::read_starts(file, base, &mut cells[..q], &mut begins[..q]);
     run_board(
-        two_at(file, 0),
-        two_at(file, 2),
+        head.width,
+        head.height,
         slow,
         &cells[..q],
         &begins[..q],
@@ -119,7 +114,7 @@ fn run_starts(
 
 // The board of a file that was judged, with as many times as it has cells. Answers the rounds.
 pub fn run_file(file: &[u8], stride: u32, across: u32, down: u32, times: &mut [u32]) -> u32
-    requires board { ⌜ (small-refusal (now file) ≡ 0) × (length (now times) ≡ size (held (now file))) ⌝ }
+    requires board { ⌜ (small-refusal (now file) .number ≡ 0) × (length (now times) ≡ size (held (now file))) ⌝ }
     requires tiles { ⌜ Tiled stride across down ⌝ }
     ensures rounds { λ r. ⌜ r ≡ rounds (held (now (file .entry))) across down stride horizon ⌝ }
     ensures times { λ r. ⌜ now (times .exit) ≡ marched (held (now (file .entry))) horizon ⌝ }

@@ -1,34 +1,34 @@
 // Files with sides to 32.
 ghost use mathlib.Core.Path.{_≡_};
-ghost use Prim.Native.Nat.{_≤_};
-ghost use lib.ListN.{length};
 ghost use Rattle.tablet.specs.Small.{sides-small, small-refusal};
-use scenario::bytes::two_at;
+use eikonal::Refusal;
+use eikonal::cause;
+use scenario::Head;
+use scenario::heads::head_of;
 use scenario_read::judge::file_refusal;
 
-fn sides_small(file: &[u8]) -> bool
-    requires { ⌜ 16 ≤ length (now file) ⌝ }
-    ensures { λ r. ⌜ r ≡ sides-small (now (file .entry)) ⌝ }
+fn sides_small(head: Head) -> bool
+    ensures { λ r. ⌜ r ≡ sides-small «head» ⌝ }
 {
-    if 32 < two_at(file, 0) {
+    if 32 < head.width {
         return false;
     }
-    two_at(file, 2) <= 32
+    head.height <= 32
 }
 
 // What a file is refused by: 15 comes directly after 2.
-pub fn small_refusal(file: &[u8]) -> u32
+pub fn small_refusal(file: &[u8]) -> Refusal
     ensures { λ r. ⌜ r ≡ small-refusal (now (file .entry)) ⌝ }
 {
-    let number = file_refusal(file);
-    if number == 1 {
-        return 1;
+    let refusal = file_refusal(file);
+    if refusal.number == 1 {
+        return refusal;
     }
-    if number == 2 {
-        return 2;
+    if refusal.number == 2 {
+        return refusal;
     }
-    if !sides_small(file) {
-        return 15;
+    if !sides_small(head_of(file)) {
+        return cause(15);
     }
-    number
+    refusal
 }

@@ -1,9 +1,8 @@
 // Goes through the boards worked by hand that are not starred, those of document 01 and the turns of Card 3 of document 02: what each gives, and
 // whether it is what the pages say.
 use eikonal::Reply;
+use eikonal::arrival::NEVER;
 use libc::STDOUT_FILENO;
-
-const NEVER: u32 = 4294967295;
 
 // A number and a space; `-` for never.
 fn print(x: u32) {

@@ -1,4 +1,4 @@
--- `diagonal::diagonal` meets its contract. Assumes nothing.
+-- `diagonal::diagonal` meets its contract.
 use mathlib.Core.Path.{ap}
 use native.Mathlib.Omega.{arith}
 use borrow.Author.Needs.{needs}
@@ -8,19 +8,13 @@ use Rattle.eikonal.specs.Entry.{slowness-refusal, Diagonal-says}
 use Rattle.diagonal.proofs.diagonal.Statement.{statement}
 use Rattle.diagonal.proofs.diagonal.Tie as tie
 
-refused-requires : tie.Need-refused-requires
-refused-requires c κs = search needs
-
 returns : tie.Need-returns
 unfolding Diagonal-says answered slowness-refusal
-returns c = simp (lt-ltb 4095 (c .before .before .args .slowness) (omega arith)) (c .refused .ensures)
-
-step-requires : tie.Need-step-requires
-step-requires c κs = search needs
+returns c = simp (lt-ltb 4095 (c .before .before .before .args .slowness) (omega arith)) (rw (c .before .cause .ensures) at (c .refused .ensures))
 
 returns-2 : tie.Need-returns-2
 unfolding Diagonal-says answered slowness-refusal answer
 returns-2 c = simp (le-ltb 4095 (c .before .before .args .slowness) (omega arith)) (ap (answer 0) (c .step .ensures))
 
 pub diagonal-spec : {M : Type 1} → statement M
-diagonal-spec = tie.close (tie.spec refused-requires returns step-requires returns-2)
+diagonal-spec = tie.close (tie.spec (λ c κs. tt) (λ c κs. tt) returns (λ c κs. search needs) returns-2)

@@ -1,4 +1,4 @@
--- `diagonal::kept` meets its contract: one test over the whole table, which antt computes. Assumes nothing.
+-- `diagonal::kept` meets its contract: one test over the whole table, which antt computes.
 use mathlib.Core.Path.{refl}
 use mathlib.Core.List.{List}
 use Prim.Native.Nat.{ℕ, _<_}
@@ -9,12 +9,6 @@ use Rattle.diagonal.proofs.Rule.{right, all-right, table-is}
 use Rattle.diagonal.proofs.kept.Statement.{statement}
 use Rattle.diagonal.proofs.kept.Tie as tie
 use Rattle.diagonal.proofs.kept.Lts as lts
-
-mul-result : tie.Need-mul-result
-mul-result c = search needs
-
-array-read-result : tie.Need-array-read-result
-array-read-result c = search needs
 
 -- the table, in the local that it is copied to
 abbrev table : tie.Start → List ℕ
@@ -27,4 +21,4 @@ returns c =
     table-is (table c) refl (c .args .slowness) h
 
 pub kept-spec : {M : Type 1} → statement M
-kept-spec = tie.close (tie.spec mul-result array-read-result returns)
+kept-spec = tie.close (tie.spec (λ c. search needs) (λ c. search needs) returns)

@@ -1,4 +1,4 @@
--- `eikonal::refused` meets its contract. Assumes nothing.
+-- `eikonal::refused` meets its contract.
 use mathlib.Core.Path.{refl}
 use Rattle.eikonal.specs.Ledger.{answer}
 use Rattle.eikonal.proofs.refused.Statement.{statement}

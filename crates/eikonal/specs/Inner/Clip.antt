@@ -1,4 +1,4 @@
--- A time up to a bound, never elsewhere, as the cut of a list has it. No public promise rests on this. Assumes nothing: this is a definition.
+-- A time up to a bound, never elsewhere, as the cut of a list has it. No public promise rests on this.
 use mathlib.Core.Bool.{cond}
 use Prim.Native.Nat.{ℕ}
 use lib.Dec.{leb}

@@ -1,4 +1,4 @@
--- What a board that is not refused has. No public promise rests on these. Assumes nothing: these are definitions.
+-- What a board that is not refused has. No public promise rests on these.
 use mathlib.Core.Path.{_≡_}
 use mathlib.Core.Logic.{_⊎_}
 use Prim.Native.Nat.{ℕ, _≤_}

@@ -1,5 +1,5 @@
 -- From the front to rounds: what a drained front writes is the round, a round that takes cells alters some, and rounds before the least key alter nothing.
--- Assumes nothing.
+--
 use mathlib.Core.Path.{_≡_, refl, sym, ap, subst, _∙_}
 use mathlib.Core.Bool.{Bool, true, false, cond}
 use mathlib.Core.Logic.{_⊎_, inl, inr, ⊎-elim, _≢_}
@@ -38,7 +38,8 @@ pub drained-round : {b : Board} → Good b → (tw th m : ℕ) (ts : List ℕ) (
     → (us : List ℕ) → length us ≡ size b → ((c : ℕ) → c < size b → time us c ≡ clip m (y c)) → us ≡ round b tw th m ts
 drained-round {b} good tw th m ts y k i ti se up past us l at =
     round-by-rule b good tw th m i ts us l
-    (λ c h. at c h ∙ ended (size b) (rule-by b tw th ts) (gives-lawful good tw th (λ d e. counts-as b ts e)) (starts b) m y k ti se up (omega arith) past c h ∙ ap (clip m) (sym (meets c h)))
+    (λ c h. at c h ∙ ended (gives-lawful good tw th (λ d e. counts-as b ts e)) ti se up (omega arith) past c h
+    ∙ ap (clip m) (sym (meets c h)))
   where
     meets : (c : ℕ) → c < size b → met b c (tiled b tw th ts (time us) c) ≡ min (starts b c) (rule-by b tw th ts c (λ e. clip m (y e)))
     meets c h =
@@ -63,73 +64,74 @@ listed (suc m) note c = go (listed m note c)
       | no q ↦ out (λ i l. elim (ℕ-discrete i m) [ yes z ↦ (λ w. q (ap note (sym z) ∙ w)) | no z ↦ f i (omega arith) ])
     ]
 
-module _ {n : ℕ} {stored y k now : ℕ → ℕ} {t m : ℕ} {note : ℕ → ℕ} (ti : Tied n y k) (dr : Drift n stored y k t m note) (wr : Written n stored y now m note) where
-  -- what is written is the tentative times up to the bound
-  pub written-clip : (m₀ bound : ℕ) → ((c : ℕ) → c < n → (stored c ≡ never) ⊎ (stored c ≤ m₀)) → m₀ ≤ bound → t ≤ bound → ((c : ℕ) → c < n → bound < k c)
-      → (c : ℕ) → c < n → now c ≡ clip bound (y c)
-  written-clip m₀ bound low i j past c l = go (listed m note c)
-    where
-      quiet : ((i : ℕ) → i < m → note i ≢ c) → k c ≡ never → (stored c ≡ never) ⊎ (stored c ≤ m₀) → stored c ≡ clip bound (y c)
-      quiet o e (inl z) =
-          let s : y c ≡ never = omega (arith, dr .low c l, dr .others c l o e, ti .small c l) in
-          z ∙ sym (ap (clip bound) s ∙ clip-never bound)
-      quiet o e (inr z) =
-          let s : stored c ≡ y c = omega (arith, dr .low c l, dr .others c l o e) in
-          s ∙ sym (clip-keeps bound (y c) (omega arith))
+module _ {n : ℕ} {stored y k now : ℕ → ℕ} {t m : ℕ} {note : ℕ → ℕ} (ti : Tied n y k) (dr : Drift n stored y k t m note) (wr : Written n stored y now m note)
+  where
+    -- what is written is the tentative times up to the bound
+    pub written-clip : (m₀ bound : ℕ) → ((c : ℕ) → c < n → (stored c ≡ never) ⊎ (stored c ≤ m₀)) → m₀ ≤ bound → t ≤ bound → ((c : ℕ) → c < n → bound < k c)
+        → (c : ℕ) → c < n → now c ≡ clip bound (y c)
+    written-clip m₀ bound low i j past c l = go (listed m note c)
+      where
+        quiet : ((i : ℕ) → i < m → note i ≢ c) → k c ≡ never → (stored c ≡ never) ⊎ (stored c ≤ m₀) → stored c ≡ clip bound (y c)
+        quiet o e (inl z) =
+            let s : y c ≡ never = omega (arith, dr .low c l, dr .others c l o e, ti .small c l) in
+            z ∙ sym (ap (clip bound) s ∙ clip-never bound)
+        quiet o e (inr z) =
+            let s : stored c ≡ y c = omega (arith, dr .low c l, dr .others c l o e) in
+            s ∙ sym (clip-keeps bound (y c) (omega arith))
 
-      go : Listed m note c → now c ≡ clip bound (y c)
-      go (here i q e) =
-          let s = dr .noted i q in
-          subst (λ u. now u ≡ clip bound (y u)) e (wr .new i q ∙ sym (clip-keeps bound (y (note i)) (omega (arith, s .past))))
-      go (out o) = elim (ℕ-discrete (k c) never) [
-        | yes e ↦ wr .old c l o ∙ quiet o e (low c l)
-        | no e ↦ wr .old c l o ∙ ⊎-elim
-            (λ z. absurd (e z))
-            (λ z. (⊎-elim (λ w. w) (λ w. absurd (omega (arith, past c l, dr .low c l))) (low c l)) ∙ sym (clip-loses bound (y c) (omega (arith, past c l))))
-            (ti .tied c l)
-      ]
+        go : Listed m note c → now c ≡ clip bound (y c)
+        go (here i q e) =
+            let s = dr .noted i q in
+            subst (λ u. now u ≡ clip bound (y u)) e (wr .new i q ∙ sym (clip-keeps bound (y (note i)) (omega (arith, s .past))))
+        go (out o) = elim (ℕ-discrete (k c) never) [
+          | yes e ↦ wr .old c l o ∙ quiet o e (low c l)
+          | no e ↦ wr .old c l o ∙ ⊎-elim
+              (λ z. absurd (e z))
+              (λ z. (⊎-elim (λ w. w) (λ w. absurd (omega (arith, past c l, dr .low c l))) (low c l)) ∙ sym (clip-loses bound (y c) (omega (arith, past c l))))
+              (ti .tied c l)
+        ]
 
-  -- stored times only fall
-  pub written-falls : (c : ℕ) → c < n → now c ≤ stored c
-  written-falls c l = go (listed m note c)
-    where
-      go : Listed m note c → now c ≤ stored c
-      go (here i q e) = subst (λ u. now u ≤ stored u) e (omega (arith, wr .new i q, dr .noted i q .fell))
-      go (out o) = omega (arith, wr .old c l o)
+    -- stored times only fall
+    pub written-falls : (c : ℕ) → c < n → now c ≤ stored c
+    written-falls c l = go (listed m note c)
+      where
+        go : Listed m note c → now c ≤ stored c
+        go (here i q e) = subst (λ u. now u ≤ stored u) e (omega (arith, wr .new i q, dr .noted i q .fell))
+        go (out o) = omega (arith, wr .old c l o)
 
-  -- a new round has nothing taken yet
-  pub written-drift : (note' : ℕ → ℕ) → Drift n now y k 0 0 note'
-  unfolding total
-  written-drift note' = record {
-    low = λ c l. go-low c l (listed m note c);
-    waits = λ c l p. go-waits c l p (listed m note c);
-    floor = λ c l. omega arith;
-    noted = λ i l. absurd (omega arith);
-    others = λ c l o e. go-others c l e (listed m note c);
-    count = sym (none n (λ c l. zero-at c l));
-  }
-    where
-      go-low : (c : ℕ) → c < n → Listed m note c → y c ≤ now c
-      go-low c l (here i q e) = subst (λ u. y u ≤ now u) e (omega (arith, wr .new i q))
-      go-low c l (out o) = omega (arith, wr .old c l o, dr .low c l)
+    -- a new round has nothing taken yet
+    pub written-drift : (note' : ℕ → ℕ) → Drift n now y k 0 0 note'
+    unfolding total
+    written-drift note' = record {
+      low = λ c l. go-low c l (listed m note c);
+      waits = λ c l p. go-waits c l p (listed m note c);
+      floor = λ c l. omega arith;
+      noted = λ i l. absurd (omega arith);
+      others = λ c l o e. go-others c l e (listed m note c);
+      count = sym (none n (λ c l. zero-at c l));
+    }
+      where
+        go-low : (c : ℕ) → c < n → Listed m note c → y c ≤ now c
+        go-low c l (here i q e) = subst (λ u. y u ≤ now u) e (omega (arith, wr .new i q))
+        go-low c l (out o) = omega (arith, wr .old c l o, dr .low c l)
 
-      go-waits : (c : ℕ) → c < n → k c < never → Listed m note c → y c < now c
-      go-waits c l p (here i q e) = absurd (omega (arith, dr .noted i q .key, ap k e))
-      go-waits c l p (out o) = omega (arith, wr .old c l o, dr .waits c l p)
+        go-waits : (c : ℕ) → c < n → k c < never → Listed m note c → y c < now c
+        go-waits c l p (here i q e) = absurd (omega (arith, dr .noted i q .key, ap k e))
+        go-waits c l p (out o) = omega (arith, wr .old c l o, dr .waits c l p)
 
-      go-others : (c : ℕ) → c < n → k c ≡ never → Listed m note c → now c ≤ y c
-      go-others c l e (here i q z) = subst (λ u. now u ≤ y u) z (omega (arith, wr .new i q))
-      go-others c l e (out o) = omega (arith, wr .old c l o, dr .others c l o e)
+        go-others : (c : ℕ) → c < n → k c ≡ never → Listed m note c → now c ≤ y c
+        go-others c l e (here i q z) = subst (λ u. now u ≤ y u) z (omega (arith, wr .new i q))
+        go-others c l e (out o) = omega (arith, wr .old c l o, dr .others c l o e)
 
-      zero-at : (c : ℕ) → c < n → min 1 (now c - y c) - min 1 (never - k c) ≡ 0
-      zero-at c l = elim (ℕ-discrete (k c) never) [
-        | yes q ↦ omega (arith, go-others c l q (listed m note c))
-        | no q ↦ ⊎-elim (λ z. absurd (q z)) (λ z. omega (arith, ti .small c l)) (ti .tied c l)
-      ]
+        zero-at : (c : ℕ) → c < n → min 1 (now c - y c) - min 1 (never - k c) ≡ 0
+        zero-at c l = elim (ℕ-discrete (k c) never) [
+          | yes q ↦ omega (arith, go-others c l q (listed m note c))
+          | no q ↦ ⊎-elim (λ z. absurd (q z)) (λ z. omega (arith, ti .small c l)) (ti .tied c l)
+        ]
 
-      none : (n' : ℕ) → ((c : ℕ) → c < n' → min 1 (now c - y c) - min 1 (never - k c) ≡ 0) → fallen n' now y k ≡ 0
-      none zero h = refl
-      none (suc n') h = omega (arith, h n' (omega arith), none n' (λ c l. h c (omega arith)))
+        none : (n' : ℕ) → ((c : ℕ) → c < n' → min 1 (now c - y c) - min 1 (never - k c) ≡ 0) → fallen n' now y k ≡ 0
+        none zero h = refl
+        none (suc n') h = omega (arith, h n' (omega arith), none n' (λ c l. h c (omega arith)))
 
 -- a shorter leap is one too
 pub leap-short : {least done s h far r : ℕ} → Leapt least done s h far → done ≤ r → r ≤ far → Leapt least done s h r
@@ -165,7 +167,8 @@ module _ {b : Board} (good : Good b) (tw th s h : ℕ) (stride : 1 ≤ s) (horiz
     -- it alters a cell just if a cell is noted
     pub round-altered : 1 ≤ m → altered (after-rounds j b tw th s h) (after-rounds (suc j) b tw th s h) ≢ 0
     round-altered some e =
-        let same = altered-same (after-rounds j b tw th s h) (after-rounds (suc j) b tw th s h) (after-length b good tw th s h stride horizon j ∙ sym (after-length b good tw th s h stride horizon (suc j))) e in
+        let same = altered-same (after-rounds j b tw th s h) (after-rounds (suc j) b tw th s h)
+        (after-length b good tw th s h stride horizon j ∙ sym (after-length b good tw th s h stride horizon (suc j))) e in
         let one = dr .noted 0 some in
         omega (arith, one .fell, wr .new 0 some, ap (λ (xs : List ℕ). time xs (note 0)) (round-written ∙ sym same ∙ sym is))
 
@@ -173,13 +176,15 @@ module _ {b : Board} (good : Good b) (tw th s h : ℕ) (stride : 1 ≤ s) (horiz
   pub idle-round : (j : ℕ) (ts : List ℕ) (y k : ℕ → ℕ) → Between b tw th s h j ts y k → ((c : ℕ) → c < size b → bound-of (suc j) < k c)
       → after-rounds (suc j) b tw th s h ≡ after-rounds j b tw th s h
   idle-round j ts y k be past =
-      sym (round-written j ts ts y k 0 0 (λ _. 0) (be .is) (be .tied) (be .settled) (be .upheld) (be .drift (λ _. 0)) (omega arith) past long (unwritten (size b) (time ts) y (λ _. 0)))
+      sym (round-written j ts ts y k 0 0 (λ _. 0) (be .is) (be .tied) (be .settled) (be .upheld) (be .drift (λ _. 0)) (omega arith) past long
+      (unwritten (size b) (time ts) y (λ _. 0)))
       ∙ be .is
     where
       long : length ts ≡ size b
       long = ap length (be .is) ∙ after-length b good tw th s h stride horizon j
 
-  pub leap-one : (j : ℕ) (ts : List ℕ) (y k : ℕ → ℕ) → Between b tw th s h j ts y k → ((c : ℕ) → c < size b → bound-of (suc j) < k c) → Between b tw th s h (suc j) ts y k
+  pub leap-one : (j : ℕ) (ts : List ℕ) (y k : ℕ → ℕ) → Between b tw th s h j ts y k → ((c : ℕ) → c < size b → bound-of (suc j) < k c)
+      → Between b tw th s h (suc j) ts y k
   leap-one j ts y k be past = record {
     is = be .is ∙ sym (idle-round j ts y k be past);
     tied = be .tied;
@@ -189,7 +194,8 @@ module _ {b : Board} (good : Good b) (tw th s h : ℕ) (stride : 1 ≤ s) (horiz
   }
 
   -- A LEAP over i rounds, all before the least key
-  pub leap : (i j : ℕ) (ts : List ℕ) (y k : ℕ → ℕ) → Between b tw th s h j ts y k → ((c : ℕ) → c < size b → bound-of (i + j) < k c) → Between b tw th s h (i + j) ts y k
+  pub leap : (i j : ℕ) (ts : List ℕ) (y k : ℕ → ℕ) → Between b tw th s h j ts y k → ((c : ℕ) → c < size b → bound-of (i + j) < k c)
+      → Between b tw th s h (i + j) ts y k
   leap zero j ts y k be past = rw zero-add be
   leap (suc i) j ts y k be past =
       rw suc-add

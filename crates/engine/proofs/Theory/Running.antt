@@ -1,4 +1,4 @@
--- One round of a tile run, from its drain, what it stores and what it announces. Assumes nothing.
+-- One round of a tile run, from its drain, what it stores and what it announces.
 use mathlib.Core.Path.{_≡_, refl, sym, ap, subst, _∙_}
 use mathlib.Core.Logic.{_⊎_, inl, inr, _≢_}
 use mathlib.Core.List.{List}
@@ -11,7 +11,8 @@ use lib.Dec.{leb}
 use borrow.Author.Tests.{leb-true, leb-false}
 use lib.ListN.{length, getD}
 use lib.Seq.{ext-getD}
-use Rattle.eikonal.specs.Board.{Board, Start, never, largest, size, slowness, arrival, time, solved, marched}
+use Rattle.eikonal.specs.Board.{Board, never, largest, size, slowness, arrival, time, solved, marched}
+use Rattle.eikonal.specs.declared.Start.{Start}
 use Rattle.eikonal.specs.Tiles.{tile-of, counts-as, altered, after-rounds, last-round, rounds, up}
 use Rattle.eikonal.specs.Inner.Good.{Good}
 use Rattle.eikonal.proofs.Good.{size-most}
@@ -34,8 +35,8 @@ use Rattle.rows.proofs.Theory.Lists.{reached-most}
 use Rattle.front.proofs.Theory.Commit.{none-new, all-new, upheld-new}
 use Rattle.front.proofs.Theory.Announcing.{announced-held, announced-long, announced-rest, announced-upheld, announced-fresh, announced-settled}
 
-module _ {b : Board} (good : Good b) (tw th s h : ℕ) (tw1 : 1 ≤ tw) (th1 : 1 ≤ th) (stride : 1 ≤ s) (horizon : h ≤ largest)
-    (j : ℕ) (ts us v v1 v2 : List ℕ) (m : ℕ)
+module _ {b : Board} {tw th s h j m : ℕ} {ts v v1 v2 : List ℕ} (us : List ℕ) (good : Good b) (tw1 : 1 ≤ tw) (th1 : 1 ≤ th) (stride : 1 ≤ s)
+    (horizon : h ≤ largest)
     (be : Between b tw th s h j ts (tentative v (size b)) (keys v (size b)))
     (dr : Drained (size b) (min (suc j * s) h) m (rule-by b tw th ts) v v1)
     (long : length us ≡ size b)
@@ -58,11 +59,13 @@ module _ {b : Board} (good : Good b) (tw th s h : ℕ) (tw1 : 1 ≤ tw) (th1 : 1
 
   pub round-is : us ≡ after-rounds (suc j) b tw th s h
   round-is =
-      round-written good tw th s h stride horizon j ts us (tentative v1 (size b)) (keys v1 (size b)) (drifted .last) m (noted v1 (size b)) (be .is) (dr .held .tied) (dr .settled) upheld1 (drifted .drift) (drifted .low) (dr .keys-past) long wr
+      round-written good tw th s h stride horizon j ts us (tentative v1 (size b)) (keys v1 (size b)) (drifted .last) m (noted v1 (size b)) (be .is)
+      (dr .held .tied) (dr .settled) upheld1 (drifted .drift) (drifted .low) (dr .keys-past) long wr
 
   pub round-busy : 1 ≤ m → altered (after-rounds j b tw th s h) (after-rounds (suc j) b tw th s h) ≢ 0
   round-busy =
-      round-altered good tw th s h stride horizon j ts us (tentative v1 (size b)) (keys v1 (size b)) (drifted .last) m (noted v1 (size b)) (be .is) (dr .held .tied) (dr .settled) upheld1 (drifted .drift) (drifted .low) (dr .keys-past) long wr
+      round-altered good tw th s h stride horizon j ts us (tentative v1 (size b)) (keys v1 (size b)) (drifted .last) m (noted v1 (size b)) (be .is)
+      (dr .held .tied) (dr .settled) upheld1 (drifted .drift) (drifted .low) (dr .keys-past) long wr
 
   pub round-idle : m ≡ 0 → after-rounds (suc j) b tw th s h ≡ after-rounds j b tw th s h
   unfolding time
@@ -78,7 +81,8 @@ module _ {b : Board} (good : Good b) (tw th s h : ℕ) (tw1 : 1 ≤ tw) (th1 : 1
     settled = all-new good tw th ts us m (noted v1 (size b)) falls new (wr .old) (tentative v2 (size b)) (keys v2 (size b))
         (announced-settled good tw th tw1 th1 ts us m (noted v1 (size b)) falls new (wr .old) on (omega arith) (dr .held) an
         (none-new good tw th ts us m (noted v1 (size b)) falls new (wr .old) (tentative v1 (size b)) (keys v1 (size b)) (dr .settled)));
-    upheld = announced-upheld (gives-lawful good tw th (λ c e. counts-as b us e)) (starts b) an (upheld-new good tw th ts us m (noted v1 (size b)) falls new (wr .old) (starts b) (tentative v1 (size b)) upheld1);
+    upheld = announced-upheld (gives-lawful good tw th (λ c e. counts-as b us e)) (starts b) an
+        (upheld-new good tw th ts us m (noted v1 (size b)) falls new (wr .old) (starts b) (tentative v1 (size b)) upheld1);
     drift = λ note. announced-fresh (time us) note (dr .held) an (written-drift (dr .held .tied) (drifted .drift) wr note);
   }
 
@@ -86,69 +90,79 @@ pub drained-to : {n b b' m : ℕ} {L : ℕ → (ℕ → ℕ) → ℕ} {v v' : Li
 drained-to {n} {b} {b'} {m} {L} {v} {v'} q dr = subst (λ u. Drained n u m L v v') q dr
 
 -- ---- the same with a shape, as code has it
-module _ (s : Shape) (slow : List ℕ) (xs : List Start) where
-  pub rule-whole : (ts : List ℕ) → rule-at s slow ts ≡ rule-by (whole s slow xs) (s .across) (s .down) ts
-  unfolding arrival slowness tile-of counts-as
-  rule-whole ts = refl
+pub size-whole : (s : Shape) (slow : List ℕ) (xs : List Start) → s .cells ≡ s .width * s .height → s .cells ≡ size (whole s slow xs)
+unfolding size
+size-whole s slow xs e = e
 
-  pub near-whole : (k c : ℕ) → near (land s slow) (s .across) (s .down) k c ≡ near (whole s slow xs) (s .across) (s .down) k c
-  unfolding near size
-  near-whole k c = refl
+-- new stored times are as many
+pub ground-kept : {s : Shape} {slow ts us cols rows : List ℕ} → length us ≡ length ts → Ground s slow ts cols rows → Ground s slow us cols rows
+ground-kept q gr = record {
+  good = gr .good;
+  cells = gr .cells;
+  across = gr .across;
+  down = gr .down;
+  many = q ∙ gr .many;
+  columns = gr .columns;
+  lines = gr .lines;
+}
 
-  pub size-whole : s .cells ≡ s .width * s .height → s .cells ≡ size (whole s slow xs)
-  unfolding size
-  size-whole e = e
+module _ {s : Shape} {slow ts cols rows v : List ℕ} {xs : List Start} {S H j : ℕ} (gr : Ground s slow ts cols rows) (at : At-round s slow xs S H j ts v) where
+  abbrev n : ℕ
+  n = s .cells
+
+  abbrev tw : ℕ
+  tw = s .across
+
+  abbrev th : ℕ
+  th = s .down
+
+  abbrev b : Board
+  b = whole s slow xs
+
+  size-is : n ≡ size b
+  size-is = size-whole s slow xs (gr .cells)
+
+  drift0 : (note : ℕ → ℕ) → Drift n (time ts) (tentative v n) (keys v n) 0 0 note
+  drift0 note = subst (λ q. Drift q (time ts) (tentative v n) (keys v n) 0 0 note) (sym size-is) (at .between .drift note)
 
   -- the front between rounds is ready for a drain
-  pub ready : {ts cols rows v : List ℕ} {stride horizon j : ℕ} → Ground s slow ts cols rows → At-round s slow xs stride horizon j ts v → Ready (s .cells) (rule-at s slow ts) v
+  pub ready : Ready n (rule-at s slow ts) v
   unfolding arrival slowness tile-of counts-as
-  ready {ts} {cols} {rows} {v} gr at = record {
+  ready = record {
     held = at .held;
-    settled = subst (λ n. Settled n (rule-by (whole s slow xs) (s .across) (s .down) ts) (tentative v (s .cells)) (keys v (s .cells))) (sym (size-whole (gr .cells))) (at .between .settled);
-    drifting = record {
-      stored = time ts;
-      last = 0;
-      drift = subst (λ n. Drift n (time ts) (tentative v (s .cells)) (keys v (s .cells)) 0 0 (noted v (s .cells))) (sym (size-whole (gr .cells))) (at .between .drift (noted v (s .cells)));
-    };
+    settled = subst (λ q. Settled q (rule-by b tw th ts) (tentative v n) (keys v n)) (sym size-is) (at .between .settled);
+    drifting = record { stored = time ts; last = 0; drift = drift0 (noted v n) };
   }
 
-  -- new stored times are as many
-  pub ground-kept : {ts us cols rows : List ℕ} → length us ≡ length ts → Ground s slow ts cols rows → Ground s slow us cols rows
-  ground-kept q gr = record { good = gr .good; cells = gr .cells; across = gr .across; down = gr .down; many = q ∙ gr .many; columns = gr .columns; lines = gr .lines }
-
-  module _ {ts cols rows v v1 : List ℕ} {S H j m : ℕ} (gr : Ground s slow ts cols rows) (good : Good (whole s slow xs)) (stride : 1 ≤ S) (horizon : H ≤ largest)
-      (at : At-round s slow xs S H j ts v) (dr : Drained (s .cells) (min (suc j * S) H) m (rule-at s slow ts) v v1) where
-    size-is : s .cells ≡ size (whole s slow xs)
-    size-is = size-whole (gr .cells)
-
+  module _ {v1 : List ℕ} {m : ℕ} (good : Good b) (stride : 1 ≤ S) (horizon : H ≤ largest) (dr : Drained n (min (suc j * S) H) m (rule-at s slow ts) v v1) where
     -- the notes are cells, and fit
-    drift1 : Drifted (s .cells) (min (suc j * S) H) (time ts) (tentative v1 (s .cells)) (keys v1 (s .cells)) m (noted v1 (s .cells))
-    drift1 = dr .drift (time ts) (subst (λ n. Drift n (time ts) (tentative v (s .cells)) (keys v (s .cells)) 0 0 (noted v (s .cells))) (sym size-is) (at .between .drift (noted v (s .cells))))
+    drift1 : Drifted n (min (suc j * S) H) (time ts) (tentative v1 n) (keys v1 n) m (noted v1 n)
+    drift1 = dr .drift (time ts) (drift0 (noted v n))
 
-    pub taken-fit : m ≤ s .cells
+    pub taken-fit : m ≤ n
     taken-fit = notes-fit (drift1 .drift)
 
-    pub taken-on : (i : ℕ) → i < m → noted v1 (s .cells) i < s .cells
+    pub taken-on : (i : ℕ) → i < m → noted v1 n i < n
     taken-on i l = drift1 .drift .noted i l .on
 
-    module _ (us : List ℕ) {v2 : List ℕ} (long : length us ≡ length ts) (wr : Written (s .cells) (time ts) (tentative v1 (s .cells)) (time us) m (noted v1 (s .cells)))
-        (an : Announced (s .cells) (rule-at s slow us) (time us) (noted v1 (s .cells)) (λ c. near (land s slow) (s .across) (s .down) border c) m v1 v2) where
-      between-at : Between (whole s slow xs) (s .across) (s .down) S H j ts (tentative v (size (whole s slow xs))) (keys v (size (whole s slow xs)))
-      between-at = subst (λ n. Between (whole s slow xs) (s .across) (s .down) S H j ts (tentative v n) (keys v n)) size-is (at .between)
+    module _ (us : List ℕ) {v2 : List ℕ} (long : length us ≡ length ts) (wr : Written n (time ts) (tentative v1 n) (time us) m (noted v1 n))
+        (an : Announced n (rule-at s slow us) (time us) (noted v1 n) (λ c. near (land s slow) tw th border c) m v1 v2) where
+      between-at : Between b tw th S H j ts (tentative v (size b)) (keys v (size b))
+      between-at = subst (λ q. Between b tw th S H j ts (tentative v q) (keys v q)) size-is (at .between)
 
-      drained-at : Drained (size (whole s slow xs)) (min (suc j * S) H) m (rule-by (whole s slow xs) (s .across) (s .down) ts) v v1
+      drained-at : Drained (size b) (min (suc j * S) H) m (rule-by b tw th ts) v v1
       unfolding arrival slowness tile-of counts-as
-      drained-at = subst (λ n. Drained n (min (suc j * S) H) m (rule-by (whole s slow xs) (s .across) (s .down) ts) v v1) size-is dr
+      drained-at = subst (λ q. Drained q (min (suc j * S) H) m (rule-by b tw th ts) v v1) size-is dr
 
-      long-at : length us ≡ size (whole s slow xs)
+      long-at : length us ≡ size b
       long-at = long ∙ gr .many ∙ size-is
 
-      written-at : Written (size (whole s slow xs)) (time ts) (tentative v1 (size (whole s slow xs))) (time us) m (noted v1 (size (whole s slow xs)))
-      written-at = subst (λ n. Written n (time ts) (tentative v1 n) (time us) m (noted v1 n)) size-is wr
+      written-at : Written (size b) (time ts) (tentative v1 (size b)) (time us) m (noted v1 (size b))
+      written-at = subst (λ q. Written q (time ts) (tentative v1 q) (time us) m (noted v1 q)) size-is wr
 
-      announced-at : Announced (size (whole s slow xs)) (rule-by (whole s slow xs) (s .across) (s .down) us) (time us) (noted v1 (size (whole s slow xs))) (λ c. near (whole s slow xs) (s .across) (s .down) border c) m v1 v2
+      announced-at : Announced (size b) (rule-by b tw th us) (time us) (noted v1 (size b)) (λ c. near b tw th border c) m v1 v2
       unfolding arrival slowness tile-of counts-as near size
-      announced-at = subst (λ n. Announced n (rule-by (whole s slow xs) (s .across) (s .down) us) (time us) (noted v1 n) (λ c. near (whole s slow xs) (s .across) (s .down) border c) m v1 v2) size-is an
+      announced-at = subst (λ q. Announced q (rule-by b tw th us) (time us) (noted v1 q) (λ c. near b tw th border c) m v1 v2) size-is an
 
       pub one-round : One-round s slow xs S H j m ts us v v2
       one-round = record {
@@ -157,11 +171,11 @@ module _ (s : Shape) (slow : List ℕ) (xs : List Start) where
         past = λ i l. announced-rest an i (omega arith) ∙ dr .past i l;
         next = record {
           held = announced-held (dr .held) an;
-          between = subst (λ n. Between (whole s slow xs) (s .across) (s .down) S H (suc j) us (tentative v2 n) (keys v2 n)) (sym size-is)
-              (round-between good (s .across) (s .down) S H (gr .across) (gr .down) stride horizon j ts us v v1 v2 m between-at drained-at long-at written-at announced-at);
+          between = subst (λ q. Between b tw th S H (suc j) us (tentative v2 q) (keys v2 q)) (sym size-is)
+              (round-between us good (gr .across) (gr .down) stride horizon between-at drained-at long-at written-at announced-at);
         };
-        idle = round-idle good (s .across) (s .down) S H (gr .across) (gr .down) stride horizon j ts us v v1 v2 m between-at drained-at long-at written-at announced-at;
-        busy = round-busy good (s .across) (s .down) S H (gr .across) (gr .down) stride horizon j ts us v v1 v2 m between-at drained-at long-at written-at announced-at;
+        idle = round-idle us good (gr .across) (gr .down) stride horizon between-at drained-at long-at written-at announced-at;
+        busy = round-busy us good (gr .across) (gr .down) stride horizon between-at drained-at long-at written-at announced-at;
       }
 
 -- ---- A RUN after `done` rounds, of which none was the last
@@ -172,19 +186,29 @@ pub record Mid-run (s : Shape) (slow : List ℕ) (xs : List Start) (S H done : �
   pub at : At-round s slow xs S H done ts v
   pub more : (k : ℕ) → 1 ≤ k → k ≤ done → last-round (whole s slow xs) (s .across) (s .down) S H k ≡ false
 
-module _ (s : Shape) (slow : List ℕ) (xs : List Start) (good : Good (whole s slow xs)) (S H : ℕ) (stride : 1 ≤ S) (stride-high : S ≤ largest) (horizon : H ≤ largest) where
+module _ (s : Shape) (slow : List ℕ) (xs : List Start) (good : Good (whole s slow xs)) (S H : ℕ) (stride : 1 ≤ S) (stride-high : S ≤ largest)
+    (horizon : H ≤ largest) where
+  abbrev bd : Board
+  bd = whole s slow xs
+
+  abbrev across : ℕ
+  across = s .across
+
+  abbrev down : ℕ
+  down = s .down
+
   abbrev pub total-rounds : ℕ
-  total-rounds = rounds (whole s slow xs) (s .across) (s .down) S H
+  total-rounds = rounds bd across down S H
 
   -- the rounds are fewer than a thousand million
   rounds-short : total-rounds ≤ 1000000000
   rounds-short =
       omega (
         arith,
-        rounds-few (whole s slow xs) good (s .across) (s .down) S H stride horizon,
+        rounds-few bd good across down S H stride horizon,
         up-most H S stride,
-        reached-most H (solved (whole s slow xs)),
-        solved-long (whole s slow xs),
+        reached-most H (solved bd),
+        solved-long bd,
         size-most good,
       )
 
@@ -196,8 +220,8 @@ module _ (s : Shape) (slow : List ℕ) (xs : List Start) (good : Good (whole s s
         go : (done < total-rounds) ⊎ (total-rounds ≤ done) → done < total-rounds
         go (inl l) = l
         go (inr l) =
-            absurd (true≢false (sym (rounds-last (whole s slow xs) good (s .across) (s .down) S H stride horizon)
-            ∙ md .more total-rounds (rounds-low (whole s slow xs) good (s .across) (s .down) S H stride horizon) l))
+            absurd (true≢false (sym (rounds-last bd good across down S H stride horizon)
+            ∙ md .more total-rounds (rounds-low bd good across down S H stride horizon) l))
 
     pub run-short : done < 1000000000
     run-short = omega (arith, rounds-short, rounds-left)
@@ -210,8 +234,8 @@ module _ (s : Shape) (slow : List ℕ) (xs : List Start) (good : Good (whole s s
       -- the last one: at the horizon, and it took no cell
       pub run-ends : m ≡ 0 → leb H (suc done * S) ≡ true → {limit : ℕ} → done < limit → Ran s slow xs S H limit (suc done) ts₀ ts' v₀ v'
       run-ends e l below =
-          let last = is-last (whole s slow xs) (s .across) (s .down) S H done (leb-true H (suc done * S) l) (one .idle e) in
-          let is = rounds-is (whole s slow xs) good (s .across) (s .down) S H stride horizon (suc done) (omega arith) last (λ k a b. md .more k a (omega arith)) in
+          let last = is-last bd across down S H done (leb-true H (suc done * S) l) (one .idle e) in
+          let is = rounds-is bd good across down S H stride horizon (suc done) (omega arith) last (λ k a b. md .more k a (omega arith)) in
           record {
             counted = omega (arith, is);
             holds = one .next .between .is;
@@ -221,25 +245,25 @@ module _ (s : Shape) (slow : List ℕ) (xs : List Start) (good : Good (whole s s
           }
 
       -- not the last one, and a leap
-      module _ (size-is : s .cells ≡ size (whole s slow xs)) {least r : ℕ} (le : (c : ℕ) → c < s .cells → least ≤ keys v' (s .cells) c) (lp : Leapt least (suc done) S H r)
-          (other : last-round (whole s slow xs) (s .across) (s .down) S H (suc done) ≡ false) where
-        leaps : Between (whole s slow xs) (s .across) (s .down) S H r ts' (tentative v' (s .cells)) (keys v' (s .cells))
+      module _ (size-is : s .cells ≡ size bd) {least r : ℕ} (le : (c : ℕ) → c < s .cells → least ≤ keys v' (s .cells) c) (lp : Leapt least (suc done) S H r)
+          (other : last-round bd across down S H (suc done) ≡ false) where
+        leaps : Between bd across down S H r ts' (tentative v' (s .cells)) (keys v' (s .cells))
         leaps = go (order (suc done) r)
           where
-            far : suc done < r → (c : ℕ) → c < size (whole s slow xs) → min (r * S) H < keys v' (s .cells) c
+            far : suc done < r → (c : ℕ) → c < size bd → min (r * S) H < keys v' (s .cells) c
             far h c l = omega (arith, lp .short h, le c (rw size-is l))
 
             add : (r - suc done) + suc done ≡ r
             add = omega (arith, lp .up)
 
-            go : (suc done < r) ⊎ (r ≤ suc done) → Between (whole s slow xs) (s .across) (s .down) S H r ts' (tentative v' (s .cells)) (keys v' (s .cells))
+            go : (suc done < r) ⊎ (r ≤ suc done) → Between bd across down S H r ts' (tentative v' (s .cells)) (keys v' (s .cells))
             go (inl h) =
-                subst (λ k. Between (whole s slow xs) (s .across) (s .down) S H k ts' (tentative v' (s .cells)) (keys v' (s .cells))) add
-                (leap good (s .across) (s .down) S H stride horizon (r - suc done) (suc done) ts' (tentative v' (s .cells)) (keys v' (s .cells)) (one .next .between)
+                subst (λ k. Between bd across down S H k ts' (tentative v' (s .cells)) (keys v' (s .cells))) add
+                (leap good across down S H stride horizon (r - suc done) (suc done) ts' (tentative v' (s .cells)) (keys v' (s .cells)) (one .next .between)
                 (λ c l. subst (λ k. min (k * S) H < keys v' (s .cells) c) (sym add) (far h c l)))
             go (inr h) =
                 let e : suc done ≡ r = omega (arith, lp .up) in
-                subst (λ k. Between (whole s slow xs) (s .across) (s .down) S H k ts' (tentative v' (s .cells)) (keys v' (s .cells))) e (one .next .between)
+                subst (λ k. Between bd across down S H k ts' (tentative v' (s .cells)) (keys v' (s .cells))) e (one .next .between)
 
         pub run-goes-on : Mid-run s slow xs S H r ts₀ ts' v₀ v'
         run-goes-on = record {
@@ -250,19 +274,19 @@ module _ (s : Shape) (slow : List ℕ) (xs : List Start) (good : Good (whole s s
           more = λ k a b. go k a b (order k (suc done));
         }
           where
-            go : (k : ℕ) → 1 ≤ k → k ≤ r → (k < suc done) ⊎ (suc done ≤ k) → last-round (whole s slow xs) (s .across) (s .down) S H k ≡ false
+            go : (k : ℕ) → 1 ≤ k → k ≤ r → (k < suc done) ⊎ (suc done ≤ k) → last-round bd across down S H k ≡ false
             go k a b (inl h) = md .more k a (omega arith)
             go k a b (inr h) = elim (ℕ-discrete k (suc done)) [
-              | yes q ↦ subst (λ u. last-round (whole s slow xs) (s .across) (s .down) S H u ≡ false) (sym q) other
-              | no q ↦ not-yet (whole s slow xs) (s .across) (s .down) S H k (omega (arith, lp .short (omega arith), mul-le-mul-right S b))
+              | yes q ↦ subst (λ u. last-round bd across down S H u ≡ false) (sym q) other
+              | no q ↦ not-yet bd across down S H k (omega (arith, lp .short (omega arith), mul-le-mul-right S b))
             ]
 
       -- not the last one: before the horizon, or it took cells
-      pub run-early : leb H (suc done * S) ≡ false → last-round (whole s slow xs) (s .across) (s .down) S H (suc done) ≡ false
-      run-early l = not-yet (whole s slow xs) (s .across) (s .down) S H (suc done) (leb-false H (suc done * S) l)
+      pub run-early : leb H (suc done * S) ≡ false → last-round bd across down S H (suc done) ≡ false
+      run-early l = not-yet bd across down S H (suc done) (leb-false H (suc done * S) l)
 
-      pub run-busy : m ≢ 0 → last-round (whole s slow xs) (s .across) (s .down) S H (suc done) ≡ false
-      run-busy q = not-last (whole s slow xs) (s .across) (s .down) S H done (one .busy (omega (arith, q)))
+      pub run-busy : m ≢ 0 → last-round bd across down S H (suc done) ≡ false
+      run-busy q = not-last bd across down S H done (one .busy (omega (arith, q)))
 
   pub run-begins : {ts v : List ℕ} → At-round s slow xs S H 0 ts v → Mid-run s slow xs S H 0 ts ts v v
   run-begins at = record { long = refl; kept = refl; past = λ i l. refl; at = at; more = λ k a b. absurd (omega arith) }
@@ -272,7 +296,7 @@ module _ (s : Shape) (slow : List ℕ) (xs : List Start) (good : Good (whole s s
     pub run-counts : r ≡ total-rounds
     run-counts = omega (arith, ran .counted, rounds-short)
 
-    pub run-marches : ts' ≡ marched (whole s slow xs) H
+    pub run-marches : ts' ≡ marched bd H
     run-marches =
-        ran .holds ∙ ap (λ (k : ℕ). after-rounds k (whole s slow xs) (s .across) (s .down) S H) run-counts
-        ∙ rounds-march (whole s slow xs) good (s .across) (s .down) S H stride horizon
+        ran .holds ∙ ap (λ (k : ℕ). after-rounds k bd across down S H) run-counts
+        ∙ rounds-march bd good across down S H stride horizon

@@ -1,22 +1,22 @@
--- A round's beginning: every cell has its start's time. Assumes nothing.
+-- A round's beginning: every cell has its start's time.
 use mathlib.Core.Path.{_≡_, refl, sym, _∙_}
 use mathlib.Core.Bool.{Bool, true, false}
-use mathlib.Core.Logic.{inr}
 use mathlib.Core.List.{List}
 use Prim.Native.Nat.{ℕ, zero, suc, _-_, _≤_, _<_, min}
 use native.Mathlib.Omega.{arith}
-use Rattle.eikonal.specs.Board.{Board, Start, never, size, slowness, start-time, arrival}
+use Rattle.eikonal.specs.Board.{Board, never, size, slowness, start-time, arrival}
+use Rattle.eikonal.specs.declared.Start.{Start}
 use Rattle.eikonal.specs.Refusals.{starts-rise, late}
 use Rattle.eikonal.specs.Promise.{Neighbour}
 use Rattle.eikonal.specs.Inner.Good.{Good}
 use Rattle.eikonal.proofs.Local.{local-of, earlier-min, Answers, stays, comes, local-answers}
-use Rattle.eikonal.proofs.Rule.{sides}
+use Rattle.eikonal.proofs.Rule.{earlier-seen}
 use Rattle.eikonal.proofs.Neighbours.{arrival-is, arrival-same}
 use Rattle.queue.specs.Tree.{keys}
 use Rattle.front.specs.Front.{heard, Upheld, total, fallen, Drift}
 use Rattle.front.specs.Board.{tentative, noted}
 use Rattle.front.specs.State.{Held, Seeded, Empty, Standing, Begun}
-use Rattle.front.proofs.Theory.Seeding.{soonest-is, seeded-soonest}
+use Rattle.front.proofs.Theory.Seeding.{placed-held, soonest-is, seeded-soonest}
 
 -- emptied and seeded, the work list is begun
 pub begun : (n : ℕ) (xs : List Start) (v u v' : List ℕ) → starts-rise n 0 xs ≡ true → late xs ≡ false → Empty n v u → Seeded n xs u v' → Begun n xs v v'
@@ -28,7 +28,7 @@ begun n xs v u v' ri ea em se = record {
 
 module _ {n : ℕ} {xs : List Start} {v' : List ℕ} (be : Standing n xs v') where
   pub standing-held : Held n v'
-  standing-held = record { room = be .placed .room; tree = be .placed .tree; tied = record { small = be .placed .small; tied = λ c l. inr (be .placed .even c l) } }
+  standing-held = placed-held (be .placed)
 
   -- nothing is heard yet
   pub standing-silent : (c : ℕ) → c < n → heard (tentative v' n) (keys v' n) c ≡ never
@@ -41,7 +41,8 @@ module _ {n : ℕ} {xs : List Start} {v' : List ℕ} (be : Standing n xs v') whe
   unfolding total
   none-fallen stored nv zero l = refl
   none-fallen stored nv (suc m) l =
-      let here : min 1 (stored m - tentative v' n m) - min 1 (never - keys v' n m) ≡ 0 = rw (nv m (omega arith), be .placed .even m (omega arith)) (omega arith) in
+      let here : min 1 (stored m - tentative v' n m) - min 1 (never - keys v' n m) ≡ 0 =
+      rw (nv m (omega arith), be .placed .even m (omega arith)) (omega arith) in
       omega (arith, none-fallen stored nv m (omega arith))
 
   -- with stored times that are all never, nothing is taken yet
@@ -56,8 +57,8 @@ module _ {n : ℕ} {xs : List Start} {v' : List ℕ} (be : Standing n xs v') whe
   }
 
 -- ---- a cell that sees no time is given none
-sides-quiet : (p q : Bool) (i j : ℕ) → sides p q i j (λ e. never) ≡ never
-unfolding sides
+sides-quiet : (p q : Bool) (i j : ℕ) → earlier-seen p q i j (λ e. never) ≡ never
+unfolding earlier-seen
 sides-quiet true true i j = earlier-min never never
 sides-quiet true false i j = earlier-min never never
 sides-quiet false true i j = earlier-min never never

@@ -1,5 +1,5 @@
 -- The commit of a round: stored times fall to the tentative times of the noted cells, and cells of other tiles hear of them one noted cell after the other.
--- Code reads all new stored times at once; the invariant brings them in one by one. Assumes nothing.
+-- Code reads all new stored times at once; the invariant brings them in one by one: a ghost exchange, ghost by ghost.
 use mathlib.Core.Path.{_≡_, refl, sym, ap, subst, _∙_}
 use mathlib.Core.Bool.{Bool, true, false, cond, _||_}
 use mathlib.Core.Logic.{_≢_}
@@ -47,13 +47,35 @@ ghost-agrees b e t u l m = rw (le-ltb largest t m) (go (eqb (slowness b e) 0) (l
     go false false = omega arith
 
 -- d does not see c as a ghost
-abbrev pub Apart : Board → (tw th c d : ℕ) → Type 0
-Apart b tw th c d = Neighbour b d c → tile-of b tw th d ≡ tile-of b tw th c
+abbrev pub No-ghost : Board → (tw th c d : ℕ) → Type 0
+No-ghost b tw th c d = Neighbour b d c → tile-of b tw th d ≡ tile-of b tw th c
+
+-- ---- stored times of which the first i noted ones are new
+unfoldable pub part-new : Board → (ts us : List ℕ) → (note : ℕ → ℕ) → (i d e : ℕ) → ℕ
+part-new b ts us note zero d e = counts-as b ts e
+part-new b ts us note (suc i) d e = cond (eqb e (note i)) (counts-as b us e) (part-new b ts us note i d e)
+
+module _ (b : Board) (ts us : List ℕ) (note : ℕ → ℕ) where
+  data Part (i d e : ℕ) : Type 0 where
+    fresh : part-new b ts us note i d e ≡ counts-as b us e → Part i d e
+    stale : part-new b ts us note i d e ≡ counts-as b ts e → ((j : ℕ) → j < i → note j ≢ e) → Part i d e
+
+  part : (i d e : ℕ) → Part i d e
+  unfolding part-new
+  part zero d e = stale refl (λ j l. absurd (omega arith))
+  part (suc i) d e = elim (ℕ-discrete e (note i)) [
+    | yes q ↦ fresh (rw (eq-eqb e (note i) q))
+    | no q ↦ go q (part i d e)
+  ]
+    where
+      go : e ≢ note i → Part i d e → Part (suc i) d e
+      go q (fresh p) = fresh (rw (ne-eqb e (note i) q) p)
+      go q (stale p f) = stale (rw (ne-eqb e (note i) q) p) (λ j l. elim (ℕ-discrete j i) [ yes z ↦ (λ w. q (sym w ∙ ap note z)) | no z ↦ f j (omega arith) ])
 
 module _ {b : Board} (good : Good b) (tw th : ℕ) where
   -- ONE NOTED CELL: its ghost falls to t. Cells that are apart from it keep what they have, the others keep it up to t
   pub announced : (g g' : ℕ → ℕ → ℕ) (c t : ℕ) (y k : ℕ → ℕ) → t < never → ((d e : ℕ) → e ≢ c → g' d e ≡ g d e)
-      → ((d : ℕ) → min t (g d c) ≡ min t (g' d c)) → Settled (size b) (gives b tw th g) y k → Midway (size b) (gives b tw th g') t (Apart b tw th c) y k
+      → ((d : ℕ) → min t (g d c) ≡ min t (g' d c)) → Settled (size b) (gives b tw th g) y k → Midway (size b) (gives b tw th g') t (No-ghost b tw th c) y k
   announced g g' c t y k i same low se = record {
     weak = λ d l. omega (arith, se d l, gives-causal good tw th g g' t d i l (heard y k) (heard y k) (λ e m. refl) (λ e m. agree d e));
     settled = λ d l a. subst (λ u. y d ≤ u) (gives-same good tw th g g' d l (heard y k) (heard y k) (λ e m n. alike d e n a)) (se d l);
@@ -72,7 +94,7 @@ module _ {b : Board} (good : Good b) (tw th : ℕ) where
       pick true x u v e = refl
       pick false x u v e = e
 
-      alike : (d e : ℕ) → Neighbour b d e → Apart b tw th c d → ghosted b tw th g (heard y k) d e ≡ ghosted b tw th g' (heard y k) d e
+      alike : (d e : ℕ) → Neighbour b d e → No-ghost b tw th c d → ghosted b tw th g (heard y k) d e ≡ ghosted b tw th g' (heard y k) d e
       alike d e n a = elim (ℕ-discrete e c) [
         | yes q ↦ own d e (a (subst (λ u. Neighbour b d u) q n) ∙ ap (tile-of b tw th) (sym q))
         | no q ↦ pick (eqb (tile-of b tw th d) (tile-of b tw th e)) (heard y k e) (g d e) (g' d e) (sym (same d e q))
@@ -83,53 +105,33 @@ module _ {b : Board} (good : Good b) (tw th : ℕ) where
       (falls : (e : ℕ) → e < size b → time us e ≤ time ts e)
       (new : (i : ℕ) → i < m → time us (note i) ≤ largest)
       (old : (c : ℕ) → c < size b → ((i : ℕ) → i < m → note i ≢ c) → time us c ≡ time ts c) where
-    -- stored times of which the first i noted ones are new
-    unfoldable pub part-new : (i : ℕ) → (d e : ℕ) → ℕ
-    part-new zero d e = counts-as b ts e
-    part-new (suc i) d e = cond (eqb e (note i)) (counts-as b us e) (part-new i d e)
-
-    data Part (i d e : ℕ) : Type 0 where
-      fresh : part-new i d e ≡ counts-as b us e → Part i d e
-      stale : part-new i d e ≡ counts-as b ts e → ((j : ℕ) → j < i → note j ≢ e) → Part i d e
-
-    part : (i d e : ℕ) → Part i d e
-    unfolding part-new
-    part zero d e = stale refl (λ j l. absurd (omega arith))
-    part (suc i) d e = elim (ℕ-discrete e (note i)) [
-      | yes q ↦ fresh (rw (eq-eqb e (note i) q))
-      | no q ↦ go q (part i d e)
-    ]
-      where
-        go : e ≢ note i → Part i d e → Part (suc i) d e
-        go q (fresh p) = fresh (rw (ne-eqb e (note i) q) p)
-        go q (stale p f) = stale (rw (ne-eqb e (note i) q) p) (λ j l. elim (ℕ-discrete j i) [ yes z ↦ (λ w. q (sym w ∙ ap note z)) | no z ↦ f j (omega arith) ])
-
     -- none is earlier than the new one
-    part-falls : (i d e : ℕ) → e < size b → counts-as b us e ≤ part-new i d e
-    part-falls i d e l = go (part i d e)
+    part-falls : (i d e : ℕ) → e < size b → counts-as b us e ≤ part-new b ts us note i d e
+    part-falls i d e l = go (part b ts us note i d e)
       where
-        go : Part i d e → counts-as b us e ≤ part-new i d e
+        go : Part b ts us note i d e → counts-as b us e ≤ part-new b ts us note i d e
         go (fresh p) = omega arith
         go (stale p f) = omega (arith, ghost-falls b e (time us e) (time ts e) (falls e l), ghost-is b us e, ghost-is b ts e)
 
     -- so the rule with all new times gives no later ones
-    pub new-under : (i c : ℕ) → c < size b → (f : ℕ → ℕ) → rule-by b tw th us c f ≤ gives b tw th (part-new i) c f
-    new-under i c l f = gives-mono good tw th (λ d e. counts-as b us e) (part-new i) c l f f (λ e m. omega arith) (λ e m. part-falls i c e m)
+    pub new-under : (i c : ℕ) → c < size b → (f : ℕ → ℕ) → rule-by b tw th us c f ≤ gives b tw th (part-new b ts us note i) c f
+    new-under i c l f = gives-mono good tw th (λ d e. counts-as b us e) (part-new b ts us note i) c l f f (λ e m. omega arith) (λ e m. part-falls i c e m)
 
     -- the next noted cell is announced
-    pub announce-next : (i : ℕ) → i < m → note i < size b → (y k : ℕ → ℕ) → Settled (size b) (gives b tw th (part-new i)) y k
-        → Midway (size b) (gives b tw th (part-new (suc i))) (time us (note i)) (Apart b tw th (note i)) y k
+    pub announce-next : (i : ℕ) → i < m → note i < size b → (y k : ℕ → ℕ) → Settled (size b) (gives b tw th (part-new b ts us note i)) y k
+        → Midway (size b) (gives b tw th (part-new b ts us note (suc i))) (time us (note i)) (No-ghost b tw th (note i)) y k
     unfolding part-new
     announce-next i l on y k se =
-        announced (part-new i) (part-new (suc i)) (note i) (time us (note i)) y k (omega (arith, new i l)) (λ d e q. rw (ne-eqb e (note i) q)) low se
+        announced (part-new b ts us note i) (part-new b ts us note (suc i)) (note i) (time us (note i)) y k (omega (arith, new i l))
+        (λ d e q. rw (ne-eqb e (note i) q)) low se
       where
-        now-new : (d : ℕ) → part-new (suc i) d (note i) ≡ counts-as b us (note i)
+        now-new : (d : ℕ) → part-new b ts us note (suc i) d (note i) ≡ counts-as b us (note i)
         now-new d = rw (eq-eqb (note i) (note i) refl)
 
-        low : (d : ℕ) → min (time us (note i)) (part-new i d (note i)) ≡ min (time us (note i)) (part-new (suc i) d (note i))
-        low d = rw (now-new d) (go (part i d (note i)))
+        low : (d : ℕ) → min (time us (note i)) (part-new b ts us note i d (note i)) ≡ min (time us (note i)) (part-new b ts us note (suc i) d (note i))
+        low d = rw (now-new d) (go (part b ts us note i d (note i)))
           where
-            go : Part i d (note i) → min (time us (note i)) (part-new i d (note i)) ≡ min (time us (note i)) (counts-as b us (note i))
+            go : Part b ts us note i d (note i) → min (time us (note i)) (part-new b ts us note i d (note i)) ≡ min (time us (note i)) (counts-as b us (note i))
             go (fresh p) = ap (min (time us (note i))) p
             go (stale p f) =
                 ap (min (time us (note i))) (p ∙ ghost-is b ts (note i))
@@ -137,20 +139,24 @@ module _ {b : Board} (good : Good b) (tw th : ℕ) where
                 ∙ ap (min (time us (note i))) (sym (ghost-is b us (note i)))
 
     -- at the end all are
-    pub all-new : (y k : ℕ → ℕ) → Settled (size b) (gives b tw th (part-new m)) y k → Settled (size b) (rule-by b tw th us) y k
+    pub all-new : (y k : ℕ → ℕ) → Settled (size b) (gives b tw th (part-new b ts us note m)) y k → Settled (size b) (rule-by b tw th us) y k
     all-new y k se c l =
-        subst (λ u. y c ≤ u) (gives-same good tw th (part-new m) (λ d e. counts-as b us e) c l (heard y k) (heard y k) (λ e on n. pick (eqb (tile-of b tw th c) (tile-of b tw th e)) e on (part m c e))) (se c l)
+        subst (λ u. y c ≤ u)
+        (gives-same good tw th (part-new b ts us note m) (λ d e. counts-as b us e) c l (heard y k) (heard y k)
+        (λ e on n. pick (eqb (tile-of b tw th c) (tile-of b tw th e)) e on (part b ts us note m c e)))
+        (se c l)
       where
-        same : (e : ℕ) → e < size b → Part m c e → part-new m c e ≡ counts-as b us e
+        same : (e : ℕ) → e < size b → Part b ts us note m c e → part-new b ts us note m c e ≡ counts-as b us e
         same e on (fresh p) = p
         same e on (stale p f) = p ∙ ghost-is b ts e ∙ ap (ghost-of b e) (sym (old e on f)) ∙ sym (ghost-is b us e)
 
-        pick : (p : Bool) (e : ℕ) → e < size b → Part m c e → cond p (heard y k e) (part-new m c e) ≡ cond p (heard y k e) (counts-as b us e)
+        pick : (p : Bool) (e : ℕ) → e < size b → Part b ts us note m c e
+            → cond p (heard y k e) (part-new b ts us note m c e) ≡ cond p (heard y k e) (counts-as b us e)
         pick true e on q = refl
         pick false e on q = same e on q
 
     -- at the beginning none is
-    pub none-new : (y k : ℕ → ℕ) → Settled (size b) (rule-by b tw th ts) y k → Settled (size b) (gives b tw th (part-new 0)) y k
+    pub none-new : (y k : ℕ → ℕ) → Settled (size b) (rule-by b tw th ts) y k → Settled (size b) (gives b tw th (part-new b ts us note 0)) y k
     unfolding part-new
     none-new y k se = se
 

@@ -1,4 +1,4 @@
--- One cell taken, and a whole drain: what they leave of the front and of the round so far. Assumes nothing.
+-- One cell taken, and a whole drain: what they leave of the front and of the round so far.
 use mathlib.Core.Path.{_≡_, refl, sym, ap, subst, fun-ext, _∙_}
 use mathlib.Core.Logic.{_⊎_, inl, ⊎-elim, _≢_}
 use mathlib.Core.List.{List}
@@ -26,8 +26,8 @@ use Rattle.front.proofs.Theory.Telling.{told-held, told-long, told-rest
 use borrow.Author.Tests.{ne-eqb}
 
 -- the note is stored, then the cell is removed from the queue
-pub is-popped : (n m c : ℕ) (v u : List ℕ) → Held n v → Least v n c → keys v n c < never → m < n → Put (set v (3 * n + m) c) n c never u → Popped n m c v u
-is-popped n m c v u he le p l put = record {
+pub is-popped : {n m c : ℕ} {v u : List ℕ} → Held n v → Least v n c → keys v n c < never → m < n → Put (set v (3 * n + m) c) n c never u → Popped n m c v u
+is-popped {n} {m} {c} {v} he le p l put = record {
   on = le .cell;
   pending = p;
   least = le .least;
@@ -63,103 +63,86 @@ module _ {n m c : ℕ} {v u : List ℕ} (he : Held n v) (po : Popped n m c v u) 
   popped-weight =
       total-lt n c _ _ (po .on) (omega (arith, po .times c (po .on), po .gone, po .pending))
       (λ d l. elim (ℕ-discrete d c) [
-        | yes q ↦ subst (λ e. 2 * tentative u n e + min 1 (never - keys u n e) ≤ 2 * tentative v n e + min 1 (never - keys v n e)) (sym q) (omega (arith, po .times c (po .on), po .gone))
+        | yes q ↦ subst (λ e. 2 * tentative u n e + min 1 (never - keys u n e) ≤ 2 * tentative v n e + min 1 (never - keys v n e)) (sym q)
+            (omega (arith, po .times c (po .on), po .gone))
         | no q ↦ omega (arith, po .times d l, po .keep d l q)
       ])
 
-  module _ (L : ℕ → (ℕ → ℕ) → ℕ) (law : Lawful n L) where
-    pub popped-midway : (Clear : ℕ → Type 0) → Settled n L (tentative v n) (keys v n)
+  module _ {L : ℕ → (ℕ → ℕ) → ℕ} (law : Lawful n L) where
+    popped-midway : {Clear : ℕ → Type 0} → Settled n L (tentative v n) (keys v n)
         → ((d : ℕ) → d < n → Clear d → (f g : ℕ → ℕ) → ((e : ℕ) → e < n → e ≢ c → f e ≡ g e) → L d f ≡ L d g)
         → Midway n L (keys v n c) Clear (tentative u n) (keys u n)
-    popped-midway Clear se far =
-        midway-same n (tentative v n) (tentative u n) (keys u n) (keys u n) (po .times) (λ d l. refl) L law (keys v n c) Clear
+    popped-midway {Clear} se far =
+        midway-same law (po .times)
         (subst (λ t. Midway n L t Clear (tentative v n) (keys u n)) (sym key-is)
-        (popped n L law c Clear (tentative v n) (keys v n) (keys u n) (he .tied) se (po .on) (po .pending) (po .gone) (po .keep) far))
+        (popped law (he .tied) se (po .on) (po .pending) (po .gone) (po .keep) far))
 
-    pub popped-upheld : (start : ℕ → ℕ) → Upheld n L start (tentative v n) → Upheld n L start (tentative u n)
-    popped-upheld start = upheld-same n (tentative v n) (tentative u n) (keys v n) (keys v n) (po .times) (λ d l. refl) L law start
+    popped-upheld : {start : ℕ → ℕ} → Upheld n L start (tentative v n) → Upheld n L start (tentative u n)
+    popped-upheld = upheld-same law (po .times)
 
-  pub popped-drift : (stored : ℕ → ℕ) (t : ℕ) → Drift n stored (tentative v n) (keys v n) t m (noted v n) → Drift n stored (tentative u n) (keys u n) (keys v n c) (suc m) (noted u n)
-  popped-drift stored t dr =
-      drift-same n (tentative v n) (tentative u n) (keys u n) (keys u n) (po .times) (λ d l. refl) stored (keys v n c) (suc m) (noted u n)
+  popped-drift : {stored : ℕ → ℕ} {t : ℕ} → Drift n stored (tentative v n) (keys v n) t m (noted v n)
+      → Drift n stored (tentative u n) (keys u n) (keys v n c) (suc m) (noted u n)
+  popped-drift {stored} dr =
+      drift-same (po .times)
       (subst (λ s. Drift n stored (tentative v n) (keys u n) s (suc m) (noted u n)) (sym key-is)
       (drift-taken (he .tied) dr c (keys u n) (noted u n) (po .on) (po .pending) (po .least) (po .gone) (po .keep) (po .note) (po .notes)))
 
--- ---- A DRAIN after m cells, the next being c
-pub record Mid-drain (s : Shape) (slow ts : List ℕ) (bound m c : ℕ) (v₀ v : List ℕ) : Type 0 where
-  pub held : Held (s .cells) v
-  pub least : Least v (s .cells) c
-  pub long : length v ≡ length v₀
-  pub past : (j : ℕ) → 4 * s .cells ≤ j → getD v j 0 ≡ getD v₀ j 0
-  pub settled : Settled (s .cells) (rule-at s slow ts) (tentative v (s .cells)) (keys v (s .cells))
-  pub upheld : (start : ℕ → ℕ) → Upheld (s .cells) (rule-at s slow ts) start (tentative v₀ (s .cells)) → Upheld (s .cells) (rule-at s slow ts) start (tentative v (s .cells))
-  pub drifting : Drifting (s .cells) (tentative v (s .cells)) (keys v (s .cells)) m (noted v (s .cells))
-  pub drift : (stored : ℕ → ℕ) → Drift (s .cells) stored (tentative v₀ (s .cells)) (keys v₀ (s .cells)) 0 0 (noted v₀ (s .cells))
-      → Drifted (s .cells) bound stored (tentative v (s .cells)) (keys v (s .cells)) m (noted v (s .cells))
+-- ---- ONE CELL TAKEN, by a rule L, and the cells es hear of it. Those that do not, do not see it
+abbrev Blind : (n : ℕ) → (L : ℕ → (ℕ → ℕ) → ℕ) → (c : ℕ) → List ℕ → Type 0
+Blind n L c es = (d : ℕ) → d < n → Out d es → (f g : ℕ → ℕ) → ((e : ℕ) → e < n → e ≢ c → f e ≡ g e) → L d f ≡ L d g
 
--- ---- ONE CELL TAKEN and told within its tile
-module _ (s : Shape) (slow ts cols rows : List ℕ) (gr : Ground s slow ts cols rows) where
-  pub lawful : Lawful (s .cells) (rule-at s slow ts)
-  lawful = subst (λ n. Lawful n (rule-at s slow ts)) (sym (cells-size s slow ts cols rows gr)) (gives-lawful (gr .good) (s .across) (s .down) (λ d e. counts-as (land s slow) ts e))
+module _ {n m c : ℕ} {L : ℕ → (ℕ → ℕ) → ℕ} {es v v' : List ℕ} (he : Held n v) (tk : Took n m c L es v v') where
+  middle-held : Held n (tk .middle)
+  middle-held = popped-held he (tk .popped)
 
-  -- a cell that is not told within the tile does not see c as it is
-  far : (c : ℕ) → c < s .cells → (d : ℕ) → d < s .cells → Out d (near (land s slow) (s .across) (s .down) inside c)
-      → (f g : ℕ → ℕ) → ((e : ℕ) → e < s .cells → e ≢ c → f e ≡ g e) → rule-at s slow ts d f ≡ rule-at s slow ts d g
-  far c l d m o f g same =
-      gives-same (gr .good) (s .across) (s .down) (λ a b. counts-as (land s slow) ts b) (λ a b. counts-as (land s slow) ts b) d (rw (← size-is) m) f g seen
-    where
-      size-is : s .cells ≡ size (land s slow)
-      size-is = cells-size s slow ts cols rows gr
+  pub took-held : Held n v'
+  took-held = told-held middle-held (tk .told)
 
-      other : (e : ℕ) → Neighbour (land s slow) d e → e ≡ c → tile-of (land s slow) (s .across) (s .down) d ≢ tile-of (land s slow) (s .across) (s .down) e
-      other e n q z =
-          untold-inside (gr .good) (s .across) (s .down) (gr .across) (gr .down) c d (rw (← size-is) l) (rw (← size-is) m) (subst (λ w. Neighbour (land s slow) d w) q n) o
-          (z ∙ ap (tile-of (land s slow) (s .across) (s .down)) q)
+  took-long : length v' ≡ length v
+  took-long = told-long (tk .told) ∙ tk .popped .long
 
-      seen : (e : ℕ) → e < size (land s slow) → Neighbour (land s slow) d e
-          → ghosted (land s slow) (s .across) (s .down) (λ a b. counts-as (land s slow) ts b) f d e ≡ ghosted (land s slow) (s .across) (s .down) (λ a b. counts-as (land s slow) ts b) g d e
-      seen e on n = elim (ℕ-discrete e c) [
-        | yes q ↦ rw (ne-eqb (tile-of (land s slow) (s .across) (s .down) d) (tile-of (land s slow) (s .across) (s .down) e) (other e n q))
-        | no q ↦ rw (same e (rw size-is on) q)
-      ]
+  took-past : (j : ℕ) → 4 * n ≤ j → getD v' j 0 ≡ getD v j 0
+  took-past j l = told-rest (tk .told) j (omega arith) ∙ tk .popped .past j l
 
-  module _ {m c : ℕ} {v v' : List ℕ} (he : Held (s .cells) v) (tk : Took (s .cells) m c (rule-at s slow ts) (near (land s slow) (s .across) (s .down) inside c) v v') where
-    middle-held : Held (s .cells) (tk .middle)
-    middle-held = popped-held he (tk .popped)
+  pub took-weight : weight n (tentative v' n) (keys v' n) < weight n (tentative v n) (keys v n)
+  took-weight = omega (arith, told-weight (tk .told), popped-weight he (tk .popped))
 
-    pub took-held : Held (s .cells) v'
-    took-held = told-held (s .cells) _ _ middle-held (tk .told)
+  module _ (law : Lawful n L) where
+    took-upheld : (start : ℕ → ℕ) → Upheld n L start (tentative v n) → Upheld n L start (tentative v' n)
+    took-upheld start up = told-upheld law start (tk .told) (popped-upheld he (tk .popped) law up)
 
-    pub took-long : length v' ≡ length v
-    took-long = told-long (s .cells) _ _ (tk .told) ∙ tk .popped .long
+    module _ (far : Blind n L c es) (se : Settled n L (tentative v n) (keys v n)) where
+      midway : Midway n L (keys v n c) (λ d. Out d es × Unit {0}) (tentative (tk .middle) n) (keys (tk .middle) n)
+      midway = popped-midway he (tk .popped) law se (λ d l o. far d l (o .0))
 
-    pub took-past : (j : ℕ) → 4 * s .cells ≤ j → getD v' j 0 ≡ getD v j 0
-    took-past j l = told-rest (s .cells) _ _ (tk .told) j (omega arith) ∙ tk .popped .past j l
+      took-settled : Settled n L (tentative v' n) (keys v' n)
+      took-settled c l = told-midway law (λ e k f. omega arith) (λ d. Unit {0}) middle-held (tk .told) midway .settled c l tt
 
-    pub took-weight : weight (s .cells) (tentative v' (s .cells)) (keys v' (s .cells)) < weight (s .cells) (tentative v (s .cells)) (keys v (s .cells))
-    took-weight = omega (arith, told-weight (s .cells) _ _ (tk .told), popped-weight he (tk .popped))
-
-    pub took-upheld : (start : ℕ → ℕ) → Upheld (s .cells) (rule-at s slow ts) start (tentative v (s .cells)) → Upheld (s .cells) (rule-at s slow ts) start (tentative v' (s .cells))
-    took-upheld start up = told-upheld (s .cells) _ _ lawful start (tk .told) (popped-upheld he (tk .popped) _ lawful start up)
-
-    module _ (se : Settled (s .cells) (rule-at s slow ts) (tentative v (s .cells)) (keys v (s .cells))) where
-      midway : Midway (s .cells) (rule-at s slow ts) (keys v (s .cells) c) (λ d. Out d (near (land s slow) (s .across) (s .down) inside c) × Unit {0}) (tentative (tk .middle) (s .cells)) (keys (tk .middle) (s .cells))
-      midway = popped-midway he (tk .popped) (rule-at s slow ts) lawful _ se (λ d m o f g h. far c (tk .popped .on) d m (o .0) f g h)
-
-      pub took-settled : Settled (s .cells) (rule-at s slow ts) (tentative v' (s .cells)) (keys v' (s .cells))
-      took-settled c l = told-midway (s .cells) _ _ (rule-at s slow ts) lawful (λ e k f. omega arith) (λ d. Unit {0}) middle-held (tk .told) midway .settled c l tt
-
-      pub took-drift : (stored : ℕ → ℕ) (t : ℕ) → Drift (s .cells) stored (tentative v (s .cells)) (keys v (s .cells)) t m (noted v (s .cells))
-          → Drift (s .cells) stored (tentative v' (s .cells)) (keys v' (s .cells)) (keys v (s .cells) c) (suc m) (noted v' (s .cells))
-      took-drift stored t dr =
-          subst (λ w. Drift (s .cells) stored (tentative v' (s .cells)) (keys v' (s .cells)) (keys v (s .cells) c) (suc m) w) notes
-          (told-drift (s .cells) _ _ lawful (tk .popped .pending) stored (suc m) (noted (tk .middle) (s .cells)) (λ d. Unit {0}) middle-held (tk .told) midway (popped-drift he (tk .popped) stored t dr))
+      took-drift : {stored : ℕ → ℕ} {t : ℕ} → Drift n stored (tentative v n) (keys v n) t m (noted v n)
+          → Drift n stored (tentative v' n) (keys v' n) (keys v n c) (suc m) (noted v' n)
+      took-drift {stored} dr =
+          subst (λ w. Drift n stored (tentative v' n) (keys v' n) (keys v n c) (suc m) w) notes
+          (told-drift law (tk .popped .pending) stored (suc m) (noted (tk .middle) n) (λ d. Unit {0}) middle-held (tk .told) midway
+          (popped-drift he (tk .popped) dr))
         where
-          notes : noted (tk .middle) (s .cells) ≡ noted v' (s .cells)
-          notes = fun-ext (λ i. sym (told-rest (s .cells) _ _ (tk .told) (3 * s .cells + i) (omega arith)))
+          notes : noted (tk .middle) n ≡ noted v' n
+          notes = fun-ext (λ i. sym (told-rest (tk .told) (3 * n + i) (omega arith)))
 
-  pub drain-begins : (bound c : ℕ) (v : List ℕ) → Ready (s .cells) (rule-at s slow ts) v → Least v (s .cells) c → Mid-drain s slow ts bound 0 c v v
-  drain-begins bound c v re le = record {
+-- ---- A DRAIN after m cells, the next being c
+pub record Mid-drain (n : ℕ) (L : ℕ → (ℕ → ℕ) → ℕ) (bound m c : ℕ) (v₀ v : List ℕ) : Type 0 where
+  pub held : Held n v
+  pub least : Least v n c
+  pub long : length v ≡ length v₀
+  pub past : (j : ℕ) → 4 * n ≤ j → getD v j 0 ≡ getD v₀ j 0
+  pub settled : Settled n L (tentative v n) (keys v n)
+  pub upheld : (start : ℕ → ℕ) → Upheld n L start (tentative v₀ n) → Upheld n L start (tentative v n)
+  pub drifting : Drifting n (tentative v n) (keys v n) m (noted v n)
+  pub drift : (stored : ℕ → ℕ) → Drift n stored (tentative v₀ n) (keys v₀ n) 0 0 (noted v₀ n)
+      → Drifted n bound stored (tentative v n) (keys v n) m (noted v n)
+
+module _ {n bound : ℕ} {L : ℕ → (ℕ → ℕ) → ℕ} where
+  pub drain-begins : {c : ℕ} {v : List ℕ} → Ready n L v → Least v n c → Mid-drain n L bound 0 c v v
+  drain-begins re le = record {
     held = re .held;
     least = le;
     long = refl;
@@ -171,25 +154,27 @@ module _ (s : Shape) (slow ts cols rows : List ℕ) (gr : Ground s slow ts cols 
   }
 
   -- there is room for the next note
-  pub drain-room : {bound m c : ℕ} {v₀ v : List ℕ} → Mid-drain s slow ts bound m c v₀ v → keys v (s .cells) c < never → m < s .cells
-  drain-room {bound} {m} {c} md p = room-left (md .held .tied) (md .drifting .drift) c (md .least .cell) p (md .least .least)
+  pub drain-room : {m c : ℕ} {v₀ v : List ℕ} → Mid-drain n L bound m c v₀ v → keys v n c < never → m < n
+  drain-room {m} {c} md p = room-left (md .held .tied) (md .drifting .drift) c (md .least .cell) p (md .least .least)
 
-  pub drain-goes-on : {bound m c d : ℕ} {v₀ v v' : List ℕ} → Mid-drain s slow ts bound m c v₀ v → keys v (s .cells) c ≤ bound
-      → Took (s .cells) m c (rule-at s slow ts) (near (land s slow) (s .across) (s .down) inside c) v v' → Least v' (s .cells) d → Mid-drain s slow ts bound (suc m) d v₀ v'
-  drain-goes-on md low tk le = record {
+  pub drain-goes-on : {m c d : ℕ} {es v₀ v v' : List ℕ} → Lawful n L → Blind n L c es → Mid-drain n L bound m c v₀ v → keys v n c ≤ bound
+      → Took n m c L es v v' → Least v' n d → Mid-drain n L bound (suc m) d v₀ v'
+  drain-goes-on law far md low tk le = record {
     held = took-held (md .held) tk;
     least = le;
     long = took-long (md .held) tk ∙ md .long;
     past = λ j l. took-past (md .held) tk j l ∙ md .past j l;
-    settled = took-settled (md .held) tk (md .settled);
-    upheld = λ start up. took-upheld (md .held) tk start (md .upheld start up);
-    drifting = record { stored = md .drifting .stored; last = _; drift = took-drift (md .held) tk (md .settled) (md .drifting .stored) (md .drifting .last) (md .drifting .drift) };
-    drift = λ stored dr.
-        let so-far = md .drift stored dr in
-        record { last = _; low = low; drift = took-drift (md .held) tk (md .settled) stored (so-far .last) (so-far .drift) };
+    settled = took-settled (md .held) tk law far (md .settled);
+    upheld = λ start up. took-upheld (md .held) tk law start (md .upheld start up);
+    drifting = record {
+      stored = md .drifting .stored;
+      last = _;
+      drift = took-drift (md .held) tk law far (md .settled) (md .drifting .drift);
+    };
+    drift = λ stored dr. record { last = _; low = low; drift = took-drift (md .held) tk law far (md .settled) (md .drift stored dr .drift) };
   }
 
-  pub drain-ends : {bound m c : ℕ} {v₀ v : List ℕ} → Mid-drain s slow ts bound m c v₀ v → bound < keys v (s .cells) c → Drained (s .cells) bound m (rule-at s slow ts) v₀ v
+  pub drain-ends : {m c : ℕ} {v₀ v : List ℕ} → Mid-drain n L bound m c v₀ v → bound < keys v n c → Drained n bound m L v₀ v
   drain-ends md high = record {
     held = md .held;
     long = md .long;
@@ -199,3 +184,30 @@ module _ (s : Shape) (slow ts cols rows : List ℕ) (gr : Ground s slow ts cols 
     upheld = md .upheld;
     drift = md .drift;
   }
+
+-- ---- on a board: a cell that does not hear of c within the tile does not see c as it is
+module _ {s : Shape} {slow ts cols rows : List ℕ} (gr : Ground s slow ts cols rows) where
+  pub lawful : Lawful (s .cells) (rule-at s slow ts)
+  lawful =
+      subst (λ n. Lawful n (rule-at s slow ts)) (sym (cells-size gr)) (gives-lawful (gr .good) (s .across) (s .down) (λ d e. counts-as (land s slow) ts e))
+
+  abbrev tile : ℕ → ℕ
+  tile = tile-of (land s slow) (s .across) (s .down)
+
+  abbrev ghost : (d e : ℕ) → ℕ
+  ghost d e = counts-as (land s slow) ts e
+
+  pub blind : {c : ℕ} → c < s .cells → Blind (s .cells) (rule-at s slow ts) c (near (land s slow) (s .across) (s .down) inside c)
+  blind {c} l d m o f g same = gives-same (gr .good) (s .across) (s .down) ghost ghost d (rw (← cells-size gr) m) f g alike
+    where
+      other : (e : ℕ) → Neighbour (land s slow) d e → e ≡ c → tile d ≢ tile e
+      other e n q z =
+          untold-inside (gr .good) (s .across) (s .down) (gr .across) (gr .down) c d (rw (← cells-size gr) l) (rw (← cells-size gr) m)
+          (subst (λ w. Neighbour (land s slow) d w) q n) o (z ∙ ap tile q)
+
+      alike : (e : ℕ) → e < size (land s slow) → Neighbour (land s slow) d e
+          → ghosted (land s slow) (s .across) (s .down) ghost f d e ≡ ghosted (land s slow) (s .across) (s .down) ghost g d e
+      alike e on n = elim (ℕ-discrete e c) [
+        | yes q ↦ rw (ne-eqb (tile d) (tile e) (other e n q))
+        | no q ↦ rw (same e (rw (cells-size gr) on) q)
+      ]

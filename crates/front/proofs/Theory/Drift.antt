@@ -1,4 +1,4 @@
--- The round so far: what taking a cell and lowering another leave of it. Assumes nothing.
+-- The round so far: what taking a cell and lowering another leave of it.
 use mathlib.Core.Path.{_≡_, refl, sym, ap, subst, _∙_}
 use mathlib.Core.Logic.{_⊎_, ⊎-elim, _≢_}
 use Prim.Native.Nat.{ℕ, zero, suc, _-_, _≤_, _<_, min}
@@ -9,7 +9,7 @@ use lib.Dec.{eqb}
 use borrow.Author.Tests.{eq-eqb, ne-eqb}
 use Rattle.eikonal.specs.Board.{never}
 use Rattle.front.specs.Front.{Tied, Drop, total, Taken, Drift, Written}
-use Rattle.front.proofs.Theory.Front.{lower}
+use Rattle.front.proofs.Theory.Front.{times-fall}
 
 -- ---- sums that differ at one cell, or nowhere
 pub total-same : (n : ℕ) (f g : ℕ → ℕ) → ((c : ℕ) → c < n → f c ≡ g c) → total n f ≡ total n g
@@ -93,7 +93,8 @@ module _ {n : ℕ} {stored y k : ℕ → ℕ} {t m : ℕ} {note : ℕ → ℕ} (
   pub room-left : (c : ℕ) → c < n → k c < never → ((d : ℕ) → d < n → k c ≤ k d) → m < n
   room-left c l pending least =
       notes-fit
-      (drift-taken c (λ d. cond (eqb d c) never (k d)) (λ i. cond (eqb i m) c (note i)) l pending least (rw (eq-eqb c c refl)) (λ d j q. rw (ne-eqb d c q)) (rw (eq-eqb m m refl)) (λ i j. rw (ne-eqb i m (λ z. omega arith))))
+      (drift-taken c (λ d. cond (eqb d c) never (k d)) (λ i. cond (eqb i m) c (note i)) l pending least
+      (rw (eq-eqb c c refl)) (λ d j q. rw (ne-eqb d c q)) (rw (eq-eqb m m refl)) (λ i j. rw (ne-eqb i m (λ z. omega arith))))
 
   -- a cell later than the last one taken is lowered
   module _ (e x : ℕ) (y' k' : ℕ → ℕ) (dp : Drop n e x y k y' k') (late : t < y e) (high : t ≤ x) where
@@ -105,7 +106,7 @@ module _ {n : ℕ} {stored y k : ℕ → ℕ} {t m : ℕ} {note : ℕ → ℕ} (
 
     pub drift-dropped : Drift n stored y' k' t m note
     drift-dropped = record {
-      low = λ d j. omega (arith, dr .low d j, lower dp d j);
+      low = λ d j. omega (arith, dr .low d j, times-fall dp d j);
       waits = λ d j h. elim (ℕ-discrete d e) [
         | yes q ↦ subst (λ u. y' u < stored u) (sym q) (omega (arith, dp .time, dp .low, dr .low e (dp .cell)))
         | no q ↦ omega (arith, dp .times d j q, dr .waits d j (omega (arith, dp .keys d j q)))

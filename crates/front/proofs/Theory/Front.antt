@@ -1,4 +1,4 @@
--- The front's invariant over functions: kept when a cell is taken and by each cell that hears of it; at the end the rule holds up to the bound. Assumes nothing.
+-- The front's invariant over functions: kept when a cell is taken and by each cell that hears of it; at the end the rule holds up to the bound.
 use mathlib.Core.Path.{_≡_, sym, ap, subst, _∙_}
 use mathlib.Core.Logic.{_⊎_, inr, ⊎-elim, _≢_}
 use Prim.Native.Nat.{ℕ, zero, suc, _+_, _*_, _-_, _≤_, _<_, min}
@@ -30,25 +30,25 @@ total-lt (suc n) c f g l s h = elim (ℕ-discrete c n) [
 ]
 
 -- a pending cell is not heard, and what is heard is no earlier than the time
-heard-most : (n : ℕ) (y k : ℕ → ℕ) → Tied n y k → (e : ℕ) → e < n → heard y k e ≤ never
-heard-most n y k ti e l = ⊎-elim (λ p. omega (arith, ti .small e l)) (λ p. omega (arith, ti .small e l)) (ti .tied e l)
+heard-most : {n : ℕ} {y k : ℕ → ℕ} → Tied n y k → (e : ℕ) → e < n → heard y k e ≤ never
+heard-most ti e l = ⊎-elim (λ p. omega (arith, ti .small e l)) (λ p. omega (arith, ti .small e l)) (ti .tied e l)
 
 module _ {n e x : ℕ} {y k y' k' : ℕ → ℕ} where
-  pub lower : Drop n e x y k y' k' → (d : ℕ) → d < n → y' d ≤ y d
-  lower dr d m = elim (ℕ-discrete d e) [
+  pub times-fall : Drop n e x y k y' k' → (d : ℕ) → d < n → y' d ≤ y d
+  times-fall dr d m = elim (ℕ-discrete d e) [
     | yes q ↦ subst (λ u. y' u ≤ y u) (sym q) (omega arith)
     | no q ↦ omega (arith, dr .times d m q)
   ]
 
   hears : Tied n y k → Drop n e x y k y' k' → (d : ℕ) → d < n → heard y k d ≤ heard y' k' d
   hears ti dr d m = elim (ℕ-discrete d e) [
-    | yes q ↦ subst (λ u. heard y k u ≤ heard y' k' u) (sym q) (omega (arith, ti .small e (dr .cell), heard-most n y k ti e (dr .cell)))
+    | yes q ↦ subst (λ u. heard y k u ≤ heard y' k' u) (sym q) (omega (arith, ti .small e (dr .cell), heard-most ti e (dr .cell)))
     | no q ↦ omega (arith, dr .times d m q, dr .keys d m q)
   ]
 
   pub drop-tied : Tied n y k → Drop n e x y k y' k' → Tied n y' k'
   drop-tied ti dr = record {
-    small = λ d m. omega (arith, lower dr d m, ti .small d m);
+    small = λ d m. omega (arith, times-fall dr d m, ti .small d m);
     tied = λ d m. elim (ℕ-discrete d e) [
       | yes q ↦ subst (λ u. (k' u ≡ never) ⊎ (k' u ≡ y' u)) (sym q) (inr (dr .key ∙ sym (dr .time)))
       | no q ↦ rw (dr .times d m q, dr .keys d m q) (ti .tied d m)
@@ -68,14 +68,14 @@ between m s x u y a b c e = omega arith
 beside : (m s x z : ℕ) → min m x ≡ min m z → min m (min s x) ≡ min m (min s z)
 beside m s x z e = omega arith
 
-module _ (n : ℕ) (L : ℕ → (ℕ → ℕ) → ℕ) (law : Lawful n L) where
+module _ {n : ℕ} {L : ℕ → (ℕ → ℕ) → ℕ} (law : Lawful n L) where
   -- the cell c, which is pending, is taken: it is heard from now on, and cells that are clear of it do not hear it
-  pub popped : (c : ℕ) (Clear : ℕ → Type 0) (y k k' : ℕ → ℕ) → Tied n y k → Settled n L y k
+  pub popped : {c : ℕ} {Clear : ℕ → Type 0} {y k k' : ℕ → ℕ} → Tied n y k → Settled n L y k
       → c < n → k c < never
       → k' c ≡ never → ((d : ℕ) → d < n → d ≢ c → k' d ≡ k d)
       → ((d : ℕ) → d < n → Clear d → (f g : ℕ → ℕ) → ((e : ℕ) → e < n → e ≢ c → f e ≡ g e) → L d f ≡ L d g)
       → Midway n L (y c) Clear y k'
-  popped c Clear y k k' ti se l p e o far = record {
+  popped {c} {y = y} {k} {k'} ti se l p e o far = record {
     weak = λ d m. omega (arith, se d m, law .causal (y c) d yc m (heard y k) (heard y k') below-t);
     settled = λ d m out. subst (λ u. y d ≤ u) (far d m out (heard y k) (heard y k') apart) (se d m);
   }
@@ -96,10 +96,10 @@ module _ (n : ℕ) (L : ℕ → (ℕ → ℕ) → ℕ) (law : Lawful n L) where
       ]
 
   -- a cell e hears. Cells that were clear but for e are clear afterwards
-  module _ (t e : ℕ) (Clear Clear' : ℕ → Type 0) (clears : (d : ℕ) → Clear' d → d ≢ e → Clear d) where
+  module _ {t e : ℕ} {Clear Clear' : ℕ → Type 0} (clears : (d : ℕ) → Clear' d → d ≢ e → Clear d) where
     -- it need not be lowered
-    passed : (y k : ℕ → ℕ) → Midway n L t Clear y k → (e < n → y e ≤ L e (heard y k)) → Midway n L t Clear' y k
-    passed y k mid h = record {
+    passed : {y k : ℕ → ℕ} → Midway n L t Clear y k → (e < n → y e ≤ L e (heard y k)) → Midway n L t Clear' y k
+    passed {y} {k} mid h = record {
       weak = mid .weak;
       settled = λ d m out. elim (ℕ-discrete d e) [
         | yes q ↦ subst (λ u. y u ≤ L u (heard y k)) (sym q) (h (subst (λ u. u < n) q m))
@@ -108,17 +108,17 @@ module _ (n : ℕ) (L : ℕ → (ℕ → ℕ) → ℕ) (law : Lawful n L) where
     }
 
     -- since it is no later than the cell taken
-    pub skipped : (y k : ℕ → ℕ) → Midway n L t Clear y k → (e < n → y e ≤ t) → Midway n L t Clear' y k
-    skipped y k mid h = passed y k mid (λ l. omega (arith, h l, mid .weak e l))
+    pub skipped : {y k : ℕ → ℕ} → Midway n L t Clear y k → (e < n → y e ≤ t) → Midway n L t Clear' y k
+    skipped mid h = passed mid (λ l. omega (arith, h l, mid .weak e l))
 
     -- since the rule gives no earlier time
-    pub stayed : (y k : ℕ → ℕ) → Midway n L t Clear y k → (e < n → y e ≤ L e y) → Midway n L t Clear' y k
-    stayed y k mid h = passed y k mid (λ l. le-trans (h l) (law .mono e l y (heard y k) (λ d m. omega arith)))
+    pub stayed : {y k : ℕ → ℕ} → Midway n L t Clear y k → (e < n → y e ≤ L e y) → Midway n L t Clear' y k
+    stayed {y} {k} mid h = passed mid (λ l. le-trans (h l) (law .mono e l y (heard y k) (λ d m. omega arith)))
 
     -- it is lowered to a time that the rule does not lower
     pub lowered : {x : ℕ} {y k y' k' : ℕ → ℕ} → Tied n y k → Drop n e x y k y' k' → x ≤ L e y → Midway n L t Clear y k → Midway n L t Clear' y' k'
     lowered {x} {y} {k} {y'} {k'} ti dr low mid = record {
-      weak = λ d m. omega (arith, lower dr d m, mid .weak d m, law .mono d m (heard y k) (heard y' k') (hears ti dr));
+      weak = λ d m. omega (arith, times-fall dr d m, mid .weak d m, law .mono d m (heard y k) (heard y' k') (hears ti dr));
       settled = λ d m out. elim (ℕ-discrete d e) [
         | yes q ↦ subst (λ u. y' u ≤ L u (heard y' k')) (sym q) (omega (arith, dr .time, law .mono e (dr .cell) y (heard y' k') above-y))
         | no q ↦ omega (arith, dr .times d m q, mid .settled d m (clears d out q), law .mono d m (heard y k) (heard y' k') (hears ti dr))
@@ -129,26 +129,27 @@ module _ (n : ℕ) (L : ℕ → (ℕ → ℕ) → ℕ) (law : Lawful n L) where
         above-y d m = omega (arith, hears ti dr d m)
 
   -- what the rule gives a cell later than the one taken is later too, where no key is below that
-  pub rises : (t e : ℕ) (Clear : ℕ → Type 0) (y k : ℕ → ℕ) → Tied n y k → Midway n L t Clear y k → t < never → ((d : ℕ) → d < n → t ≤ k d) → e < n → t < y e → t < L e y
-  rises t e Clear y k ti mid i floor l h = omega (arith, mid .weak e l, law .causal t e i l y (heard y k) same)
+  pub rises : {t e : ℕ} {Clear : ℕ → Type 0} {y k : ℕ → ℕ} → Tied n y k → Midway n L t Clear y k → t < never → ((d : ℕ) → d < n → t ≤ k d)
+      → e < n → t < y e → t < L e y
+  rises {t} {e} {y = y} {k} ti mid i floor l h = omega (arith, mid .weak e l, law .causal t e i l y (heard y k) same)
     where
       same : (d : ℕ) → d < n → min t (y d) ≡ min t (heard y k d)
       same d m = ⊎-elim (λ q. omega arith) (λ q. omega (arith, floor d m)) (ti .tied d m)
 
   -- start and rule uphold a time that is lowered to what the rule gives
-  pub upheld : (start : ℕ → ℕ) (e : ℕ) {y k y' k' : ℕ → ℕ} → Drop n e (L e y) y k y' k' → Upheld n L start y → Upheld n L start y'
-  upheld start e {y} {k} {y'} {k'} dr up = record {
-    started = λ d m. le-trans (lower dr d m) (up .started d m);
+  pub upheld : {start : ℕ → ℕ} {e : ℕ} {y k y' k' : ℕ → ℕ} → Drop n e (L e y) y k y' k' → Upheld n L start y → Upheld n L start y'
+  upheld {start} {e} {y} {y' = y'} dr up = record {
+    started = λ d m. le-trans (times-fall dr d m) (up .started d m);
     upper = λ d m. elim (ℕ-discrete d e) [
-      | yes q ↦ subst (λ u. min (start u) (L u y') ≤ y' u) (sym q) (omega (arith, dr .time, law .mono e (dr .cell) y' y (lower dr)))
-      | no q ↦ omega (arith, up .upper d m, law .mono d m y' y (lower dr), dr .times d m q)
+      | yes q ↦ subst (λ u. min (start u) (L u y') ≤ y' u) (sym q) (omega (arith, dr .time, law .mono e (dr .cell) y' y (times-fall dr)))
+      | no q ↦ omega (arith, up .upper d m, law .mono d m y' y (times-fall dr), dr .times d m q)
     ];
   }
 
   -- at the end every pending cell is past the bound: up to the bound every cell meets the rule
-  pub ended : (start : ℕ → ℕ) (b : ℕ) (y k : ℕ → ℕ) → Tied n y k → Settled n L y k → Upheld n L start y → b < never → ((c : ℕ) → c < n → b < k c)
+  pub ended : {start : ℕ → ℕ} {b : ℕ} {y k : ℕ → ℕ} → Tied n y k → Settled n L y k → Upheld n L start y → b < never → ((c : ℕ) → c < n → b < k c)
       → (c : ℕ) → c < n → clip b (y c) ≡ clip b (min (start c) (L c (λ e. clip b (y e))))
-  ended start b y k ti se up low past c l =
+  ended {start} {b} {y} {k} ti se up low past c l =
       clip-same b (y c) _
       (between (suc b) (start c) (L c y) _ (y c) (up .started c l) (up .upper c l) (se c l) (law .causal b c low l y (heard y k) to-heard)
       ∙ beside (suc b) (start c) (L c y) _ (law .causal b c low l y (λ e. clip b (y e)) to-cut))

@@ -1,11 +1,12 @@
--- What code reads of a cell's neighbours is what the rule sees of them. Assumes nothing.
+-- What code reads of a cell's neighbours is what the rule sees of them.
 use mathlib.Core.Path.{_≡_, refl, sym, ap, _∙_}
 use mathlib.Core.Bool.{cond}
 use mathlib.Core.Logic.{inl, inr, _≢_}
 use mathlib.Core.List.{List, [], _∷_}
 use Prim.Native.Nat.{ℕ, zero, suc, _+_, _*_, _-_, _/_, _%_, _≤_, _<_, min}
 use native.Mathlib.Omega.{arith}
-use native.Mathlib.Nat.{mul-le-mul-left, mul-le-mul-right, div-eq-of-lt-le, div-add-mod'}
+use native.Mathlib.Decide.{ℕ-discrete}
+use native.Mathlib.Nat.{mul-le-mul-right, div-eq-of-lt-le, div-add-mod'}
 use native.Mathlib.Numerals.{add-one}
 use lib.Dec.{eqb}
 use lib.ListN.{length, getD}
@@ -13,12 +14,11 @@ use borrow.Author.Tests.{eq-eqb, ne-eqb, lt-ltb, le-ltb}
 use Rattle.eikonal.specs.Board.{Board, never, largest, size, slowness, time, local, arrival}
 use Rattle.eikonal.specs.Tiles.{counts-as}
 use Rattle.eikonal.proofs.Good.{size-most}
-use Rattle.eikonal.proofs.Grid.{right-on, below-on}
 use Rattle.front.specs.Front.{ghosted}
-use Rattle.front.specs.Seams.{seam, edge, across}
-use Rattle.front.specs.Board.{land, rule-at, Ground, Site, Sees}
+use Rattle.front.specs.Seams.{Axis, edge, across}
+use Rattle.front.specs.Board.{land, rule-at, Marked, Ground, Site, Sees}
 use Rattle.front.specs.declared.Shape.{Shape}
-use Rattle.front.proofs.Theory.Seams.{seam-edge, sees-left, sees-right, sees-above, sees-below}
+use Rattle.front.proofs.Theory.Seams.{seam-edge, Straight, columns-straight, rows-straight, sees-back, sees-on}
 
 -- an entry of a list is the same by any default
 pub getD-any : (l : List ℕ) (i d e : ℕ) → i < length l → getD l i d ≡ getD l i e
@@ -58,7 +58,41 @@ module _ (s f g : ℕ) where
   unfolding across
   across-border a b = rw (ne-eqb s 0 a, ne-eqb s 2 b)
 
-module _ (s : Shape) (slow ts cols rows : List ℕ) (gr : Ground s slow ts cols rows) where
+-- ---- where a seam is not the edge there is a place behind it, or ahead
+module _ {n s i : ℕ} {js : List ℕ} (la : Marked n s js) (l : i < n) where
+  pub place-behind : getD js i 0 ≢ edge → 1 ≤ i
+  place-behind q = elim (ℕ-discrete i 0) [
+    | yes z ↦ absurd (q (la .at i (omega arith) ∙ seam-edge n s i (inl z)))
+    | no z ↦ omega arith
+  ]
+
+  pub place-ahead : getD js (i + 1) 0 ≢ edge → i + 1 < n
+  place-ahead q = elim (ℕ-discrete (i + 1) n) [
+    | yes z ↦ absurd (q (la .at (i + 1) (omega arith) ∙ seam-edge n s (i + 1) (inr z)))
+    | no z ↦ omega arith
+  ]
+
+-- ---- a cell's site, and those of its neighbours
+module _ {s : Shape} {c row col : ℕ} (si : Site s c row col) where
+  pub row-is : c / s .width ≡ row
+  row-is = div-eq-of-lt-le (s .width) (omega (arith, si .cell)) (omega (arith, si .cell, si .column))
+
+  pub col-is : c % s .width ≡ col
+  col-is = omega (arith, si .cell, div-add-mod' c (s .width), ap (λ (u : ℕ). u * s .width) row-is)
+
+  pub left-site : {e k : ℕ} → c ≡ e + 1 → col ≡ k + 1 → Site s e row k
+  left-site p q = record { cell = omega (arith, si .cell); column = omega (arith, si .column); line = si .line }
+
+  pub right-site : col + 1 < s .width → Site s (c + 1) row (col + 1)
+  right-site h = record { cell = omega (arith, si .cell); column = h; line = si .line }
+
+  pub above-site : {e k : ℕ} → c ≡ e + s .width → row ≡ k + 1 → Site s e k col
+  above-site p q = record { cell = omega (arith, si .cell, ap (λ (u : ℕ). u * s .width) q); column = si .column; line = omega (arith, si .line) }
+
+  pub below-site : row + 1 < s .height → Site s (c + s .width) (row + 1) col
+  below-site h = record { cell = omega (arith, si .cell); column = si .column; line = h }
+
+module _ {s : Shape} {slow ts cols rows : List ℕ} (gr : Ground s slow ts cols rows) where
   pub cells-size : s .cells ≡ size (land s slow)
   unfolding size
   cells-size = gr .cells
@@ -69,90 +103,78 @@ module _ (s : Shape) (slow ts cols rows : List ℕ) (gr : Ground s slow ts cols 
   pub slow-long : length slow ≡ s .cells
   slow-long = gr .good .slow-length ∙ sym cells-size
 
-  module _ (c row col : ℕ) (si : Site s c row col) where
-    pub row-is : c / s .width ≡ row
-    row-is = div-eq-of-lt-le (s .width) (omega (arith, si .cell)) (omega (arith, si .cell, si .column))
+  pub site-on : {c row col : ℕ} → Site s c row col → c < s .cells
+  site-on si = omega (arith, si .cell, si .column, gr .cells, mul-le-mul-right (s .width) (si .line))
 
-    pub col-is : c % s .width ≡ col
-    col-is = omega (arith, si .cell, div-add-mod' c (s .width), ap (λ (u : ℕ). u * s .width) row-is)
-
-    pub site-on : c < s .cells
-    site-on =
-        let l : suc row ≤ s .height = si .line in
-        omega (arith, si .cell, si .column, gr .cells, mul-le-mul-right (s .width) l)
-
+  module _ {c row col : ℕ} (si : Site s c row col) where
     on : c < size (land s slow)
-    on = omega (arith, cells-size, site-on)
-
-    in-product : c < s .width * s .height
-    in-product = omega (arith, gr .cells, site-on)
+    on = omega (arith, cells-size, site-on si)
 
     -- ---- the neighbours are on the board where the seams are not the edge
-    module _ (work : List ℕ) (room : 4 * s .cells ≤ length work) where
-      fits : (less more js : ℕ) → more ≤ s .cells → (js ≢ edge → less ≤ c + more) → (js ≢ edge → c + more - less < s .cells) → Sees (s .cells) slow ts work c less more js
-      fits less more js f l h = record { slows = omega (arith, slow-long); times = omega (arith, gr .many); room = room; cell = site-on; far = f; low = l; high = h }
+    pub left-some : getD cols col 0 ≢ edge → 1 ≤ c
+    left-some q = omega (arith, si .cell, place-behind (gr .columns) (si .column) q)
 
-      width-fits : s .width ≤ s .cells
-      width-fits = omega (arith, gr .cells, mul-le-mul-left (s .width) (gr .good .high-low))
+    pub right-some : getD cols (col + 1) 0 ≢ edge → c + 1 < s .cells
+    right-some q = site-on (right-site si (place-ahead (gr .columns) (si .column) q))
 
-      pub left-fits : Sees (s .cells) slow ts work c 1 0 (getD cols col 0)
-      left-fits = fits 1 0 _ (omega arith) (λ q. omega (arith, some q)) (λ q. omega (arith, site-on, some q))
-        where
-          some : getD cols col 0 ≢ edge → 1 ≤ c
-          some q = go col refl
-            where
-              go : (x : ℕ) → col ≡ x → 1 ≤ c
-              go zero e = absurd (q (gr .columns col (omega (arith, si .column)) ∙ seam-edge (s .width) (s .across) col (inl e)))
-              go (suc x) e = omega (arith, si .cell)
+    pub above-some : getD rows row 0 ≢ edge → s .width ≤ c
+    above-some q = omega (arith, si .cell, mul-le-mul-right (s .width) (place-behind (gr .lines) (si .line) q))
 
-      pub right-fits : Sees (s .cells) slow ts work c 0 1 (getD cols (col + 1) 0)
-      right-fits = fits 0 1 _ (omega (arith, site-on)) (λ q. omega arith) (λ q. omega (arith, right-on (s .width) (s .height) c (gr .good .wide-low) in-product (inner q), gr .cells))
-        where
-          inner : getD cols (col + 1) 0 ≢ edge → suc (c % s .width) ≢ s .width
-          inner q z = q (gr .columns (col + 1) (omega (arith, si .column)) ∙ seam-edge (s .width) (s .across) (col + 1) (inr (omega (arith, col-is, z))))
+    pub below-some : getD rows (row + 1) 0 ≢ edge → c + s .width < s .cells
+    below-some q = site-on (below-site si (place-ahead (gr .lines) (si .line) q))
 
-      pub above-fits : Sees (s .cells) slow ts work c (s .width) 0 (getD rows row 0)
-      above-fits = fits (s .width) 0 _ (omega arith) (λ q. omega (arith, some q)) (λ q. omega (arith, site-on))
-        where
-          some : getD rows row 0 ≢ edge → s .width ≤ c
-          some q = go row refl
-            where
-              go : (x : ℕ) → row ≡ x → s .width ≤ c
-              go zero e = absurd (q (gr .lines row (omega (arith, si .line)) ∙ seam-edge (s .height) (s .down) row (inl e)))
-              go (suc x) e =
-                  let l : 1 ≤ row = omega arith in
-                  omega (arith, si .cell, mul-le-mul-right (s .width) l)
+    module _ {work : List ℕ} (room : 4 * s .cells ≤ length work) (u : ℕ) {mark : ℕ} where
+      fits : (less more : ℕ) → (mark ≢ edge → (more ≤ s .cells) × (less ≤ c + more) × (c + more - less < s .cells))
+          → Sees (s .cells) slow ts work c less more mark
+      fits less more h = record {
+        slows = omega (arith, slow-long);
+        times = omega (arith, gr .many);
+        room = room;
+        cell = site-on si;
+        far = λ q. h q .0;
+        low = λ q. h q .1;
+        high = λ q. h q .2;
+      }
 
-      pub below-fits : Sees (s .cells) slow ts work c 0 (s .width) (getD rows (row + 1) 0)
-      below-fits = fits 0 (s .width) _ width-fits (λ q. omega arith) (λ q. omega (arith, below-on (s .width) (s .height) c (gr .good .wide-low) in-product (inner q), gr .cells))
-        where
-          inner : getD rows (row + 1) 0 ≢ edge → suc (c / s .width) ≢ s .height
-          inner q z = q (gr .lines (row + 1) (omega (arith, si .line)) ∙ seam-edge (s .height) (s .down) (row + 1) (inr (omega (arith, row-is, z))))
+      pub fits-back : (mark ≢ edge → u ≤ c) → Sees (s .cells) slow ts work c u 0 mark
+      fits-back h = fits u 0 (λ q. (omega arith, omega (arith, h q), omega (arith, site-on si)))
 
-    -- ---- THE RULE from what code reads of the four neighbours
-    pub rule-read : (f : ℕ → ℕ) (l r u d x : ℕ)
-        → l ≡ across (getD cols col 0) (f (c + 0 - 1)) (counts-as (land s slow) ts (c + 0 - 1))
-        → r ≡ across (getD cols (col + 1) 0) (f (c + 1 - 0)) (counts-as (land s slow) ts (c + 1 - 0))
-        → u ≡ across (getD rows row 0) (f (c + 0 - s .width)) (counts-as (land s slow) ts (c + 0 - s .width))
-        → d ≡ across (getD rows (row + 1) 0) (f (c + s .width - 0)) (counts-as (land s slow) ts (c + s .width - 0))
+      pub fits-on : (mark ≢ edge → c + u < s .cells) → Sees (s .cells) slow ts work c 0 u mark
+      fits-on h = fits 0 u (λ q. (omega (arith, h q), omega arith, omega (arith, h q)))
+
+    -- ---- what code reads across the seams of an axis is what the rule sees there
+    abbrev ghost : (d e : ℕ) → ℕ
+    ghost d e = counts-as (land s slow) ts e
+
+    module _ {a : Axis} (st : Straight (land s slow) (s .across) (s .down) a) {js : List ℕ} (la : Marked (a .count) (a .side) js)
+        {i x : ℕ} (at : a .place c ≡ i) (l : i < a .count) (f : ℕ → ℕ) where
+      read-back : x ≡ across (getD js i 0) (f (c + 0 - a .unit)) (ghost c (c + 0 - a .unit))
+          → x ≡ cond (eqb (a .place c) 0) never (ghosted (land s slow) (s .across) (s .down) ghost f c (c - a .unit))
+      read-back e =
+          let here : c + 0 ≡ c = omega arith in
+          e ∙ rw (here, la .at i (omega arith), ← at) (sees-back st c on ghost f)
+
+      read-on : x ≡ across (getD js (i + 1) 0) (f (c + a .unit - 0)) (ghost c (c + a .unit - 0))
+          → x ≡ cond (eqb (suc (a .place c)) (a .count)) never (ghosted (land s slow) (s .across) (s .down) ghost f c (c + a .unit))
+      read-on e =
+          let here : c + a .unit - 0 ≡ c + a .unit = omega arith in
+          e ∙ rw (here, la .at (i + 1) (omega arith), add-one i, ← at) (sees-on st c on ghost f)
+
+    -- THE RULE from what code reads of the four neighbours
+    pub rule-read : (f : ℕ → ℕ) {l r u d x : ℕ}
+        → l ≡ across (getD cols col 0) (f (c + 0 - 1)) (ghost c (c + 0 - 1))
+        → r ≡ across (getD cols (col + 1) 0) (f (c + 1 - 0)) (ghost c (c + 1 - 0))
+        → u ≡ across (getD rows row 0) (f (c + 0 - s .width)) (ghost c (c + 0 - s .width))
+        → d ≡ across (getD rows (row + 1) 0) (f (c + s .width - 0)) (ghost c (c + s .width - 0))
         → x ≡ min never (local (getD slow c 0) l r u d) → x ≡ rule-at s slow ts c f
     unfolding arrival slowness
-    rule-read f l r u d x el er eu ed ex = ex ∙ rw (left, right, above, below)
-      where
-        g : ℕ → ℕ → ℕ
-        g a e = counts-as (land s slow) ts e
-
-        seen-at : (js js' e e' : ℕ) → js ≡ js' → e ≡ e' → across js (f e) (counts-as (land s slow) ts e) ≡ across js' (f e') (g c e')
-        seen-at js js' e e' p q = rw (p, q)
-
-        left : l ≡ cond (eqb (c % s .width) 0) never (ghosted (land s slow) (s .across) (s .down) (λ a e. counts-as (land s slow) ts e) f c (c - 1))
-        left = el ∙ seen-at _ (seam (s .width) (s .across) (c % s .width)) (c + 0 - 1) (c - 1) (gr .columns col (omega (arith, si .column)) ∙ ap (seam (s .width) (s .across)) (sym col-is)) (omega arith) ∙ sees-left (gr .good) (s .across) (s .down) (gr .across) (gr .down) g f c on
-
-        right : r ≡ cond (eqb (suc (c % s .width)) (s .width)) never (ghosted (land s slow) (s .across) (s .down) (λ a e. counts-as (land s slow) ts e) f c (suc c))
-        right = er ∙ seen-at _ (seam (s .width) (s .across) (suc (c % s .width))) (c + 1 - 0) (suc c) (gr .columns (col + 1) (omega (arith, si .column)) ∙ ap (seam (s .width) (s .across)) (add-one col ∙ ap suc (sym col-is))) (omega arith) ∙ sees-right (gr .good) (s .across) (s .down) (gr .across) (gr .down) g f c on
-
-        above : u ≡ cond (eqb (c / s .width) 0) never (ghosted (land s slow) (s .across) (s .down) (λ a e. counts-as (land s slow) ts e) f c (c - s .width))
-        above = eu ∙ seen-at _ (seam (s .height) (s .down) (c / s .width)) (c + 0 - s .width) (c - s .width) (gr .lines row (omega (arith, si .line)) ∙ ap (seam (s .height) (s .down)) (sym row-is)) (omega arith) ∙ sees-above (gr .good) (s .across) (s .down) (gr .across) (gr .down) g f c on
-
-        below : d ≡ cond (eqb (suc (c / s .width)) (s .height)) never (ghosted (land s slow) (s .across) (s .down) (λ a e. counts-as (land s slow) ts e) f c (c + s .width))
-        below = ed ∙ seen-at _ (seam (s .height) (s .down) (suc (c / s .width))) (c + s .width - 0) (c + s .width) (gr .lines (row + 1) (omega (arith, si .line)) ∙ ap (seam (s .height) (s .down)) (add-one row ∙ ap suc (sym row-is))) (omega arith) ∙ sees-below (gr .good) (s .across) (s .down) (gr .across) (gr .down) g f c on
+    rule-read f el er eu ed ex =
+        let cs = columns-straight (gr .good) (s .across) (s .down) (gr .across) (gr .down) in
+        let rs = rows-straight (gr .good) (s .across) (s .down) (gr .across) (gr .down) in
+        ex ∙ rw (
+          read-back cs (gr .columns) (col-is si) (si .column) f el,
+          read-on cs (gr .columns) (col-is si) (si .column) f er,
+          read-back rs (gr .lines) (row-is si) (si .line) f eu,
+          read-on rs (gr .lines) (row-is si) (si .line) f ed,
+          add-one c,
+        )

@@ -1,7 +1,7 @@
--- The beginning of a round: the work list emptied, and starts placed in it one after the other or part by part. Assumes nothing.
+-- The beginning of a round: the work list emptied, and starts placed in it one after the other or part by part.
 use mathlib.Core.Path.{_≡_, refl, sym, subst, _∙_}
 use mathlib.Core.Bool.{Bool, true, false, cond, _&&_}
-use mathlib.Core.Logic.{_≢_}
+use mathlib.Core.Logic.{inl, inr, _≢_}
 use mathlib.Core.List.{List, [], _∷_, _++_}
 use Prim.Native.Nat.{ℕ, zero, suc, _+_, _*_, _-_, _≤_, _<_, min}
 use native.Mathlib.Omega.{arith}
@@ -10,14 +10,16 @@ use lib.Dec.{ltb, leb, eqb}
 use lib.ListN.{length, getD, set, take, length-set, length-take}
 use lib.Seq.{getD-set-same, getD-set-other, take-suc}
 use borrow.Author.Tests.{eq-eqb, ne-eqb, eqb-true, leb-true, ltb-true, ltb-false}
-use Rattle.eikonal.specs.Board.{never, Start, start-time}
+use Rattle.eikonal.specs.Board.{never, start-time}
+use Rattle.eikonal.specs.declared.Start.{Start}
 use Rattle.eikonal.specs.Refusals.{starts-rise, late, starts-of}
 use Rattle.eikonal.proofs.Good.{and-true, or-false}
 use Rattle.eikonal.proofs.Judging.{starts-of-append, starts-of-take}
-use Rattle.queue.specs.Tree.{Tree, keys, Put, Cleared}
-use Rattle.queue.proofs.Tree.{tree-past, tree-keeps}
+use Rattle.queue.specs.Lists.{Filled}
+use Rattle.queue.specs.Tree.{keys, Put, Cleared}
+use Rattle.queue.proofs.Tree.{tree-keeps}
 use Rattle.front.specs.Board.{tentative}
-use Rattle.front.specs.State.{soonest, Placed, Seeded, Empty, Blank}
+use Rattle.front.specs.State.{Held, soonest, Placed, Seeded, Empty}
 
 -- ---- the soonest of a list of starts
 pub soonest-small : (c : ℕ) (xs : List Start) → soonest c xs ≤ never
@@ -66,34 +68,31 @@ starts-on n l (c ∷ cs) (t ∷ ts) q e (suc i) h =
     starts-on n (suc c) cs ts (omega arith) (r .1) i (omega arith)
 
 -- ---- the work list emptied
-pub emptied : {n : ℕ} {v u v' : List ℕ} → 4 * n ≤ length v → Cleared v n u → Blank n u v' → Empty n v v'
+pub emptied : {n : ℕ} {v u v' : List ℕ} → 4 * n ≤ length v → Cleared v n u → Filled (2 * n) (3 * n) never u v' → Empty n v v'
 emptied {n} {v} {u} {v'} h a b = record {
   placed = record {
     room = omega (arith, a .long, b .long);
-    tree = tree-keeps u v' n (b .low) (a .tree);
-    small = λ c l. omega (arith, b .times c l);
-    even = λ c l. b .low (n + c) (omega arith) ∙ a .empty c l ∙ sym (b .times c l);
+    tree = tree-keeps u v' n (λ j l. b .outside j (inl l)) (a .tree);
+    small = λ c l. omega (arith, never-now c l);
+    even = λ c l. b .outside (n + c) (inl (omega arith)) ∙ a .empty c l ∙ sym (never-now c l);
   };
   long = b .long ∙ a .long;
-  rest = λ j l. b .rest j l ∙ a .others j (omega arith);
-  times = b .times;
+  rest = λ j l. b .outside j (inr l) ∙ a .others j (omega arith);
+  times = never-now;
 }
+  where
+    never-now : (c : ℕ) → c < n → tentative v' n c ≡ never
+    never-now c l = b .inside (2 * n + c) (omega arith) (omega arith)
 
 -- ---- one start placed
-module _ (n : ℕ) (v : List ℕ) (pl : Placed n v) (e x : ℕ) (l : e < n) where
-  pub placed-tree : Tree (set v (2 * n + e) x) n
-  placed-tree = tree-past v n (2 * n + e) x (omega arith) (pl .tree)
+pub placed-held : {n : ℕ} {v : List ℕ} → Placed n v → Held n v
+placed-held pl = record { room = pl .room; tree = pl .tree; tied = record { small = pl .small; tied = λ c l. inr (pl .even c l) } }
 
-  pub placed-room : 2 * n ≤ length (set v (2 * n + e) x)
-  placed-room = rw length-set (omega (arith, pl .room))
-
-  pub placed-key : x < tentative v n e → x < keys (set v (2 * n + e) x) n e
-  placed-key h = rw (getD-set-other v (2 * n + e) (n + e) x 0 (omega arith)) (omega (arith, pl .even e l))
-
+module _ {n : ℕ} {v : List ℕ} (pl : Placed n v) {e x : ℕ} (l : e < n) where
   -- an earlier start is placed
-  pub placed-earlier : x < tentative v n e → (v' : List ℕ) → Put (set v (2 * n + e) x) n e x v' → Seeded n (starts-of (e ∷ []) (x ∷ [])) v v'
+  pub placed-earlier : x < tentative v n e → {v' : List ℕ} → Put (set v (2 * n + e) x) n e x v' → Seeded n (starts-of (e ∷ []) (x ∷ [])) v v'
   unfolding soonest starts-of
-  placed-earlier low v' put = record {
+  placed-earlier low {v'} put = record {
     placed = record {
       room = omega (arith, pl .room, long);
       tree = put .tree;
@@ -160,7 +159,8 @@ seeded-next {n} {v} {u} {v'} cs ts i h k a b =
     rw (take-suc cs i 0, take-suc ts i 0, starts-of-append (take i cs) (take i ts) (getD cs i 0 ∷ []) (getD ts i 0 ∷ []) level) (seeded-parts a b)
 
 -- and in the end all of them
-pub seeded-all : {n : ℕ} {v v' : List ℕ} (cs ts : List ℕ) (i : ℕ) → length cs ≤ i → Seeded n (starts-of (take i cs) (take i ts)) v v' → Seeded n (starts-of cs ts) v v'
+pub seeded-all : {n : ℕ} {v v' : List ℕ} (cs ts : List ℕ) (i : ℕ) → length cs ≤ i → Seeded n (starts-of (take i cs) (take i ts)) v v'
+    → Seeded n (starts-of cs ts) v v'
 seeded-all {n} {v} {v'} cs ts i h a = subst (λ xs. Seeded n xs v v') (starts-of-take i cs ts (omega arith)) a
 
 -- FROM NOTHING a cell's tentative time is its soonest start

@@ -1,4 +1,4 @@
--- The engine's rule, what the local rule gives a cell that sees its own tile and ghosts, is lawful, and goes by neighbours alone. Assumes nothing.
+-- The engine's rule, what the local rule gives a cell that sees its own tile and ghosts, is lawful, and goes by neighbours alone.
 use mathlib.Core.Path.{_≡_, refl, ap}
 use mathlib.Core.Bool.{Bool, true, false, cond}
 use Prim.Native.Nat.{ℕ, suc, _≤_, _<_, min}
@@ -24,7 +24,8 @@ module _ {b : Board} (good : Good b) (tw th : ℕ) where
       omega (
         arith,
         arrival-under good c l (ghosted b tw th g f c) (ghosted b tw th g' f' c)
-            (λ e m n. pick-by (λ x y. min never x ≤ y) (eqb (tile-of b tw th c) (tile-of b tw th e)) (f e) (f' e) (g c e) (g' c e) (omega (arith, h e m)) (omega (arith, k e m))),
+            (λ e m n. pick-by (λ x y. min never x ≤ y) (eqb (tile-of b tw th c) (tile-of b tw th e)) (f e) (f' e) (g c e) (g' c e)
+            (omega (arith, h e m)) (omega (arith, k e m))),
       )
 
   pub gives-causal : (g g' : ℕ → ℕ → ℕ) (t c : ℕ) → t < never → c < size b → (f f' : ℕ → ℕ) → ((e : ℕ) → e < size b → min t (f e) ≡ min t (f' e))

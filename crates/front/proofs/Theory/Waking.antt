@@ -1,4 +1,4 @@
--- Every cell hears the stored times, one after the other. Assumes nothing.
+-- Every cell hears the stored times, one after the other.
 use mathlib.Core.Path.{_≡_, sym, ap, subst, _∙_}
 use mathlib.Core.List.{List, [], _∷_, _++_}
 use Prim.Native.Nat.{ℕ, zero, suc, _+_, _*_, _≤_, _<_}
@@ -54,9 +54,10 @@ none-below (suc k) c l o = elim (ℕ-discrete c k) [
 module _ {s : Shape} {slow stored cols rows : List ℕ} (g : Ground s slow stored cols rows) where
   -- with all rows before it
   pub rows-fit : {row : ℕ} → row < s .height → suc row * s .width ≤ 65536
-  rows-fit {row} l = omega (arith, mul-le-mul-right (s .width) l, g .cells, cells-most s slow stored cols rows g)
+  rows-fit {row} l = omega (arith, mul-le-mul-right (s .width) l, g .cells, cells-most g)
 
   -- all rows are all cells
-  pub told-all : {L : ℕ → (ℕ → ℕ) → ℕ} {t row : ℕ} {v w : List ℕ} → row ≡ s .height → Told (s .cells) L t (cells-below (row * s .width)) v w → Told (s .cells) L t (cells-below (s .cells)) v w
+  pub told-all : {L : ℕ → (ℕ → ℕ) → ℕ} {t row : ℕ} {v w : List ℕ} → row ≡ s .height → Told (s .cells) L t (cells-below (row * s .width)) v w
+      → Told (s .cells) L t (cells-below (s .cells)) v w
   told-all {L} {t} {row} {v} {w} q ts =
       subst (λ k. Told (s .cells) L t (cells-below k) v w) (ap (λ h. h * s .width) q ∙ mul-comm (s .height) (s .width) ∙ sym (g .cells)) ts

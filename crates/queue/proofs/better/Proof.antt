@@ -1,4 +1,4 @@
--- `queue::better` meets its contract. Assumes nothing.
+-- `queue::better` meets its contract.
 use mathlib.Core.Path.{refl}
 use mathlib.Core.Logic.{inl, inr}
 use Rattle.queue.proofs.better.Statement.{statement}

@@ -1,4 +1,4 @@
--- `queue::clear` meets its contract. Assumes nothing.
+-- `queue::clear` meets its contract.
 use mathlib.Core.Path.{_≡_, refl, _∙_}
 use Prim.Native.Nat.{ℕ, _-_, _*_, _≤_, _<_}
 use lib.ListN.{length, length-set}
@@ -18,29 +18,8 @@ Inv-loop work₀ n v₀ work v =
 abbrev μ-loop : tie.MeasureT-loop
 μ-loop work₀ n v₀ work v = v
 
-empty-requires : tie.Need-empty-requires Inv-loop μ-loop
-empty-requires c κs = search needs
-
 loop-holds : tie.Need-loop-holds Inv-loop μ-loop
 loop-holds c = (refl, omega arith, omega arith, λ j l. refl, λ u l m. absurd (omega arith))
-
-sub-p : tie.Need-sub-p Inv-loop μ-loop
-sub-p c = search needs
-
-mul-winner-of : tie.Need-mul-winner-of Inv-loop μ-loop
-mul-winner-of c = search needs
-
-winner-of-requires : tie.Need-winner-of-requires Inv-loop μ-loop
-winner-of-requires c κs = search needs
-
-mul-work : tie.Need-mul-work Inv-loop μ-loop
-mul-work c = search needs
-
-slice-write-work : tie.Need-slice-write-work Inv-loop μ-loop
-slice-write-work c = search needs
-
-loop-less : tie.Need-loop-less Inv-loop μ-loop
-loop-less c = search needs
 
 loop-again : tie.Need-loop-again Inv-loop μ-loop
 loop-again c =
@@ -54,30 +33,16 @@ loop-again c =
       seated (a .work) _ p x (omega arith) (omega arith) (omega arith) (c .winner-of .ensures) (λ u l m. a .inv .4 u (omega arith) m),
     )
 
-same-length : tie.Need-same-length Inv-loop μ-loop
-same-length c = search needs
-
 returns : tie.Need-returns Inv-loop μ-loop
 returns c =
     let a = c .before .loop in
     let s = c .before .before .before .before .before .before .before in
-    let e = c .before .before .before .before .empty in
+    let e = c .before .before .before .before .fill in
     cleared (s .args .work .now) _ (a .work) (s .args .n) (s .pre .1) (e .ensures) (a .inv .0) (a .inv .3) (λ u l m. a .inv .4 u (omega arith) m)
 
 pub clear-spec : {M : Type 1} → statement M
 clear-spec =
     tie.close
     (tie.spec
-    Inv-loop
-    μ-loop
-    empty-requires
-    loop-holds
-    sub-p
-    mul-winner-of
-    winner-of-requires
-    mul-work
-    slice-write-work
-    loop-less
-    loop-again
-    same-length
-    returns)
+    Inv-loop μ-loop (λ c. search needs) (λ c κs. search needs) loop-holds (λ c. search needs) (λ c. search needs) (λ c κs. search needs)
+    (λ c. search needs) (λ c. search needs) (λ c. search needs) loop-again (λ c. search needs) returns)

@@ -1,4 +1,4 @@
--- `queue::climb` meets its contract. Assumes nothing.
+-- `queue::climb` meets its contract.
 use mathlib.Core.Path.{_≡_, refl}
 use Prim.Native.Nat.{_*_, _/_, _≤_, _<_}
 use lib.ListN.{length, getD, length-set}
@@ -23,20 +23,11 @@ Inv-loop work₀ n cell key v₀ work v =
 abbrev μ-loop : tie.MeasureT-loop
 μ-loop work₀ n cell key v₀ work v = v
 
-add-won : tie.Need-add-won Inv-loop μ-loop
-add-won c = search needs
-
 loop-holds : tie.Need-loop-holds Inv-loop μ-loop
 loop-holds c =
     let w = c .args .work .now in
     let n = c .args .n in
     (refl, omega arith, omega arith, tree-cells w n (c .pre .2), λ j l. refl, tree-climb w n (c .args .cell) (c .args .key) (c .pre .0) (c .pre .2) (c .pre .3))
-
-mul-if1 : tie.Need-mul-if1 Inv-loop μ-loop
-mul-if1 c = search needs
-
-slice-read-if1 : tie.Need-slice-read-if1 Inv-loop μ-loop
-slice-read-if1 c = search needs
 
 -- the winner of the parent is a cell
 parent : (c : tie.After-slice-known Inv-loop μ-loop) →
@@ -55,9 +46,6 @@ mul-if1-2 c = omega (arith, parent c)
 slice-read-if1-2 : tie.Need-slice-read-if1-2 Inv-loop μ-loop
 slice-read-if1-2 c = omega (arith, parent (c .before))
 
-same-length : tie.Need-same-length Inv-loop μ-loop
-same-length c = search needs
-
 returns : tie.Need-returns Inv-loop μ-loop
 returns c =
     let a = c .before .before .before .before .loop in
@@ -67,15 +55,6 @@ returns c =
 
 cast-work : tie.Need-cast-work Inv-loop μ-loop
 cast-work c = let s = c .before .before .before .before .before in omega (arith, tree-few _ _ (s .pre .2))
-
-mul-work : tie.Need-mul-work Inv-loop μ-loop
-mul-work c = search needs
-
-slice-write-work : tie.Need-slice-write-work Inv-loop μ-loop
-slice-write-work c = search needs
-
-loop-less : tie.Need-loop-less Inv-loop μ-loop
-loop-less c = search needs
 
 loop-again : tie.Need-loop-again Inv-loop μ-loop
 loop-again c =
@@ -94,9 +73,6 @@ loop-again c =
       climb-turn w n (a .won) x (omega arith) (omega arith) m (lesser _ _ _ (s .pre .3)) (omega (arith, e)) (a .inv .5),
     )
 
-same-length-2 : tie.Need-same-length-2 Inv-loop μ-loop
-same-length-2 c = search needs
-
 returns-2 : tie.Need-returns-2 Inv-loop μ-loop
 returns-2 c = let a = c .before .loop in record { long = a .inv .0; kept = a .inv .4; nodes = whole (omega arith) (a .inv .5 .done) }
 
@@ -104,22 +80,6 @@ pub climb-spec : {M : Type 1} → statement M
 climb-spec =
     tie.close
     (tie.spec
-    Inv-loop
-    μ-loop
-    add-won
-    loop-holds
-    mul-if1
-    slice-read-if1
-    cast-if1
-    add-if1
-    mul-if1-2
-    slice-read-if1-2
-    same-length
-    returns
-    cast-work
-    mul-work
-    slice-write-work
-    loop-less
-    loop-again
-    same-length-2
+    Inv-loop μ-loop (λ c. search needs) loop-holds (λ c. search needs) (λ c. search needs) cast-if1 add-if1 mul-if1-2 slice-read-if1-2
+    (λ c. search needs) returns cast-work (λ c. search needs) (λ c. search needs) (λ c. search needs) loop-again (λ c. search needs)
     returns-2)

@@ -1,4 +1,4 @@
--- `queue::first` meets its contract. Assumes nothing.
+-- `queue::first` meets its contract.
 use mathlib.Core.Path.{sym, subst}
 use native.Mathlib.Omega.{arith}
 use borrow.Author.Needs.{needs}
@@ -10,9 +10,6 @@ use Rattle.queue.proofs.first.Tie as tie
 winner-of-requires : tie.Need-winner-of-requires
 winner-of-requires c κs = let s = c .before in (omega arith, s .pre .1, tree-few _ _ (s .pre .2))
 
-cast-result : tie.Need-cast-result
-cast-result c = search needs
-
 returns : tie.Need-returns
 returns c =
     let s = c .before .before in
@@ -21,4 +18,4 @@ returns c =
     subst (λ r. Least w n r) (sym (c .winner-of .ensures)) (tree-least w n (s .pre .0) (s .pre .2))
 
 pub first-spec : {M : Type 1} → statement M
-first-spec = tie.close (tie.spec winner-of-requires cast-result returns)
+first-spec = tie.close (tie.spec winner-of-requires (λ c. search needs) returns)

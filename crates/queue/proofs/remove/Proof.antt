@@ -1,19 +1,10 @@
--- `queue::remove` meets its contract. Assumes nothing.
+-- `queue::remove` meets its contract.
 use lib.ListN.{length-set}
 use borrow.Author.Needs.{needs}
 use Rattle.queue.specs.Tree.{never}
 use Rattle.queue.proofs.Tree.{tree-few, store-apart, store-cells, stored-first}
 use Rattle.queue.proofs.remove.Statement.{statement}
 use Rattle.queue.proofs.remove.Tie as tie
-
-add-work : tie.Need-add-work
-add-work c = search needs
-
-mul-work : tie.Need-mul-work
-mul-work c = search needs
-
-slice-write-work : tie.Need-slice-write-work
-slice-write-work c = search needs
 
 replay-requires : tie.Need-replay-requires
 replay-requires c κs =
@@ -37,4 +28,4 @@ same-length : tie.Need-same-length
 same-length c = returns c .long
 
 pub remove-spec : {M : Type 1} → statement M
-remove-spec = tie.close (tie.spec add-work mul-work slice-write-work replay-requires same-length returns)
+remove-spec = tie.close (tie.spec (λ c. search needs) (λ c. search needs) (λ c. search needs) replay-requires same-length returns)

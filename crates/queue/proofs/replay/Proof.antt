@@ -1,4 +1,4 @@
--- `queue::replay` meets its contract. Assumes nothing.
+-- `queue::replay` meets its contract.
 use mathlib.Core.Path.{_≡_, refl, ap}
 use mathlib.Core.Logic.{⊎-elim}
 use Prim.Native.Nat.{_+_, _*_, _/_, _≤_, _<_}
@@ -26,36 +26,12 @@ Inv-loop work₀ n cell v₀ best₀ key₀ work v best key =
 abbrev μ-loop : tie.MeasureT-loop
 μ-loop work₀ n cell v₀ best₀ key₀ work v best key = v
 
-add-v : tie.Need-add-v Inv-loop μ-loop
-add-v c = search needs
-
-cast-best : tie.Need-cast-best Inv-loop μ-loop
-cast-best c = search needs
-
-mul-key : tie.Need-mul-key Inv-loop μ-loop
-mul-key c = search needs
-
-slice-read-key : tie.Need-slice-read-key Inv-loop μ-loop
-slice-read-key c = search needs
-
 loop-holds : tie.Need-loop-holds Inv-loop μ-loop
 loop-holds c =
     let s = c .before .before in
     let n = s .args .n in
     let e = winner-leaf (s .args .work .now) n (n + s .args .cell) (omega arith) in
     (refl, omega arith, omega arith, omega (arith, e), refl, s .pre .3, λ j l. refl, s .pre .4)
-
-mul-winner-of : tie.Need-mul-winner-of Inv-loop μ-loop
-mul-winner-of c = search needs
-
-add-winner-of : tie.Need-add-winner-of Inv-loop μ-loop
-add-winner-of c = search needs
-
-sub-winner-of : tie.Need-sub-winner-of Inv-loop μ-loop
-sub-winner-of c = search needs
-
-winner-of-requires : tie.Need-winner-of-requires Inv-loop μ-loop
-winner-of-requires c κs = search needs
 
 -- the sibling's winner is a cell
 won : (c : tie.After-winner-of Inv-loop μ-loop) → c .winner-of .result < c .before .before .before .before .before .before .args .n
@@ -74,21 +50,6 @@ mul-low c = omega (arith, won c)
 
 slice-read-low : tie.Need-slice-read-low Inv-loop μ-loop
 slice-read-low c = omega (arith, won (c .before))
-
-better-requires : tie.Need-better-requires Inv-loop μ-loop
-better-requires c κs = search needs
-
-lesser-requires : tie.Need-lesser-requires Inv-loop μ-loop
-lesser-requires c κs = search needs
-
-mul-work : tie.Need-mul-work Inv-loop μ-loop
-mul-work c = search needs
-
-slice-write-work : tie.Need-slice-write-work Inv-loop μ-loop
-slice-write-work c = search needs
-
-loop-less : tie.Need-loop-less Inv-loop μ-loop
-loop-less c = search needs
 
 loop-again : tie.Need-loop-again Inv-loop μ-loop
 loop-again c =
@@ -118,9 +79,6 @@ loop-again c =
       replay-turn w n v x b l m k won (omega (arith, best, d .1)) (omega (arith, rival, d .2)) (a .inv .7),
     )
 
-same-length : tie.Need-same-length Inv-loop μ-loop
-same-length c = search needs
-
 returns : tie.Need-returns Inv-loop μ-loop
 returns c = let a = c .before .loop in record { long = a .inv .0; kept = a .inv .6; nodes = whole (omega arith) (a .inv .7) }
 
@@ -128,26 +86,6 @@ pub replay-spec : {M : Type 1} → statement M
 replay-spec =
     tie.close
     (tie.spec
-    Inv-loop
-    μ-loop
-    add-v
-    cast-best
-    mul-key
-    slice-read-key
-    loop-holds
-    mul-winner-of
-    add-winner-of
-    sub-winner-of
-    winner-of-requires
-    cast-low
-    add-low
-    mul-low
-    slice-read-low
-    better-requires
-    lesser-requires
-    mul-work
-    slice-write-work
-    loop-less
-    loop-again
-    same-length
-    returns)
+    Inv-loop μ-loop (λ c. search needs) (λ c. search needs) (λ c. search needs) (λ c. search needs) loop-holds (λ c. search needs)
+    (λ c. search needs) (λ c. search needs) (λ c κs. search needs) cast-low add-low mul-low slice-read-low (λ c κs. search needs)
+    (λ c κs. search needs) (λ c. search needs) (λ c. search needs) (λ c. search needs) loop-again (λ c. search needs) returns)

@@ -1,4 +1,4 @@
--- `refusals::all_marked` meets its contract: those before j are marked. Assumes nothing.
+-- `refusals::all_marked` meets its contract: those before j are marked.
 use mathlib.Core.Path.{_≡_, refl, sym, subst}
 use mathlib.Core.Bool.{true}
 use Prim.Native.Nat.{ℕ, _-_, _≤_}
@@ -6,7 +6,7 @@ use native.Mathlib.Numerals.{add-one}
 use native.Mathlib.Omega.{arith}
 use borrow.Author.Tests.{eq-eqb, ne-eqb}
 use Rattle.refusals.specs.Orders.{all-below, marked}
-use Rattle.refusals.proofs.Theory.Orders.{all-below-more, all-below-stops}
+use Rattle.refusals.proofs.Orders.{all-below-more, all-below-stops}
 use Rattle.refusals.proofs.all_marked.Statement.{statement}
 use Rattle.refusals.proofs.all_marked.Tie as tie
 
@@ -20,20 +20,11 @@ loop-holds : tie.Need-loop-holds Inv-loop μ-loop
 unfolding all-below
 loop-holds c = (omega arith, refl)
 
-element-copy-out-if1 : tie.Need-element-copy-out-if1 Inv-loop μ-loop
-element-copy-out-if1 c = omega arith
-
 returns : tie.Need-returns Inv-loop μ-loop
 returns c =
     let at = c .before .before .before in
     let a = at .before .args in
     sym (all-below-stops (at .loop .j) (a .many) (λ k. marked (a .seen .now) k) (c .before .before .loop-test .taken) (ne-eqb _ 1 (c .if1 .taken)))
-
-add-j : tie.Need-add-j Inv-loop μ-loop
-add-j c = omega arith
-
-loop-less : tie.Need-loop-less Inv-loop μ-loop
-loop-less c = omega arith
 
 loop-again : tie.Need-loop-again Inv-loop μ-loop
 loop-again c =
@@ -50,14 +41,4 @@ returns-2 c =
 
 pub all-marked-spec : {M : Type 1} → statement M
 all-marked-spec =
-    tie.close
-    (tie.spec
-    Inv-loop
-    μ-loop
-    loop-holds
-    element-copy-out-if1
-    returns
-    add-j
-    loop-less
-    loop-again
-    returns-2)
+    tie.close (tie.spec Inv-loop μ-loop loop-holds (λ c. omega arith) returns (λ c. omega arith) (λ c. omega arith) loop-again returns-2)

@@ -1,4 +1,4 @@
--- `refusals::all_there` meets its contract: the numbers below `from` are there. Assumes nothing.
+-- `refusals::all_there` meets its contract: the numbers below `from` are there.
 use mathlib.Core.Path.{_≡_, refl, sym, subst, _∙_}
 use mathlib.Core.Bool.{true}
 use Prim.Native.Nat.{ℕ, _+_, _-_, _≤_}
@@ -6,7 +6,7 @@ use native.Mathlib.Omega.{arith}
 use borrow.Author.Needs.{needs}
 use borrow.Author.Tests.{not-true, not-false}
 use Rattle.eikonal.specs.Refusals.{all-there}
-use Rattle.refusals.proofs.Theory.Orders.{there-on, there-fails}
+use Rattle.refusals.proofs.Orders.{there-on, there-fails}
 use Rattle.refusals.proofs.all_there.Statement.{statement}
 use Rattle.refusals.proofs.all_there.Tie as tie
 
@@ -20,18 +20,10 @@ loop-holds : tie.Need-loop-holds Inv-loop μ-loop
 unfolding all-there
 loop-holds c = (omega arith, refl)
 
-sub-next-part : tie.Need-sub-next-part Inv-loop μ-loop
-sub-next-part c = omega arith
-
-next-part-requires : tie.Need-next-part-requires Inv-loop μ-loop
-next-part-requires c κs = search needs
-
-part-there-requires : tie.Need-part-there-requires Inv-loop μ-loop
-part-there-requires c κs = omega arith
-
 -- the part that is next decides whether all are there up to its end
 on : (c : tie.After-part-there Inv-loop μ-loop)
-    → all-there (c .before .before .before .loop .from + c .before .next-part .result) (c .before .before .before .before .before .args .order .now) ≡ c .part-there .result
+    → all-there (c .before .before .before .loop .from + c .before .next-part .result) (c .before .before .before .before .before .args .order .now)
+    ≡ c .part-there .result
 on c =
     let at = c .before .before .before in
     there-on (at .loop .from) (c .before .next-part .result) (at .before .before .args .order .now) (at .loop .inv .1) ∙ sym (c .part-there .ensures)
@@ -40,12 +32,6 @@ returns : tie.Need-returns Inv-loop μ-loop
 returns c =
     let a = c .before .before .before .before .before .before .args in
     sym (there-fails _ (a .count) (a .order .now) (omega arith) (on (c .before) ∙ not-true _ (c .if1 .taken)))
-
-add-from : tie.Need-add-from Inv-loop μ-loop
-add-from c = omega arith
-
-loop-less : tie.Need-loop-less Inv-loop μ-loop
-loop-less c = omega arith
 
 loop-again : tie.Need-loop-again Inv-loop μ-loop
 loop-again c = (omega arith, on (c .before) ∙ not-false _ (c .if1 .left))
@@ -61,14 +47,5 @@ pub all-there-spec : {M : Type 1} → statement M
 all-there-spec =
     tie.close
     (tie.spec
-    Inv-loop
-    μ-loop
-    loop-holds
-    sub-next-part
-    next-part-requires
-    part-there-requires
-    returns
-    add-from
-    loop-less
-    loop-again
-    returns-2)
+    Inv-loop μ-loop loop-holds (λ c. omega arith) (λ c κs. search needs) (λ c κs. omega arith) returns (λ c. omega arith) (λ c. omega arith)
+    loop-again returns-2)

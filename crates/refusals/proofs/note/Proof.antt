@@ -1,7 +1,7 @@
--- `refusals::note` meets its contract. Assumes nothing.
+-- `refusals::note` meets its contract.
 use native.Mathlib.Omega.{arith}
 use borrow.Author.Needs.{needs}
-use Rattle.refusals.proofs.Theory.Orders.{outside, inside}
+use Rattle.refusals.proofs.Orders.{outside, inside}
 use Rattle.refusals.proofs.note.Statement.{statement}
 use Rattle.refusals.proofs.note.Tie as tie
 
@@ -15,13 +15,10 @@ returns-2 c =
     let a = c .before .before .args in
     outside (a .from) (a .x) (a .seen .now) (λ j h e. omega (arith, c .if2 .taken, c .before .if1 .left))
 
-element-write-seen : tie.Need-element-write-seen
-element-write-seen c = search needs
-
 returns-3 : tie.Need-returns-3
 returns-3 c =
     let a = c .before .before .args in
     inside (a .from) (a .x) (a .seen .now) (c .before .if1 .left) (omega arith)
 
 pub note-spec : {M : Type 1} → statement M
-note-spec = tie.close (tie.spec returns returns-2 element-write-seen returns-3)
+note-spec = tie.close (tie.spec returns returns-2 (λ c. search needs) returns-3)

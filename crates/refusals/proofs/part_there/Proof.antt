@@ -1,4 +1,4 @@
--- `refusals::part_there` meets its contract: the entries before i are marked where they lie in the part. Assumes nothing.
+-- `refusals::part_there` meets its contract: the entries before i are marked where they lie in the part.
 use mathlib.Core.Path.{_≡_, refl, sym, ap, _∙_}
 use mathlib.Core.Bool.{Bool, _||_}
 use mathlib.Core.List.{List}
@@ -11,7 +11,7 @@ use lib.ListN.{length, getD, take, getD-replicate}
 use lib.Seq.{take-all}
 use Rattle.eikonal.specs.Refusals.{member}
 use Rattle.refusals.specs.Orders.{marked}
-use Rattle.refusals.proofs.Theory.Orders.{all-below-same, member-more}
+use Rattle.refusals.proofs.Orders.{all-below-same, member-more}
 use Rattle.refusals.proofs.part_there.Statement.{statement}
 use Rattle.refusals.proofs.part_there.Tie as tie
 
@@ -26,21 +26,6 @@ loop-holds : tie.Need-loop-holds Inv-loop μ-loop
 unfolding member
 loop-holds c = (omega arith, refl, λ j h. rw (getD-replicate {A = ℕ} 8192 j 0 0 h))
 
-mul-note : tie.Need-mul-note Inv-loop μ-loop
-mul-note c = search needs
-
-shared-slice-read-note : tie.Need-shared-slice-read-note Inv-loop μ-loop
-shared-slice-read-note c = search needs
-
-note-requires : tie.Need-note-requires Inv-loop μ-loop
-note-requires c κs = search needs
-
-add-i : tie.Need-add-i Inv-loop μ-loop
-add-i c = omega arith
-
-loop-less : tie.Need-loop-less Inv-loop μ-loop
-loop-less c = omega arith
-
 loop-again : tie.Need-loop-again Inv-loop μ-loop
 loop-again c =
     let at = c .before .before .before .before in
@@ -53,9 +38,6 @@ loop-again c =
           ∙ ap (λ (t : Bool). t || eqb (getD order i 0) (a .from + j)) (at .loop .inv .2 j h)
           ∙ rw add-one (sym (member-more (a .from + j) order i (c .before .before .before .loop-test .taken))),
     )
-
-all-marked-requires : tie.Need-all-marked-requires Inv-loop μ-loop
-all-marked-requires c κs = search needs
 
 returns : tie.Need-returns Inv-loop μ-loop
 returns c =
@@ -70,14 +52,5 @@ pub part-there-spec : {M : Type 1} → statement M
 part-there-spec =
     tie.close
     (tie.spec
-    Inv-loop
-    μ-loop
-    loop-holds
-    mul-note
-    shared-slice-read-note
-    note-requires
-    add-i
-    loop-less
-    loop-again
-    all-marked-requires
-    returns)
+    Inv-loop μ-loop loop-holds (λ c. search needs) (λ c. search needs) (λ c κs. search needs) (λ c. omega arith) (λ c. omega arith)
+    loop-again (λ c κs. search needs) returns)

@@ -1,16 +1,10 @@
--- `rings_lines::behind` meets its contract. Assumes nothing.
+-- `rings_lines::behind` meets its contract.
 use mathlib.Core.Path.{refl}
 use borrow.Author.Needs.{needs}
 use borrow.Author.Tests.{eq-eqb, ne-eqb}
 use Rattle.rings_lines.specs.Rings.{behind}
 use Rattle.rings_lines.proofs.behind.Statement.{statement}
 use Rattle.rings_lines.proofs.behind.Tie as tie
-
-add-if1 : tie.Need-add-if1
-add-if1 c = search needs
-
-rem-if1 : tie.Need-rem-if1
-rem-if1 c = search needs
 
 returns : tie.Need-returns
 unfolding behind
@@ -21,4 +15,4 @@ unfolding behind
 returns-2 c = rw (ne-eqb _ 0 (c .if1 .left)) refl
 
 pub behind-spec : {M : Type 1} → statement M
-behind-spec = tie.close (tie.spec add-if1 rem-if1 returns returns-2)
+behind-spec = tie.close (tie.spec (λ c. search needs) (λ c. search needs) returns returns-2)

@@ -1,13 +1,16 @@
--- `rings_lines::put_board` meets its contract. Assumes nothing.
-use mathlib.Core.Path.{refl, sym, ap, _∙_}
+-- `rings_lines::put_board` meets its contract.
+use mathlib.Core.Path.{_≡_, refl, sym, _∙_}
 use Prim.Native.Nat.{_≤_}
 use native.Mathlib.Omega.{arith}
-use lib.ListN.{length}
+use lib.ListN.{length, take}
 use lib.Seq.{length-take-le}
 use borrow.Author.Needs.{needs}
-use Rattle.eikonal.specs.Refusals.{side-good}
+use Rattle.eikonal.specs.Board.{size}
+use Rattle.eikonal.specs.Refusals.{side-good, sides-good}
+use Rattle.scenario.specs.File.{held}
+use Rattle.scenario.proofs.Reading.{cells-read}
 use Rattle.tablet.specs.Small.{Tiled}
-use Rattle.tablet.proofs.Parts.{part-long, part-back, part-fits, part-count}
+use Rattle.tablet.proofs.Parts.{Back, back}
 use Rattle.tablet.proofs.SmallFiles.{Small, small, cells-few}
 use Rattle.rings_lines.proofs.put_board.Statement.{statement}
 use Rattle.rings_lines.proofs.put_board.Tie as tie
@@ -17,43 +20,54 @@ few c = small (c .args .file .now) (c .pre .1)
 
 -- tiles of 8 by 8, stride 65,536
 eights : Tiled 65536 8 8
-unfolding side-good
-eights = record { least = omega arith; most = omega arith; wide = refl; high = refl }
+unfolding sides-good side-good
+eights = record { least = omega arith; most = omega arith; sides = refl }
 
-board-size-requires : tie.Need-board-size-requires
-board-size-requires c κs = few (c .before .before) .taken .front .head
+head-of-requires : tie.Need-head-of-requires
+head-of-requires c κs = few (c .before .before) .taken .front .head
 
-entries-requires : tie.Need-entries-requires
-entries-requires c κs = search needs
+-- there is an entry for each cell
+cells : (c : tie.After-board-size) → c .board-size .result ≡ size (held (c .before .before .before .before .args .file .now))
+cells c = cells-read _ _ (c .before .head-of .ensures) _ (c .board-size .ensures)
+
+cells-most : (c : tie.After-board-size) → c .board-size .result ≤ 1024
+cells-most c = omega (arith, cells c, cells-few _ (few (c .before .before .before .before)))
 
 fits : (c : tie.After-entries) → c .before .board-size .result ≤ length (c .entries .result)
-fits c = omega (arith, cells-few _ (few (c .before .before .before .before)), c .before .board-size .ensures, c .entries .ensures)
+fits c = omega (arith, cells-most (c .before), c .entries .ensures)
+
+-- the times that are lent on
+lent : (c : tie.After-entries) → length (take (c .before .board-size .result) (c .entries .result)) ≡ c .before .board-size .result
+lent c = length-take-le _ (c .entries .result) (fits c)
 
 array-borrow-prefix-times : tie.Need-array-borrow-prefix-times
 array-borrow-prefix-times c = fits c
 
 slice-aggregate-run-file : tie.Need-slice-aggregate-run-file
-slice-aggregate-run-file c = sym (length-take-le _ (c .before .entries .result) (fits (c .before)))
+slice-aggregate-run-file c = sym (lent (c .before))
 
 run-file-requires : tie.Need-run-file-requires
-run-file-requires c κs = ((c .before .before .before .before .before .pre .1, length-take-le _ (c .before .entries .result) (fits (c .before)) ∙ c .before .before .board-size .ensures), eights)
+run-file-requires c κs =
+    let n = c .before .before in
+    ((n .before .before .before .before .pre .1, lent (c .before) ∙ cells n), eights)
+
+-- and that came back
+times-back : (c : tie.After-run-file) → let e = c .before .before in
+    Back (e .before .board-size .result) (e .entries .result) (c .run-file .last .1 .1 .1 .1 .0)
+times-back c = back _ _ _ (fits (c .before .before)) (c .run-file .kept .1 .1 .1 .1 .0)
 
 array-share-prefix-times : tie.Need-array-share-prefix-times
-array-share-prefix-times c = let r = c .before .before .run-file in part-fits _ (c .before .before .before .before .entries .result) (r .last .1 .1 .1 .1 .0) (fits (c .before .before .before .before)) (r .kept .1 .1 .1 .1 .0)
+array-share-prefix-times c = times-back (c .before .before) .fits
 
 slice-aggregate-put-lines : tie.Need-slice-aggregate-put-lines
-slice-aggregate-put-lines c = let r = c .before .before .before .run-file in part-count _ (c .before .before .before .before .before .entries .result) (r .last .1 .1 .1 .1 .0) (fits (c .before .before .before .before .before)) (r .kept .1 .1 .1 .1 .0)
+slice-aggregate-put-lines c = times-back (c .before .before .before) .count
 
 put-lines-requires : tie.Need-put-lines-requires
 put-lines-requires c κs =
-    let p = c .before .before .before .before .before .before .before .before .before in
-    let r = c .before .before .before .run-file in
-    let back = part-back _ (c .before .before .before .before .before .entries .result) (r .last .1 .1 .1 .1 .0) (fits (c .before .before .before .before .before)) (r .kept .1 .1 .1 .1 .0) in
-    let long = part-long _ (c .before .before .before .before .before .entries .result) (r .last .1 .1 .1 .1 .0) (fits (c .before .before .before .before .before)) (r .kept .1 .1 .1 .1 .0) in
-    (p .pre .0, p .pre .1, back ∙ r .ensures .1, omega (arith, ap length back, long, c .before .before .before .before .before .before .board-size .ensures, cells-few _ (few p)))
-
-same-length : tie.Need-same-length
-same-length c = search needs
+    let r = c .before .before .before in
+    let n = r .before .before .before in
+    let t = times-back r in
+    (n .before .before .before .before .pre, (t .same ∙ r .run-file .ensures .1, omega (arith, t .count, cells-most n)))
 
 returns : tie.Need-returns
 returns c = c .before .before .put-lines .ensures
@@ -62,13 +76,5 @@ pub put-board-spec : {M : Type 1} → statement M
 put-board-spec =
     tie.close
     (tie.spec
-    board-size-requires
-    entries-requires
-    array-borrow-prefix-times
-    slice-aggregate-run-file
-    run-file-requires
-    array-share-prefix-times
-    slice-aggregate-put-lines
-    put-lines-requires
-    same-length
-    returns)
+    head-of-requires (λ c κs. tt) (λ c κs. tt) array-borrow-prefix-times slice-aggregate-run-file run-file-requires array-share-prefix-times
+    slice-aggregate-put-lines put-lines-requires (λ c. search needs) returns)

@@ -1,4 +1,4 @@
--- Entries that become final one part after another, and how many differ from before. Assumes nothing.
+-- Entries that become final one part after another, and how many differ from before.
 use mathlib.Core.Path.{_≡_, refl, sym, ap, _∙_}
 use mathlib.Core.Bool.{cond}
 use mathlib.Core.Logic.{_⊎_, inl, inr}
@@ -14,8 +14,9 @@ use borrow.Rule.Slice.PartMut.{midOf, postOf, putMid, mid-len, put-same, same-le
 use Rattle.eikonal.specs.Tiles.{altered}
 use Rattle.eikonal.proofs.Altered.{altered-none}
 use Rattle.eikonal.proofs.Levels.{order}
-use Rattle.rows.specs.Rows.{Entered, All}
-use Rattle.rows.proofs.Theory.Lists.{Stored, here, elsewhere, stored, alike-from}
+use Rattle.rows.specs.Rows.{Entered, Everywhere}
+use Rattle.queue.proofs.Filling.{Stored, here, elsewhere, after-store}
+use Rattle.rows.proofs.Theory.Lists.{alike-from}
 
 -- ---- two entries, as bare numbers
 abbrev pub differ : (x y : ℕ) → ℕ
@@ -78,8 +79,8 @@ entered-none Asked f xs none = record {
 entered-store : (f : ℕ → ℕ) (xs : List ℕ) (i x : ℕ) → i < length xs → x ≡ f i → Entered (λ c. c ≡ i) f xs (set xs i x) (differ (getD xs i 0) x)
 entered-store f xs i x l e = record {
   long = length-set xs i x;
-  each = λ c h. go c (stored xs i x c l);
-  done = λ c h p. at c p (stored xs i x c l);
+  each = λ c h. go c (after-store xs i x c l);
+  done = λ c h p. at c p (after-store xs i x c l);
   counted = sym (altered-set xs i x l);
 }
   where
@@ -96,7 +97,8 @@ module _ {D E : ℕ → Type 0} {f : ℕ → ℕ} {xs ys zs : List ℕ} {m k : �
   then-each : (c : ℕ) → c < length xs → (getD zs c 0 ≡ getD xs c 0) ⊎ (getD zs c 0 ≡ f c)
   then-each c l = go (a .each c l) (b .each c (omega (arith, a .long)))
     where
-      go : (getD ys c 0 ≡ getD xs c 0) ⊎ (getD ys c 0 ≡ f c) → (getD zs c 0 ≡ getD ys c 0) ⊎ (getD zs c 0 ≡ f c) → (getD zs c 0 ≡ getD xs c 0) ⊎ (getD zs c 0 ≡ f c)
+      go : (getD ys c 0 ≡ getD xs c 0) ⊎ (getD ys c 0 ≡ f c) → (getD zs c 0 ≡ getD ys c 0) ⊎ (getD zs c 0 ≡ f c)
+          → (getD zs c 0 ≡ getD xs c 0) ⊎ (getD zs c 0 ≡ f c)
       go (inl p) (inl q) = inl (q ∙ p)
       go (inr p) (inl q) = inr (q ∙ p)
       go p (inr q) = inr q
@@ -112,7 +114,8 @@ module _ {D E : ℕ → Type 0} {f : ℕ → ℕ} {xs ys zs : List ℕ} {m k : �
   one-still : (c : ℕ) → c < length xs → (getD ys c 0 ≡ getD xs c 0) ⊎ (getD zs c 0 ≡ getD ys c 0)
   one-still c l = go (a .each c l) (b .each c (omega (arith, a .long)))
     where
-      go : (getD ys c 0 ≡ getD xs c 0) ⊎ (getD ys c 0 ≡ f c) → (getD zs c 0 ≡ getD ys c 0) ⊎ (getD zs c 0 ≡ f c) → (getD ys c 0 ≡ getD xs c 0) ⊎ (getD zs c 0 ≡ getD ys c 0)
+      go : (getD ys c 0 ≡ getD xs c 0) ⊎ (getD ys c 0 ≡ f c) → (getD zs c 0 ≡ getD ys c 0) ⊎ (getD zs c 0 ≡ f c)
+          → (getD ys c 0 ≡ getD xs c 0) ⊎ (getD zs c 0 ≡ getD ys c 0)
       go (inl p) q = inl p
       go (inr p) (inl q) = inr q
       go (inr p) (inr q) = inr (q ∙ sym p)
@@ -126,7 +129,8 @@ module _ {D E : ℕ → Type 0} {f : ℕ → ℕ} {xs ys zs : List ℕ} {m k : �
   }
 
 -- one store more, from the front
-pub entered-next : {f : ℕ → ℕ} {xs ys : List ℕ} {m : ℕ} (i x : ℕ) → i < length ys → x ≡ f i → Entered (λ c. c < i) f xs ys m → Entered (λ c. c < i + 1) f xs (set ys i x) (m + differ (getD ys i 0) x)
+pub entered-next : {f : ℕ → ℕ} {xs ys : List ℕ} {m : ℕ} (i x : ℕ) → i < length ys → x ≡ f i → Entered (λ c. c < i) f xs ys m
+    → Entered (λ c. c < i + 1) f xs (set ys i x) (m + differ (getD ys i 0) x)
 entered-next {f} {xs} {ys} i x l e a = entered-then a (entered-store f ys i x l e) (λ c. c < i + 1) (λ c h k. last c k (order c i))
   where
     last : (c : ℕ) → c < i + 1 → (c < i) ⊎ (i ≤ c) → (c < i) ⊎ (c ≡ i)
@@ -134,11 +138,12 @@ entered-next {f} {xs} {ys} i x l e a = entered-then a (entered-store f ys i x l 
     last c k (inr h) = inr (omega arith)
 
 -- fewer asked
-pub entered-of : {D : ℕ → Type 0} {f : ℕ → ℕ} {xs ys : List ℕ} {m : ℕ} (Asked : ℕ → Type 0) → ((c : ℕ) → c < length xs → Asked c → D c) → Entered D f xs ys m → Entered Asked f xs ys m
+pub entered-of : {D : ℕ → Type 0} {f : ℕ → ℕ} {xs ys : List ℕ} {m : ℕ} (Asked : ℕ → Type 0) → ((c : ℕ) → c < length xs → Asked c → D c)
+    → Entered D f xs ys m → Entered Asked f xs ys m
 entered-of Asked sub a = record { long = a .long; each = a .each; done = λ c l s. a .done c l (sub c l s); counted = a .counted }
 
-pub count-most : {D : ℕ → Type 0} {f : ℕ → ℕ} {xs ys : List ℕ} {m : ℕ} → Entered D f xs ys m → m ≤ length xs
-count-most {D} {f} {xs} {ys} a = omega (arith, a .counted, altered-most xs ys)
+pub entered-most : {D : ℕ → Type 0} {f : ℕ → ℕ} {xs ys : List ℕ} {m : ℕ} → Entered D f xs ys m → m ≤ length xs
+entered-most {D} {f} {xs} {ys} a = omega (arith, a .counted, altered-most xs ys)
 
 -- ---- A PART that was lent from a up to e, and comes back
 module _ (xs ys : List ℕ) (a e : ℕ) (h : a ≤ e) (k : e ≤ length xs) (long : length ys ≡ length (midOf a (e - a) xs)) where
@@ -171,9 +176,9 @@ module _ (xs ys : List ℕ) (a e : ℕ) (h : a ≤ e) (k : e ≤ length xs) (lon
         altered-none (postOf a (e - a) xs),
       )
 
-pub entered-part : (f g : ℕ → ℕ) (xs ys : List ℕ) (a e : ℕ) {m : ℕ} → a ≤ e → e ≤ length xs → ((j : ℕ) → j < e - a → g j ≡ f (a + j))
-    → Entered All g (midOf a (e - a) xs) ys m → Entered (λ c. (a ≤ c) × (c < e)) f xs (putMid a (e - a) xs ys) m
-entered-part f g xs ys a e h k same p = record {
+pub entered-part : {f g : ℕ → ℕ} (xs ys : List ℕ) (a e : ℕ) {m : ℕ} → a ≤ e → e ≤ length xs → ((j : ℕ) → j < e - a → g j ≡ f (a + j))
+    → Entered Everywhere g (midOf a (e - a) xs) ys m → Entered (λ c. (a ≤ c) × (c < e)) f xs (putMid a (e - a) xs ys) m
+entered-part {f} xs ys a e h k same p = record {
   long = same-len-mid a (e - a) xs ys (p .long);
   each = λ c l. go c (order c a) (order c e);
   done = λ c l s. within c (s .0) (s .1);

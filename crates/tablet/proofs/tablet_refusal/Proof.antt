@@ -1,81 +1,70 @@
--- `tablet::tablet_refusal` meets its contract. Assumes nothing.
-use mathlib.Core.Path.{_≡_, refl, sym, _∙_}
-use mathlib.Core.Bool.{cond}
-use mathlib.Core.List.{List}
-use Prim.Native.Nat.{ℕ, _*_}
+-- `tablet::tablet_refusal` meets its contract.
+use mathlib.Core.Path.{_≡_, refl, sym, ap, _∙_}
+use Prim.Native.Nat.{_*_}
 use native.Mathlib.Omega.{arith}
-use lib.Dec.{ltb}
-use borrow.Author.Needs.{needs}
 use borrow.Author.Tests.{lt-ltb, le-ltb}
 use Rattle.eikonal.specs.Board.{size}
+use Rattle.eikonal.specs.Refusals.{cause, none}
+use Rattle.eikonal.proofs.Causes.{caused, spared, first, next}
 use Rattle.scenario.specs.File.{held}
-use Rattle.scenario.proofs.Causes.{or-else-first, or-else-next}
+use Rattle.scenario.proofs.Reading.{cells-read}
 use Rattle.tablet.specs.Small.{small-refusal}
 use Rattle.tablet.specs.Tablet.{tiling-refusal, tablet-refusal}
-use Rattle.tablet.proofs.SmallFiles.{Small, small, cells-few}
+use Rattle.tablet.proofs.SmallFiles.{small, cells-few}
 use Rattle.tablet.proofs.tablet_refusal.Statement.{statement}
 use Rattle.tablet.proofs.tablet_refusal.Tie as tie
 
-small-refusal-requires : tie.Need-small-refusal-requires
-small-refusal-requires c κs = search needs
-
 returns : tie.Need-returns
 unfolding tablet-refusal
-returns c =
-    let k = c .before .small-refusal in
-    k .ensures ∙ sym (or-else-first _ _ (λ q. c .if1 .taken (k .ensures ∙ q)))
+returns c = let e = c .before .before .small-refusal .ensures in first _ _ _ e (λ q. c .if1 .taken (ap (λ u. u .number) e ∙ q))
 
-tiling-refusal-requires : tie.Need-tiling-refusal-requires
-tiling-refusal-requires c κs = search needs
+-- the file is small
+few : (c : tie.Else1) → small-refusal (c .before .before .before .before .args .file .now) .number ≡ 0
+few c = ap (λ u. u .number) (sym (c .before .before .small-refusal .ensures)) ∙ c .if1 .left
 
 returns-2 : tie.Need-returns-2
 unfolding tablet-refusal
 returns-2 c =
-    let k = c .before .before .before .small-refusal in
-    let t = c .before .tiling-refusal in
-    t .ensures ∙ sym (or-else-next _ _ (sym (k .ensures) ∙ c .before .before .if1 .left) ∙ or-else-first _ _ (λ q. c .if2 .taken (t .ensures ∙ q)))
+    let t = c .before .before in
+    let e = t .tiling-refusal .ensures in
+    next _ _ _ (few (t .before)) (first _ _ _ e (λ q. c .if2 .taken (ap (λ u. u .number) e ∙ q)))
 
--- the file is small
-few : (f : List ℕ) (k : ℕ) → k ≡ small-refusal f → k ≡ 0 → Small f
-few f k e z = small f (sym e ∙ z)
+-- the tiles are good
+tiles : (c : tie.Else2) → let a = c .before .before .before .before .before .before .before .args in
+    tiling-refusal (a .stride) (a .across) (a .down) .number ≡ 0
+tiles c = ap (λ u. u .number) (sym (c .before .before .tiling-refusal .ensures)) ∙ c .if2 .left
 
-board-size-requires : tie.Need-board-size-requires
-board-size-requires c κs = few _ _ (c .before .before .before .small-refusal .ensures) (c .before .before .if1 .left) .taken .front .head
+head-of-requires : tie.Need-head-of-requires
+head-of-requires c κs = small _ (few (c .before .before .before)) .taken .front .head
+
+-- so many cells
+cells : (c : tie.After-board-size) → let f = c .before .before .before .before .before .before .before .before .before .args .file .now in
+    c .board-size .result ≡ size (held f)
+cells c = cells-read _ _ (c .before .head-of .ensures) _ (c .board-size .ensures)
 
 mul-if3 : tie.Need-mul-if3
-mul-if3 c =
-    let s = few _ _ (c .before .before .before .before .small-refusal .ensures) (c .before .before .before .if1 .left) in
-    omega (arith, cells-few _ s, c .board-size .ensures)
-
--- 14, or nothing
-last : (f : List ℕ) (s tw th n k t : ℕ) → k ≡ small-refusal f → k ≡ 0 → t ≡ tiling-refusal s tw th → t ≡ 0
-    → tablet-refusal f s tw th n ≡ cond (ltb n (4 * size (held f))) 14 0
-unfolding tablet-refusal
-last f s tw th n k t e z d y = or-else-next _ _ (sym e ∙ z) ∙ or-else-next _ _ (sym d ∙ y)
+mul-if3 c = omega (arith, cells-few _ (small _ (few (c .before .before .before .before .before))), cells c)
 
 returns-3 : tie.Need-returns-3
+unfolding tablet-refusal
 returns-3 c =
-    let a = c .before .before .before .before .before .before .before .args in
-    let b = c .before .board-size in
-    sym (last (a .file .now) (a .stride) (a .across) (a .down) (a .room) _ _ (c .before .before .before .before .before .small-refusal .ensures) (c .before .before .before .before .if1 .left) (c .before .before .before .tiling-refusal .ensures) (c .before .before .if2 .left)
-    ∙ rw (← b .ensures, lt-ltb (a .room) (4 * b .result) (c .if3 .taken)) refl)
+    let b = c .before .before in
+    let t = b .before .before in
+    let f = t .before .before .before .before .before .before .before .args .file .now in
+    let short = lt-ltb _ (4 * size (held f)) (rw (cells b) at (c .before .if3 .taken)) in
+    c .cause .ensures ∙ next _ _ (cause 14) (few (t .before .before .before)) (next _ _ _ (tiles t) (caused _ (cause 14) none short))
 
 returns-4 : tie.Need-returns-4
+unfolding tablet-refusal
 returns-4 c =
-    let a = c .before .before .before .before .before .before .before .args in
-    let b = c .before .board-size in
-    sym (last (a .file .now) (a .stride) (a .across) (a .down) (a .room) _ _ (c .before .before .before .before .before .small-refusal .ensures) (c .before .before .before .before .if1 .left) (c .before .before .before .tiling-refusal .ensures) (c .before .before .if2 .left)
-    ∙ rw (← b .ensures, le-ltb (a .room) (4 * b .result) (c .if3 .left)) refl)
+    let b = c .before .before in
+    let t = b .before .before in
+    let f = t .before .before .before .before .before .before .before .args .file .now in
+    let enough = le-ltb _ (4 * size (held f)) (rw (cells b) at (c .before .if3 .left)) in
+    c .cause2 .ensures ∙ next _ _ none (few (t .before .before .before)) (next _ _ _ (tiles t) (spared _ (cause 14) none none enough refl))
 
 pub tablet-refusal-spec : {M : Type 1} → statement M
 tablet-refusal-spec =
     tie.close
     (tie.spec
-    small-refusal-requires
-    returns
-    tiling-refusal-requires
-    returns-2
-    board-size-requires
-    mul-if3
-    returns-3
-    returns-4)
+    (λ c κs. tt) returns (λ c κs. tt) returns-2 head-of-requires (λ c κs. tt) mul-if3 (λ c κs. tt) returns-3 (λ c κs. tt) returns-4)

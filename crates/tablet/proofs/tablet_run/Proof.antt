@@ -1,58 +1,68 @@
--- `tablet::tablet_run` meets its contract. Assumes nothing.
+-- `tablet::tablet_run` meets its contract.
 use mathlib.Core.Path.{_≡_, sym, ap, _∙_}
-use mathlib.Core.List.{_++_}
 use Prim.Native.Nat.{_*_, _≤_}
 use native.Mathlib.Omega.{arith}
-use lib.ListN.{length, take, drop}
+use lib.ListN.{length, take}
 use lib.Seq.{length-take-le}
 use borrow.Author.Needs.{needs}
+use Rattle.eikonal.specs.Board.{size}
 use Rattle.scenario.specs.Bytes.{four-bytes, bytes-of}
+use Rattle.scenario.specs.File.{held}
+use Rattle.scenario.proofs.Reading.{cells-read}
 use Rattle.tablet.specs.Tablet.{times-bytes}
-use Rattle.tablet.proofs.Parts.{part-long, part-back, part-fits, part-count}
-use Rattle.tablet.proofs.SmallFiles.{small, cells-few}
+use Rattle.tablet.proofs.Parts.{Back, back}
+use Rattle.tablet.proofs.SmallFiles.{Small, small, cells-few}
 use Rattle.tablet.proofs.Answers.{Taken, taken, says-refused, says-done}
 use Rattle.tablet.proofs.tablet_run.Statement.{statement}
 use Rattle.tablet.proofs.tablet_run.Tie as tie
 
-tablet-refusal-requires : tie.Need-tablet-refusal-requires
-tablet-refusal-requires c κs = search needs
-
-cast-result : tie.Need-cast-result
-cast-result c = search needs
-
 returns : tie.Need-returns
 returns c =
-    let a = c .before .before .before .before .args in
-    let k = c .before .tablet-refusal in
-    says-refused (a .file .now) (a .stride) (a .across) (a .down) (a .out .now) (k .result) (k .ensures) (c .if1 .taken)
+    let k = c .before .before .before .tablet-refusal in
+    let a = c .before .before .before .before .before .before .args in
+    says-refused (a .file .now) (a .stride) (a .across) (a .down) (a .out .now) (k .result) (k .ensures) (c .before .if1 .taken)
 
 -- nothing refuses the call
-good : (c : tie.Else1) → let a = c .before .before .before .before .args in Taken (a .file .now) (a .stride) (a .across) (a .down) (length (a .out .now))
-good c = taken _ _ _ _ _ (sym (c .before .tablet-refusal .ensures) ∙ c .if1 .left)
+good : (c : tie.Else1) → let a = c .before .before .before .before .before .args in
+    Taken (a .file .now) (a .stride) (a .across) (a .down) (length (a .out .now))
+good c = taken _ _ _ _ _ (ap (λ u. u .number) (sym (c .before .before .tablet-refusal .ensures)) ∙ c .if1 .left)
 
-board-size-requires : tie.Need-board-size-requires
-board-size-requires c κs = small _ (good c .accepted) .taken .front .head
+few : (c : tie.Else1) → Small (c .before .before .before .before .before .args .file .now)
+few c = small _ (good c .accepted)
 
-entries-requires : tie.Need-entries-requires
-entries-requires c κs = search needs
+head-of-requires : tie.Need-head-of-requires
+head-of-requires c κs = few c .taken .front .head
 
 -- there is an entry for each cell, and 4 bytes of output
-fits : (c : tie.After-entries) → c .before .board-size .result ≤ length (c .entries .result)
-fits c = omega (arith, cells-few _ (small _ (good (c .before .before) .accepted)), c .before .board-size .ensures, c .entries .ensures)
+cells : (c : tie.After-board-size) → c .board-size .result ≡ size (held (c .before .before .before .before .before .before .before .args .file .now))
+cells c = cells-read _ _ (c .before .head-of .ensures) _ (c .board-size .ensures)
 
-out-fits : (c : tie.After-board-size) → 4 * c .board-size .result ≤ length (c .before .before .before .before .before .args .out .now)
-out-fits c = omega (arith, good (c .before) .room, c .board-size .ensures)
+fits : (c : tie.After-entries) → c .before .board-size .result ≤ length (c .entries .result)
+fits c = omega (arith, cells-few _ (few (c .before .before .before)), cells (c .before), c .entries .ensures)
+
+out-fits : (c : tie.After-board-size) → 4 * c .board-size .result ≤ length (c .before .before .before .before .before .before .before .args .out .now)
+out-fits c = omega (arith, good (c .before .before) .room, cells c)
 
 array-borrow-prefix-times : tie.Need-array-borrow-prefix-times
 array-borrow-prefix-times c = fits c
 
+-- the times that are lent on
+lent : (c : tie.After-entries) → length (take (c .before .board-size .result) (c .entries .result)) ≡ c .before .board-size .result
+lent c = length-take-le _ (c .entries .result) (fits c)
+
 slice-aggregate-run-file : tie.Need-slice-aggregate-run-file
-slice-aggregate-run-file c = sym (length-take-le _ (c .before .entries .result) (fits (c .before)))
+slice-aggregate-run-file c = sym (lent (c .before))
 
 run-file-requires : tie.Need-run-file-requires
 run-file-requires c κs =
-    let g = good (c .before .before .before) in
-    ((g .accepted, length-take-le _ (c .before .entries .result) (fits (c .before)) ∙ c .before .before .board-size .ensures), g .tiles)
+    let n = c .before .before in
+    let g = good (n .before .before) in
+    ((g .accepted, lent (c .before) ∙ cells n), g .tiles)
+
+-- and that came back
+times-back : (c : tie.After-run-file) → let e = c .before .before in
+    Back (e .before .board-size .result) (e .entries .result) (c .run-file .last .1 .1 .1 .1 .0)
+times-back c = back _ _ _ (fits (c .before .before)) (c .run-file .kept .1 .1 .1 .1 .0)
 
 mul-bytes : tie.Need-mul-bytes
 mul-bytes c = omega (arith, out-fits (c .before .before .before .before))
@@ -61,65 +71,40 @@ slice-relend-prefix-put-times : tie.Need-slice-relend-prefix-put-times
 slice-relend-prefix-put-times c = out-fits (c .before .before .before .before)
 
 slice-aggregate-put-times : tie.Need-slice-aggregate-put-times
-slice-aggregate-put-times c = sym (length-take-le _ (c .before .before .before .before .before .before .before .before .before .before .args .out .now) (out-fits (c .before .before .before .before .before)))
+slice-aggregate-put-times c =
+    let n = c .before .before .before .before .before in
+    sym (length-take-le _ (n .before .before .before .before .before .before .before .args .out .now) (out-fits n))
 
 array-share-prefix-times : tie.Need-array-share-prefix-times
-array-share-prefix-times c = let r = c .before .before .run-file in part-fits _ (c .before .before .before .before .entries .result) (r .last .1 .1 .1 .1 .0) (fits (c .before .before .before .before)) (r .kept .1 .1 .1 .1 .0)
+array-share-prefix-times c = times-back (c .before .before) .fits
 
 slice-aggregate-put-times-2 : tie.Need-slice-aggregate-put-times-2
-slice-aggregate-put-times-2 c = let r = c .before .before .before .run-file in part-count _ (c .before .before .before .before .before .entries .result) (r .last .1 .1 .1 .1 .0) (fits (c .before .before .before .before .before)) (r .kept .1 .1 .1 .1 .0)
-
--- the times that were run
-back : (c : tie.After-run-file) → let n = c .before .before .before .board-size .result in let r = c .run-file in
-    take n (r .last .1 .1 .1 .1 .0 ++ drop n (c .before .before .entries .result)) ≡ r .last .1 .1 .1 .1 .0
-back c = let r = c .run-file in part-back _ (c .before .before .entries .result) (r .last .1 .1 .1 .1 .0) (fits (c .before .before)) (r .kept .1 .1 .1 .1 .0)
-
-many : (c : tie.After-run-file) → length (c .run-file .last .1 .1 .1 .1 .0) ≡ c .before .before .before .board-size .result
-many c = let r = c .run-file in part-long _ (c .before .before .entries .result) (r .last .1 .1 .1 .1 .0) (fits (c .before .before)) (r .kept .1 .1 .1 .1 .0)
+slice-aggregate-put-times-2 c = times-back (c .before .before .before) .count
 
 put-times-requires : tie.Need-put-times-requires
 put-times-requires c κs =
-    length-take-le _ (c .before .before .before .before .before .before .before .before .before .before .before .args .out .now) (out-fits (c .before .before .before .before .before .before)) ∙ ap (λ u. 4 * u) (sym (ap length (back (c .before .before .before)) ∙ many (c .before .before .before)))
-
-cast-result-2 : tie.Need-cast-result-2
-cast-result-2 c = search needs
-
-mul-result : tie.Need-mul-result
-mul-result c = search needs
-
-same-length : tie.Need-same-length
-same-length c = search needs
+    let r = c .before .before .before in
+    let n = r .before .before .before in
+    length-take-le _ (n .before .before .before .before .before .before .before .args .out .now) (out-fits n) ∙ ap (λ u. 4 * u) (times-back r .count)
 
 returns-2 : tie.Need-returns-2
 unfolding times-bytes
 returns-2 c =
-    let a = c .before .before .before .before .before .before .before .before .before .before .before .before .before .before .args in
-    let k = c .before .before .before .before .before .before .before .before .before .before .before .tablet-refusal in
-    let p = c .before .before .put-times in
-    let r = c .before .before .before .before .before .before .run-file in
-    let now = p .ensures ∙ ap (bytes-of four-bytes) (back (c .before .before .before .before .before .before) ∙ r .ensures .1) in
-    says-done (a .file .now) (a .stride) (a .across) (a .down) (a .out .now) (k .result) (k .ensures) (r .result) _ (p .last .0) (c .before .before .before .before .before .before .before .before .before .before .if1 .left) (r .ensures .0)
-    now (sym (ap length now) ∙ p .kept .0 ∙ length-take-le _ (a .out .now) (out-fits (c .before .before .before .before .before .before .before .before .before)))
+    let p = c .before .before in
+    let r = p .before .before .before .before in
+    let n = r .before .before .before in
+    let i = n .before .before in
+    let k = i .before .before .tablet-refusal in
+    let a = i .before .before .before .before .before .args in
+    let now = p .put-times .ensures ∙ ap (bytes-of four-bytes) (times-back r .same ∙ r .run-file .ensures .1) in
+    let long = sym (ap length now) ∙ p .put-times .kept .0 ∙ length-take-le _ (a .out .now) (out-fits n) in
+    says-done (a .file .now) (a .stride) (a .across) (a .down) (a .out .now) (k .result) (k .ensures) (r .run-file .result) _ _
+    (i .if1 .left) (r .run-file .ensures .0) now long
 
 pub tablet-run-spec : {M : Type 1} → statement M
 tablet-run-spec =
     tie.close
     (tie.spec
-    tablet-refusal-requires
-    cast-result
-    returns
-    board-size-requires
-    entries-requires
-    array-borrow-prefix-times
-    slice-aggregate-run-file
-    run-file-requires
-    mul-bytes
-    slice-relend-prefix-put-times
-    slice-aggregate-put-times
-    array-share-prefix-times
-    slice-aggregate-put-times-2
-    put-times-requires
-    cast-result-2
-    mul-result
-    same-length
-    returns-2)
+    (λ c κs. tt) (λ c. search needs) returns head-of-requires (λ c κs. tt) (λ c κs. tt) array-borrow-prefix-times slice-aggregate-run-file
+    run-file-requires mul-bytes slice-relend-prefix-put-times slice-aggregate-put-times array-share-prefix-times slice-aggregate-put-times-2
+    put-times-requires (λ c. search needs) (λ c. search needs) (λ c. search needs) returns-2)

@@ -1,4 +1,4 @@
--- `eikonal::arrival::known` meets its contract. Assumes nothing.
+-- `eikonal::arrival::known` meets its contract.
 use native.Mathlib.Omega.{arith}
 use borrow.Author.Tests.{lt-ltb, le-ltb}
 use Rattle.eikonal.specs.Board.{largest}

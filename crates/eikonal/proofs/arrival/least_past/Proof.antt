@@ -1,4 +1,4 @@
--- `eikonal::arrival::least_past` meets its contract. The loop's invariant: the ticks at hand are enough. Assumes nothing.
+-- `eikonal::arrival::least_past` meets its contract. The loop's invariant: the ticks at hand are enough.
 use Prim.Native.Nat.{ℕ, _+_, _*_, _≤_, _<_}
 use native.Mathlib.Omega.{arith}
 use native.Mathlib.Nat.{mul-le-mul}
@@ -17,20 +17,12 @@ abbrev μ-loop : tie.MeasureT-loop
 mul-due : tie.Need-mul-due Inv-loop μ-loop
 mul-due c = omega (arith, mul-le-mul (c .pre .1) (c .pre .1))
 
-enough-requires : tie.Need-enough-requires Inv-loop μ-loop
-enough-requires c κs = search needs
-
-loop-holds : tie.Need-loop-holds Inv-loop μ-loop
-loop-holds c = search needs
-
-add-whole : tie.Need-add-whole Inv-loop μ-loop
-add-whole c = search needs
-
 -- numbers below 8192 have squares that fit
 small : (x : ℕ) → x < 8192 → x * x ≤ 67092481
 small x h = let k : x ≤ 8191 = omega arith in mul-le-mul k k
 
-squares : (c : tie.At-loop Inv-loop μ-loop) → (c .before .before .args .apart + c .loop .past) * (c .before .before .args .apart + c .loop .past) + c .loop .past * c .loop .past ≤ 134184962
+squares : (c : tie.At-loop Inv-loop μ-loop)
+    → (c .before .before .args .apart + c .loop .past) * (c .before .before .args .apart + c .loop .past) + c .loop .past * c .loop .past ≤ 134184962
 squares c = omega (arith, small (c .before .before .args .apart + c .loop .past) (omega arith), small (c .loop .past) (omega arith))
 
 mul-over : tie.Need-mul-over Inv-loop μ-loop
@@ -47,12 +39,6 @@ sub-over c = c .loop .inv .1
 
 add-over-2 : tie.Need-add-over-2 Inv-loop μ-loop
 add-over-2 c = omega (arith, squares c)
-
-add-slope : tie.Need-add-slope Inv-loop μ-loop
-add-slope c = search needs
-
-mul-slope : tie.Need-mul-slope Inv-loop μ-loop
-mul-slope c = search needs
 
 returns : tie.Need-returns Inv-loop μ-loop
 returns c =
@@ -79,21 +65,5 @@ pub least-past-spec : {M : Type 1} → statement M
 least-past-spec =
     tie.close
     (tie.spec
-    Inv-loop
-    μ-loop
-    mul-due
-    enough-requires
-    loop-holds
-    add-whole
-    mul-over
-    mul-over-2
-    add-over
-    sub-over
-    add-over-2
-    add-slope
-    mul-slope
-    returns
-    div-past
-    sub-past
-    loop-less
-    loop-again)
+    Inv-loop μ-loop mul-due (λ c κs. search needs) (λ c. search needs) (λ c. search needs) mul-over mul-over-2 add-over sub-over add-over-2
+    (λ c. search needs) (λ c. search needs) returns div-past sub-past loop-less loop-again)

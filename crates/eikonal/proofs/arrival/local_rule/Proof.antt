@@ -1,4 +1,4 @@
--- `eikonal::arrival::local_rule` meets its contract: of the times that count, none comes near never, so that the cap of `arrival_time` cuts nothing. Assumes nothing.
+-- `eikonal::arrival::local_rule` meets its contract: of the times that count, none comes near never, so that the cap of `arrival_time` cuts nothing.
 use mathlib.Core.Path.{_≡_, refl, ap, _∙_}
 use mathlib.Core.Logic.{inl, inr}
 use mathlib.Core.Bool.{Bool, true, false, cond}
@@ -45,21 +45,6 @@ returns : tie.Need-returns
 unfolding Local-says slowness-refusal answered answer
 returns c = rw (lt-ltb 4095 (c .before .args .slowness) (omega arith))
 
-known-requires : tie.Need-known-requires
-known-requires c κs = tt
-
-known-requires-2 : tie.Need-known-requires-2
-known-requires-2 c κs = tt
-
-known-requires-3 : tie.Need-known-requires-3
-known-requires-3 c κs = tt
-
-known-requires-4 : tie.Need-known-requires-4
-known-requires-4 c κs = tt
-
-arrival-time-requires : tie.Need-arrival-time-requires
-arrival-time-requires c κs = search needs
-
 returns-2 : tie.Need-returns-2
 unfolding answer
 returns-2 c =
@@ -70,13 +55,4 @@ returns-2 c =
     (c .arrival-time .ensures)
 
 pub local-rule-spec : {M : Type 1} → statement M
-local-rule-spec =
-    tie.close
-    (tie.spec
-    returns
-    known-requires
-    known-requires-2
-    known-requires-3
-    known-requires-4
-    arrival-time-requires
-    returns-2)
+local-rule-spec = tie.close (tie.spec returns (λ c κs. tt) (λ c κs. tt) (λ c κs. tt) (λ c κs. tt) (λ c κs. search needs) returns-2)

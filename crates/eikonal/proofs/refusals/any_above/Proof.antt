@@ -1,4 +1,4 @@
--- `eikonal::refusals::any_above` meets its contract: what is found in the entries passed. Assumes nothing.
+-- `eikonal::refusals::any_above` meets its contract: what is found in the entries passed.
 use mathlib.Core.Path.{_≡_, refl, ap, _∙_}
 use Prim.Native.Nat.{_≤_, _-_}
 use native.Mathlib.Numerals.{add-one}
@@ -7,7 +7,7 @@ use borrow.Author.Needs.{needs}
 use lib.ListN.{length, take}
 use lib.Seq.{take-all}
 use Rattle.eikonal.specs.Refusals.{any-above}
-use Rattle.eikonal.proofs.BoardRefusals.{any-above-more}
+use Rattle.eikonal.proofs.Above.{any-above-more}
 use Rattle.eikonal.proofs.refusals.any_above.Statement.{statement}
 use Rattle.eikonal.proofs.refusals.any_above.Tie as tie
 
@@ -20,18 +20,6 @@ abbrev μ-loop : tie.MeasureT-loop
 loop-holds : tie.Need-loop-holds Inv-loop μ-loop
 unfolding any-above
 loop-holds c = (omega arith, refl)
-
-mul-found : tie.Need-mul-found Inv-loop μ-loop
-mul-found c = search needs
-
-shared-slice-read-found : tie.Need-shared-slice-read-found Inv-loop μ-loop
-shared-slice-read-found c = search needs
-
-add-i : tie.Need-add-i Inv-loop μ-loop
-add-i c = omega arith
-
-loop-less : tie.Need-loop-less Inv-loop μ-loop
-loop-less c = omega arith
 
 loop-again : tie.Need-loop-again Inv-loop μ-loop
 loop-again c =
@@ -46,14 +34,4 @@ returns c =
 
 pub any-above-spec : {M : Type 1} → statement M
 any-above-spec =
-    tie.close
-    (tie.spec
-    Inv-loop
-    μ-loop
-    loop-holds
-    mul-found
-    shared-slice-read-found
-    add-i
-    loop-less
-    loop-again
-    returns)
+    tie.close (tie.spec Inv-loop μ-loop loop-holds (λ c. search needs) (λ c. search needs) (λ c. omega arith) (λ c. omega arith) loop-again returns)

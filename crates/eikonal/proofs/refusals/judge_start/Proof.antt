@@ -1,24 +1,24 @@
--- `eikonal::refusals::judge_start` meets its contract. Assumes nothing.
-use mathlib.Core.Path.{ap₂}
+-- `eikonal::refusals::judge_start` meets its contract.
+use mathlib.Core.Path.{_≡_}
+use mathlib.Core.Bool.{Bool}
 use Prim.Native.Nat.{ℕ}
 use native.Mathlib.Omega.{arith}
 use borrow.Author.Needs.{needs}
+use Rattle.eikonal.specs.declared.refusals.Judged.{Judged}
 use Rattle.eikonal.specs.Inner.Judge.{judge-start}
 use Rattle.eikonal.proofs.refusals.judge_start.Statement.{statement}
 use Rattle.eikonal.proofs.refusals.judge_start.Tie as tie
 
-start-refusal-requires : tie.Need-start-refusal-requires
-start-refusal-requires c κs = search needs
+abbrev judged : ℕ → Bool → Bool → Bool → Judged
+judged l o t w = record { least = l; off = o; late = t; walled = w }
 
-add-t8 : tie.Need-add-t8
-add-t8 c = search needs
-
-lower-requires : tie.Need-lower-requires
-lower-requires c κs = search needs
+-- records that differ in the least cell alone
+least-is : (l m : ℕ) (o t w : Bool) → l ≡ m → judged l o t w ≡ judged m o t w
+least-is l m o t w e = rw e
 
 returns : tie.Need-returns
 unfolding judge-start
-returns c = ap₂ (λ (l k : ℕ). record { least = l; number = k }) (omega arith) (rw (c .lower .ensures, c .before .start-refusal .ensures))
+returns c = rw (c .before .before .is-late .ensures, c .before .before .before .before .is-off .ensures) (least-is _ _ _ _ _ (omega arith))
 
 pub judge-start-spec : {M : Type 1} → statement M
-judge-start-spec = tie.close (tie.spec start-refusal-requires add-t8 lower-requires returns)
+judge-start-spec = tie.close (tie.spec (λ c. search needs) (λ c κs. tt) (λ c κs. tt) returns)

@@ -1,4 +1,4 @@
--- `eikonal::refusals::judge_starts` meets its contract: what the starts passed leave. Assumes nothing.
+-- `eikonal::refusals::judge_starts` meets its contract: what the starts passed leave.
 use mathlib.Core.Path.{_≡_, refl, ap, _∙_}
 use Prim.Native.Nat.{_≤_, _-_, min}
 use native.Mathlib.Numerals.{add-one}
@@ -18,36 +18,9 @@ Inv-loop slow cells begins n judged₀ i₀ judged i =
 abbrev μ-loop : tie.MeasureT-loop
 μ-loop slow cells begins n judged₀ i₀ judged i = n - i
 
-shorter-requires : tie.Need-shorter-requires Inv-loop μ-loop
-shorter-requires c κs = search needs
-
 loop-holds : tie.Need-loop-holds Inv-loop μ-loop
 unfolding judge starts-of
 loop-holds c = (omega arith, c .shorter .ensures, refl)
-
-mul-cell : tie.Need-mul-cell Inv-loop μ-loop
-mul-cell c = omega arith
-
-shared-slice-read-cell : tie.Need-shared-slice-read-cell Inv-loop μ-loop
-shared-slice-read-cell c = omega arith
-
-slowness-at-requires : tie.Need-slowness-at-requires Inv-loop μ-loop
-slowness-at-requires c κs = search needs
-
-mul-judge-start : tie.Need-mul-judge-start Inv-loop μ-loop
-mul-judge-start c = omega arith
-
-shared-slice-read-judge-start : tie.Need-shared-slice-read-judge-start Inv-loop μ-loop
-shared-slice-read-judge-start c = omega arith
-
-judge-start-requires : tie.Need-judge-start-requires Inv-loop μ-loop
-judge-start-requires c κs = search needs
-
-add-i : tie.Need-add-i Inv-loop μ-loop
-add-i c = omega arith
-
-loop-less : tie.Need-loop-less Inv-loop μ-loop
-loop-less c = omega arith
 
 loop-again : tie.Need-loop-again Inv-loop μ-loop
 loop-again c =
@@ -62,23 +35,12 @@ loop-again c =
 returns : tie.Need-returns Inv-loop μ-loop
 returns c =
     let a = c .before .before .before .before .before .before .args in
-    c .before .loop .inv .2 ∙ ap (λ xs. judge (a .slow .now) xs (a .so-far)) (starts-of-take (c .before .loop .i) (a .cells .now) (a .begins .now) (omega arith))
+    c .before .loop .inv .2 ∙ ap (λ xs. judge (a .slow .now) xs (a .so-far))
+    (starts-of-take (c .before .loop .i) (a .cells .now) (a .begins .now) (omega arith))
 
 pub judge-starts-spec : {M : Type 1} → statement M
 judge-starts-spec =
     tie.close
     (tie.spec
-    Inv-loop
-    μ-loop
-    shorter-requires
-    loop-holds
-    mul-cell
-    shared-slice-read-cell
-    slowness-at-requires
-    mul-judge-start
-    shared-slice-read-judge-start
-    judge-start-requires
-    add-i
-    loop-less
-    loop-again
-    returns)
+    Inv-loop μ-loop (λ c κs. search needs) loop-holds (λ c. omega arith) (λ c. omega arith) (λ c κs. search needs) (λ c. omega arith)
+    (λ c. omega arith) (λ c κs. search needs) (λ c. omega arith) (λ c. omega arith) loop-again returns)

@@ -1,4 +1,4 @@
--- `eikonal::refusals::side_good` meets its contract. Assumes nothing.
+-- `eikonal::refusals::side_good` meets its contract.
 use borrow.Author.Tests.{lt-leb, le-leb}
 use native.Mathlib.Omega.{arith}
 use Rattle.eikonal.specs.Refusals.{side-good}

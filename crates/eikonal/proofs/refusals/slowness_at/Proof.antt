@@ -1,21 +1,12 @@
--- `eikonal::refusals::slowness_at` meets its contract. Assumes nothing.
+-- `eikonal::refusals::slowness_at` meets its contract.
 use mathlib.Core.Path.{sym}
 use borrow.Author.Needs.{needs}
 use lib.ListN.{List·getD-eq-default}
 use Rattle.eikonal.proofs.refusals.slowness_at.Statement.{statement}
 use Rattle.eikonal.proofs.refusals.slowness_at.Tie as tie
 
-mul-result : tie.Need-mul-result
-mul-result c = search needs
-
-shared-slice-read-result : tie.Need-shared-slice-read-result
-shared-slice-read-result c = search needs
-
-returns : tie.Need-returns
-returns c = search needs
-
 returns-2 : tie.Need-returns-2
 returns-2 c = sym (List·getD-eq-default (c .before .args .slow .now) 0 (c .if1 .left))
 
 pub slowness-at-spec : {M : Type 1} → statement M
-slowness-at-spec = tie.close (tie.spec mul-result shared-slice-read-result returns returns-2)
+slowness-at-spec = tie.close (tie.spec (λ c. search needs) (λ c. search needs) (λ c. search needs) returns-2)

@@ -1,4 +1,4 @@
--- `engine::run::at_horizon` meets its contract. Assumes nothing.
+-- `engine::run::at_horizon` meets its contract.
 use native.Mathlib.Omega.{arith}
 use native.Mathlib.Nat.{mul-le-mul}
 use borrow.Author.Needs.{needs}
@@ -8,8 +8,5 @@ use Rattle.engine.proofs.run.at_horizon.Tie as tie
 mul-reach : tie.Need-mul-reach
 mul-reach c = omega (arith, mul-le-mul (c .pre .0) (c .pre .1))
 
-returns : tie.Need-returns
-returns c = search needs
-
 pub at-horizon-spec : {M : Type 1} → statement M
-at-horizon-spec = tie.close (tie.spec mul-reach returns)
+at-horizon-spec = tie.close (tie.spec mul-reach (λ c. search needs))

@@ -1,4 +1,4 @@
--- `engine::run::round` meets its contract. Assumes nothing.
+-- `engine::run::round` meets its contract.
 use native.Mathlib.Omega.{arith}
 use Rattle.front.proofs.Theory.Reading.{cells-most}
 use Rattle.engine.proofs.Theory.Running.{drained-to, ready, ground-kept, taken-fit, taken-on, one-round}
@@ -6,54 +6,58 @@ use borrow.Author.Needs.{needs}
 use Rattle.engine.proofs.run.round.Statement.{statement}
 use Rattle.engine.proofs.run.round.Tie as tie
 
-bound-after-requires : tie.Need-bound-after-requires
-bound-after-requires c κs = search needs
+-- back from one step to the one before it
+abbrev start : tie.After-bound-after → tie.Start
+start c = c .before .before .before .before
+
+abbrev bounded : tie.After-drain → tie.After-bound-after
+bounded c = c .before .before .before
+
+abbrev drained : tie.After-store → tie.After-drain
+drained c = c .before .before .before .before .before
+
+abbrev stored : tie.After-announce → tie.After-store
+stored c = c .before .before .before .before .before
 
 drain-requires : tie.Need-drain-requires
 drain-requires c κs =
-    let p = c .before .before .before .before .before .before in
-    let a = p .args in
-    let o = p .pre .1 in
-    (p .pre .0, ready (a .shape) (a .slow .now) (o .starts) (p .pre .0) (o .at), omega (arith, c .before .before .bound-after .ensures))
+    let p = start (c .before .before) in
+    (p .pre .0, ready (p .pre .0) (p .pre .1 .at), omega (arith, c .before .before .bound-after .ensures))
 
 store-requires : tie.Need-store-requires
 store-requires c κs =
-    let p = c .before .before .before .before .before .before .before .before .before .before .before in
-    let a = p .args in
+    let d = c .before .before .before .before in
+    let p = start (bounded d) in
     let o = p .pre .1 in
-    let dr = drained-to (c .before .before .before .before .before .before .before .bound-after .ensures) (c .before .before .before .before .drain .ensures) in
-    (taken-fit (a .shape) (a .slow .now) (o .starts) (p .pre .0) (o .good) (p .pre .3) (p .pre .5) (o .at) dr, cells-most (a .shape) (a .slow .now) (a .times .now) (a .cols .now) (a .rows .now) (p .pre .0), p .pre .0 .many, dr .held .room, taken-on (a .shape) (a .slow .now) (o .starts) (p .pre .0) (o .good) (p .pre .3) (p .pre .5) (o .at) dr)
+    let dr = drained-to (bounded d .bound-after .ensures) (d .drain .ensures) in (
+      taken-fit (p .pre .0) (o .at) (o .good) (p .pre .3) (p .pre .5) dr,
+      cells-most (p .pre .0),
+      p .pre .0 .many,
+      dr .held .room,
+      taken-on (p .pre .0) (o .at) (o .good) (p .pre .3) (p .pre .5) dr,
+    )
 
 announce-requires : tie.Need-announce-requires
 announce-requires c κs =
-    let p = c .before .before .before .before .before .before .before .before .before .before .before .before .before .before .before .before in
-    let a = p .args in
+    let s = c .before .before .before .before in
+    let d = drained s in
+    let p = start (bounded d) in
     let o = p .pre .1 in
-    let dr = drained-to (c .before .before .before .before .before .before .before .before .before .before .before .before .bound-after .ensures) (c .before .before .before .before .before .before .before .before .before .drain .ensures) in
-    (ground-kept (a .shape) (a .slow .now) (o .starts) (c .before .before .before .before .store .ensures .0) (p .pre .0), dr .held, taken-fit (a .shape) (a .slow .now) (o .starts) (p .pre .0) (o .good) (p .pre .3) (p .pre .5) (o .at) dr, taken-on (a .shape) (a .slow .now) (o .starts) (p .pre .0) (o .good) (p .pre .3) (p .pre .5) (o .at) dr)
-
-same-length : tie.Need-same-length
-same-length c = search needs
-
-same-length-2 : tie.Need-same-length-2
-same-length-2 c = search needs
+    let dr = drained-to (bounded d .bound-after .ensures) (d .drain .ensures) in (
+      ground-kept (s .store .ensures .0) (p .pre .0),
+      dr .held,
+      taken-fit (p .pre .0) (o .at) (o .good) (p .pre .3) (p .pre .5) dr,
+      taken-on (p .pre .0) (o .at) (o .good) (p .pre .3) (p .pre .5) dr,
+    )
 
 returns : tie.Need-returns
 returns c xs good at =
-    let p = c .before .before .before .before .before .before .before .before .before .before .before .before .before .before .before .before .before .before .before in
-    let a = p .args in
-    let dr = drained-to (c .before .before .before .before .before .before .before .before .before .before .before .before .before .before .before .bound-after .ensures) (c .before .before .before .before .before .before .before .before .before .before .before .before .drain .ensures) in
-    let st = c .before .before .before .before .before .before .before .store .ensures in
-    one-round (a .shape) (a .slow .now) xs (p .pre .0) good (p .pre .3) (p .pre .5) at dr _ (st .0) (st .1) (c .before .before .announce .ensures)
+    let s = stored (c .before .before) in
+    let d = drained s in
+    let p = start (bounded d) in
+    let dr = drained-to (bounded d .bound-after .ensures) (d .drain .ensures) in
+    one-round (p .pre .0) at good (p .pre .3) (p .pre .5) dr _ (s .store .ensures .0) (s .store .ensures .1) (c .before .before .announce .ensures)
 
 pub round-spec : {M : Type 1} → statement M
 round-spec =
-    tie.close
-    (tie.spec
-    bound-after-requires
-    drain-requires
-    store-requires
-    announce-requires
-    same-length
-    same-length-2
-    returns)
+    tie.close (tie.spec (λ c κs. search needs) drain-requires store-requires announce-requires (λ c. search needs) (λ c. search needs) returns)

@@ -1,5 +1,5 @@
 -- `engine::run::run` meets its contract: what holds after some rounds, no more than the limit, is Mid-run, of whatever starts the board
--- began with. Assumes nothing.
+-- began with.
 use Prim.Native.Nat.{_*_, _-_, _≤_}
 use native.Mathlib.Omega.{arith}
 use native.Mathlib.Numerals.{add-one}
@@ -10,7 +10,7 @@ use mathlib.Core.Bool.{true, false}
 use mathlib.Core.List.{List}
 use lib.Dec.{leb}
 use borrow.Author.Needs.{needs}
-use Rattle.eikonal.specs.Board.{Start}
+use Rattle.eikonal.specs.declared.Start.{Start}
 use Rattle.eikonal.specs.Inner.Good.{Good}
 use Rattle.front.proofs.Theory.Reading.{cells-most}
 use Rattle.engine.specs.Run.{whole, At-round, Leapt}
@@ -34,16 +34,13 @@ loop-holds c =
     let a = p .args in
     (omega arith, λ xs good at. run-begins (a .shape) (a .slow .now) xs good (a .stride) (a .horizon) (p .pre .2) (p .pre .3) (p .pre .4) at)
 
-cast-loop : tie.Need-cast-loop Inv-loop μ-loop
-cast-loop c = search needs
-
 round-requires : tie.Need-round-requires Inv-loop μ-loop
 round-requires c κs =
     let p = c .before .before .before .before .before .before .before in
     let a = p .args in
     let o = p .pre .1 in
     let md = c .before .before .before .loop .inv .1 (o .starts) (o .good) (o .at) in (
-      ground-kept (a .shape) (a .slow .now) (o .starts) (md .long) (p .pre .0),
+      ground-kept (md .long) (p .pre .0),
       record { starts = o .starts; good = o .good; at = md .at },
       omega (arith, run-short (a .shape) (a .slow .now) (o .starts) (o .good) (a .stride) (a .horizon) (p .pre .2) (p .pre .3) (p .pre .4) md),
       p .pre .2,
@@ -99,16 +96,13 @@ least-key-requires c κs =
     let md = c .before .before .before .before .before .before .before .before .before .before .loop .inv .1 (o .starts) (o .good) (o .at) in
     let he = c .before .before .before .before .before .before .round .ensures (o .starts) (o .good) (md .at) .next .held in (
       omega (arith, p .pre .0 .cells, mul-le-mul (p .pre .0 .good .wide-low) (p .pre .0 .good .high-low)),
-      cells-most (a .shape) (a .slow .now) (a .times .now) (a .cols .now) (a .rows .now) (p .pre .0),
+      cells-most (p .pre .0),
       omega (arith, he .room),
       he .tree,
     )
 
 leap-requires : tie.Need-leap-requires Inv-loop μ-loop
 leap-requires c κs = c .before .before .before .before .before .before .before .before .before .before .before .before .before .before .before .pre .2
-
-at-most-requires : tie.Need-at-most-requires Inv-loop μ-loop
-at-most-requires c κs = search needs
 
 loop-again : tie.Need-loop-again Inv-loop μ-loop
 loop-again c =
@@ -165,21 +159,5 @@ pub run-spec : {M : Type 1} → statement M
 run-spec =
     tie.close
     (tie.spec
-    Inv-loop
-    μ-loop
-    loop-holds
-    cast-loop
-    round-requires
-    add-done
-    at-horizon-requires
-    same-length
-    same-length-2
-    returns
-    least-key-requires
-    leap-requires
-    at-most-requires
-    loop-less
-    loop-again
-    same-length-3
-    same-length-4
-    returns-2)
+    Inv-loop μ-loop loop-holds (λ c. search needs) round-requires add-done at-horizon-requires same-length same-length-2 returns
+    least-key-requires leap-requires (λ c κs. search needs) loop-less loop-again same-length-3 same-length-4 returns-2)

@@ -1,14 +1,14 @@
--- `front::commit::store` meets its contract. Assumes nothing.
-use Prim.Native.Nat.{ℕ, _-_, _≤_}
+-- `front::commit::store` meets its contract.
+use Prim.Native.Nat.{_-_, _≤_, _<_}
 use native.Mathlib.Omega.{arith}
 use native.Mathlib.Numerals.{add-one}
-use mathlib.Core.Path.{_≡_, subst}
+use mathlib.Core.Path.{_≡_}
 use lib.ListN.{length, length-set}
 use Rattle.eikonal.specs.Board.{time}
 use Rattle.front.specs.Front.{Written}
 use Rattle.front.specs.Board.{tentative, noted}
 use Rattle.front.proofs.Theory.Drift.{unwritten}
-use Rattle.front.proofs.Theory.Announcing.{written-more}
+use Rattle.front.proofs.Theory.Announcing.{one-stored}
 use Rattle.front.proofs.commit.store.Statement.{statement}
 use Rattle.front.proofs.commit.store.Tie as tie
 
@@ -19,95 +19,57 @@ Inv-loop times₀ work n m i₀ times i =
 abbrev μ-loop : tie.MeasureT-loop
 μ-loop times₀ work n m i₀ times i = m - i
 
+abbrev start : tie.In-loop Inv-loop μ-loop → tie.Start Inv-loop μ-loop
+start c = c .before .before .before .before
+
+-- what is read is a cell
+note : (w : tie.After-wide Inv-loop μ-loop) → let o = w .before .before in let a = start o .args in
+    (w .wide .result ≡ noted (a .work .now) (a .n) (o .before .loop .i)) × (noted (a .work .now) (a .n) (o .before .loop .i) < a .n) × (a .n ≤ 65536)
+note w =
+    let o = w .before .before in
+    (w .wide .ensures, start o .pre .4 (o .before .loop .i) (o .loop-test .taken), start o .pre .1)
+
 loop-holds : tie.Need-loop-holds Inv-loop μ-loop
-loop-holds c =
-    let p = c .before .before in
-    let a = p .args in
-    (omega arith, p .pre .2, unwritten (a .n) (time (a .times .now)) (λ e. tentative (a .work .now) (a .n) e) (λ j. noted (a .work .now) (a .n) j))
+loop-holds c = let p = c .before .before in (omega arith, p .pre .2, unwritten (p .args .n) (time (p .args .times .now)) _ _)
 
 mul-wide : tie.Need-mul-wide Inv-loop μ-loop
-mul-wide c =
-    let p = c .before .before .before .before in
-    let a = p .args in
-    omega (arith, p .pre .1)
+mul-wide c = omega (arith, start c .pre .1)
 
 add-wide : tie.Need-add-wide Inv-loop μ-loop
-add-wide c =
-    let p = c .before .before .before .before in
-    let a = p .args in
-    omega (arith, p .pre .1)
+add-wide c = omega (arith, start c .pre .1)
 
 mul-wide-2 : tie.Need-mul-wide-2 Inv-loop μ-loop
-mul-wide-2 c =
-    let p = c .before .before .before .before in
-    let a = p .args in
-    omega (arith, p .pre .1)
+mul-wide-2 c = omega (arith, start c .pre .1)
 
 shared-slice-read-wide : tie.Need-shared-slice-read-wide Inv-loop μ-loop
-shared-slice-read-wide c =
-    let p = c .before .before .before .before .before in
-    let a = p .args in
-    omega (arith, p .pre .3)
-
-wide-requires : tie.Need-wide-requires Inv-loop μ-loop
-wide-requires c κs = tt
+shared-slice-read-wide c = omega (arith, start (c .before) .pre .3)
 
 mul-times : tie.Need-mul-times Inv-loop μ-loop
-mul-times c =
-    let p = c .before .before .before .before .before .before in
-    let a = p .args in
-    omega (arith, p .pre .1)
+mul-times c = omega (arith, note c)
 
 add-times : tie.Need-add-times Inv-loop μ-loop
-add-times c =
-    let p = c .before .before .before .before .before .before in
-    let a = p .args in
-    omega (arith, p .pre .1, c .wide .ensures, c .before .before .before .before .before .before .pre .4 (c .before .before .before .loop .i) (c .before .before .loop-test .taken))
+add-times c = omega (arith, note c)
 
 mul-times-2 : tie.Need-mul-times-2 Inv-loop μ-loop
-mul-times-2 c =
-    let p = c .before .before .before .before .before .before in
-    let a = p .args in
-    omega (arith, p .pre .1, c .wide .ensures, c .before .before .before .before .before .before .pre .4 (c .before .before .before .loop .i) (c .before .before .loop-test .taken))
+mul-times-2 c = omega (arith, note c)
 
 shared-slice-read-times : tie.Need-shared-slice-read-times Inv-loop μ-loop
-shared-slice-read-times c =
-    let p = c .before .before .before .before .before .before .before in
-    let a = p .args in
-    omega (arith, p .pre .3, c .before .wide .ensures, c .before .before .before .before .before .before .before .pre .4 (c .before .before .before .before .loop .i) (c .before .before .before .loop-test .taken))
+shared-slice-read-times c = omega (arith, note (c .before), start (c .before .before .before) .pre .3)
 
 mul-times-3 : tie.Need-mul-times-3 Inv-loop μ-loop
-mul-times-3 c =
-    let p = c .before .before .before .before .before .before .before in
-    let a = p .args in
-    omega (arith, p .pre .1, c .before .wide .ensures, c .before .before .before .before .before .before .before .pre .4 (c .before .before .before .before .loop .i) (c .before .before .before .loop-test .taken))
+mul-times-3 c = omega (arith, note (c .before))
 
 slice-write-times : tie.Need-slice-write-times Inv-loop μ-loop
-slice-write-times c =
-    let p = c .before .before .before .before .before .before .before in
-    let a = p .args in
-    omega (arith, c .before .before .before .before .loop .inv .1, c .before .wide .ensures, c .before .before .before .before .before .before .before .pre .4 (c .before .before .before .before .loop .i) (c .before .before .before .loop-test .taken))
+slice-write-times c = omega (arith, note (c .before), c .before .before .before .before .loop .inv .1)
 
 add-i : tie.Need-add-i Inv-loop μ-loop
-add-i c =
-    let p = c .before .before .before .before .before .before .before in
-    let a = p .args in
-    omega (arith, p .pre .1)
-
-loop-less : tie.Need-loop-less Inv-loop μ-loop
-loop-less c = omega arith
+add-i c = omega (arith, note (c .before), start (c .before .before .before) .pre .0)
 
 loop-again : tie.Need-loop-again Inv-loop μ-loop
 loop-again c =
-    let p = c .before .before .before .before .before .before .before in
-    let a = p .args in
-    let l = c .before .before .before .before .loop in
-    let at : c .before .wide .result ≡ noted (a .work .now) (a .n) (l .i) = c .before .wide .ensures in
-    let y : ℕ → ℕ = λ e. tentative (a .work .now) (a .n) e in (
-      omega arith,
-      rw length-set (l .inv .1),
-      rw (add-one (l .i), at) (written-more (a .n) (a .times .now) (l .times) y (λ j. noted (a .work .now) (a .n) j) (l .i) (l .inv .1) (c .before .before .before .before .before .before .before .pre .4 (c .before .before .before .before .loop .i) (c .before .before .before .loop-test .taken)) (l .inv .2)),
-    )
+    let w = c .before in
+    let l = w .before .before .before .loop in
+    (omega arith, rw length-set (l .inv .1), rw (add-one (l .i), note w .0) (one-stored (l .times) (l .inv .1) (note w .1) (l .inv .2)))
 
 same-length : tie.Need-same-length Inv-loop μ-loop
 same-length c = omega (arith, c .before .loop .inv .1, c .before .before .before .before .pre .2)
@@ -115,31 +77,13 @@ same-length c = omega (arith, c .before .loop .inv .1, c .before .before .before
 returns : tie.Need-returns Inv-loop μ-loop
 returns c =
     let p = c .before .before .before .before in
-    let a = p .args in
     let l = c .before .loop in
-    let all : l .i ≡ a .m = omega (arith, c .loop-test .left, l .inv .0) in
-    (omega (arith, l .inv .1, p .pre .2), subst (λ u. Written (a .n) (time (a .times .now)) (tentative (a .work .now) (a .n)) (time (l .times)) u (noted (a .work .now) (a .n))) all (l .inv .2))
+    let all : l .i ≡ p .args .m = omega (arith, c .loop-test .left, l .inv .0) in
+    (omega (arith, l .inv .1, p .pre .2), rw (← all) (l .inv .2))
 
 pub store-spec : {M : Type 1} → statement M
 store-spec =
     tie.close
     (tie.spec
-    Inv-loop
-    μ-loop
-    loop-holds
-    mul-wide
-    add-wide
-    mul-wide-2
-    shared-slice-read-wide
-    wide-requires
-    mul-times
-    add-times
-    mul-times-2
-    shared-slice-read-times
-    mul-times-3
-    slice-write-times
-    add-i
-    loop-less
-    loop-again
-    same-length
-    returns)
+    Inv-loop μ-loop loop-holds mul-wide add-wide mul-wide-2 shared-slice-read-wide (λ c κs. tt) mul-times add-times mul-times-2
+    shared-slice-read-times mul-times-3 slice-write-times add-i (λ c. omega arith) loop-again same-length returns)

@@ -1,4 +1,4 @@
--- `front::seams::lay` meets its contract: the seams before i are laid. Assumes nothing.
+-- `front::seams::lay` meets its contract: the seams before i are laid.
 use mathlib.Core.Path.{_≡_, refl, sym, subst, _∙_}
 use Prim.Native.Nat.{ℕ, _+_, _-_, _≤_, _<_}
 use native.Mathlib.Omega.{arith}
@@ -19,18 +19,6 @@ abbrev μ-loop : tie.MeasureT-loop
 loop-holds : tie.Need-loop-holds Inv-loop μ-loop
 loop-holds c = (omega arith, refl, λ j l. absurd (omega arith))
 
-seam-requires : tie.Need-seam-requires Inv-loop μ-loop
-seam-requires c κs = omega arith
-
-array-write-laid : tie.Need-array-write-laid Inv-loop μ-loop
-array-write-laid c = omega arith
-
-add-i : tie.Need-add-i Inv-loop μ-loop
-add-i c = omega arith
-
-loop-less : tie.Need-loop-less Inv-loop μ-loop
-loop-less c = omega arith
-
 loop-again : tie.Need-loop-again Inv-loop μ-loop
 loop-again c =
     let l = c .before .before .loop in
@@ -38,13 +26,15 @@ loop-again c =
       omega arith,
       rw length-set (l .inv .1),
       λ j h. elim (ℕ-discrete j (l .i)) [
-        | yes q ↦ subst (λ u. getD (set (l .laid) (l .i) (c .seam .result)) u 0 ≡ seam (a .count) (a .side) u) (sym q) (getD-set-same (l .laid) (l .i) (c .seam .result) 0 (omega arith) ∙ c .seam .ensures)
+        | yes q ↦ subst (λ u. getD (set (l .laid) (l .i) (c .seam .result)) u 0 ≡ seam (a .count) (a .side) u) (sym q)
+            (getD-set-same (l .laid) (l .i) (c .seam .result) 0 (omega arith) ∙ c .seam .ensures)
         | no q ↦ getD-set-other (l .laid) (l .i) j (c .seam .result) 0 q ∙ l .inv .2 j (omega arith)
       ],
     )
 
 returns : tie.Need-returns Inv-loop μ-loop
-returns c = λ j h. c .before .loop .inv .2 j (omega (arith, c .loop-test .left))
+returns c = record { at = λ j h. c .before .loop .inv .2 j (omega (arith, c .loop-test .left)) }
 
 pub lay-spec : {M : Type 1} → statement M
-lay-spec = tie.close (tie.spec Inv-loop μ-loop loop-holds seam-requires array-write-laid add-i loop-less loop-again returns)
+lay-spec =
+    tie.close (tie.spec Inv-loop μ-loop loop-holds (λ c κs. omega arith) (λ c. omega arith) (λ c. omega arith) (λ c. omega arith) loop-again returns)

@@ -1,4 +1,4 @@
--- `front::seams::seam` meets its contract. Assumes nothing.
+-- `front::seams::seam` meets its contract.
 use mathlib.Core.Path.{sym}
 use mathlib.Core.Logic.{inl, inr}
 use borrow.Author.Needs.{needs}
@@ -12,9 +12,6 @@ returns c = sym (seam-edge _ _ _ (inl (c .if1 .taken)))
 returns-2 : tie.Need-returns-2
 returns-2 c = sym (seam-edge _ _ _ (inr (c .if2 .taken)))
 
-rem-if3 : tie.Need-rem-if3
-rem-if3 c = search needs
-
 returns-3 : tie.Need-returns-3
 returns-3 c = sym (seam-border _ _ _ (c .before .before .if1 .left) (c .before .if2 .left) (c .if3 .taken))
 
@@ -22,4 +19,4 @@ returns-4 : tie.Need-returns-4
 returns-4 c = sym (seam-inside _ _ _ (c .before .before .if1 .left) (c .before .if2 .left) (c .if3 .left))
 
 pub seam-spec : {M : Type 1} → statement M
-seam-spec = tie.close (tie.spec returns returns-2 rem-if3 returns-3 returns-4)
+seam-spec = tie.close (tie.spec returns returns-2 (λ c. search needs) returns-3 returns-4)

@@ -1,4 +1,4 @@
--- `front::sight::ghost_time` meets its contract. Assumes nothing.
+-- `front::sight::ghost_time` meets its contract.
 use mathlib.Core.Path.{sym, _∙_}
 use native.Mathlib.Omega.{arith}
 use borrow.Author.Needs.{needs}
@@ -7,18 +7,6 @@ use Rattle.front.specs.Board.{land}
 use Rattle.front.proofs.Theory.Reading.{time-at, ghost-wall, ghost-late, ghost-kept}
 use Rattle.front.proofs.sight.ghost_time.Statement.{statement}
 use Rattle.front.proofs.sight.ghost_time.Tie as tie
-
-mul-t : tie.Need-mul-t
-mul-t c = search needs
-
-shared-slice-read-t : tie.Need-shared-slice-read-t
-shared-slice-read-t c = search needs
-
-mul-if1 : tie.Need-mul-if1
-mul-if1 c = search needs
-
-shared-slice-read-if1 : tie.Need-shared-slice-read-if1
-shared-slice-read-if1 c = search needs
 
 returns : tie.Need-returns
 unfolding slowness
@@ -31,7 +19,8 @@ unfolding slowness
 returns-2 c =
     let s = c .before .before .before .before in
     let a = s .args in
-    sym (ghost-late (land (a .shape) (a .slow .now)) (a .times .now) (a .e) (c .before .if1 .left) (omega (arith, c .if2 .taken, time-at (a .times .now) (a .e) (s .pre .1))))
+    let same = time-at (a .times .now) (a .e) (s .pre .1) in
+    sym (ghost-late (land (a .shape) (a .slow .now)) (a .times .now) (a .e) (c .before .if1 .left) (omega (arith, c .if2 .taken)))
 
 returns-3 : tie.Need-returns-3
 unfolding slowness
@@ -43,4 +32,4 @@ returns-3 c =
 
 pub ghost-time-spec : {M : Type 1} → statement M
 ghost-time-spec =
-    tie.close (tie.spec mul-t shared-slice-read-t mul-if1 shared-slice-read-if1 returns returns-2 returns-3)
+    tie.close (tie.spec (λ c. search needs) (λ c. search needs) (λ c. search needs) (λ c. search needs) returns returns-2 returns-3)

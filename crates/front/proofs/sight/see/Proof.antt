@@ -1,4 +1,4 @@
--- `front::sight::see` meets its contract. Assumes nothing.
+-- `front::sight::see` meets its contract.
 use mathlib.Core.Path.{sym, _∙_}
 use native.Mathlib.Omega.{arith}
 use borrow.Author.Needs.{needs}
@@ -10,13 +10,10 @@ returns : tie.Need-returns
 returns c = sym (across-edge _ _ _ (c .if1 .taken))
 
 add-e : tie.Need-add-e
-add-e c = search needs
+add-e c = omega (arith, c .before .before .before .before .pre .far (c .if1 .left))
 
 sub-e : tie.Need-sub-e
 sub-e c = c .before .before .before .before .pre .low (c .if1 .left)
-
-mul-at : tie.Need-mul-at
-mul-at c = search needs
 
 add-at : tie.Need-add-at
 add-at c = omega (arith, c .before .before .before .before .before .pre .high (c .before .if1 .left))
@@ -28,7 +25,7 @@ shared-slice-read-result : tie.Need-shared-slice-read-result
 shared-slice-read-result c = omega (arith, c .before .before .before .before .before .before .pre .high (c .before .before .if1 .left))
 
 returns-2 : tie.Need-returns-2
-returns-2 c = sym (across-inside _ _ _ (c .before .if2 .taken))
+returns-2 c = sym (across-inside _ _ _ (omega (arith, c .before .if2 .taken)))
 
 ghost-time-requires : tie.Need-ghost-time-requires
 ghost-time-requires c κs =
@@ -41,15 +38,4 @@ returns-3 c = c .ghost-time .ensures ∙ sym (across-border _ _ _ (c .before .be
 
 pub see-spec : {M : Type 1} → statement M
 see-spec =
-    tie.close
-    (tie.spec
-    returns
-    add-e
-    sub-e
-    mul-at
-    add-at
-    mul-result
-    shared-slice-read-result
-    returns-2
-    ghost-time-requires
-    returns-3)
+    tie.close (tie.spec returns add-e sub-e (λ c. search needs) add-at mul-result shared-slice-read-result returns-2 ghost-time-requires returns-3)

@@ -1,4 +1,4 @@
--- `front::wake::wake` meets its contract: the rows before `row` have heard. Assumes nothing.
+-- `front::wake::wake` meets its contract: the rows before `row` have heard.
 use mathlib.Core.Path.{_≡_}
 use Prim.Native.Nat.{_-_, _*_, _≤_}
 use native.Mathlib.Omega.{arith}
@@ -17,6 +17,9 @@ Inv-loop slow times work₀ cols rows shape h row₀ work row =
 abbrev μ-loop : tie.MeasureT-loop
 μ-loop slow times work₀ cols rows shape h row₀ work row = h - row
 
+abbrev start : tie.In-loop Inv-loop μ-loop → tie.Start Inv-loop μ-loop
+start c = c .before .before .before .before .before
+
 loop-holds : tie.Need-loop-holds Inv-loop μ-loop
 loop-holds c =
     let a = c .before .before .before .args in
@@ -25,28 +28,23 @@ loop-holds c =
 
 wake-row-requires : tie.Need-wake-row-requires Inv-loop μ-loop
 wake-row-requires c κs =
-    let p = c .before .before .before .before .before .before in
-    let a = p .args in
-    (p .pre .0, told-held (a .shape .cells) (rule-at (a .shape) (a .slow .now) (a .times .now)) 0 (p .pre .1) (c .before .before .loop .inv .1), c .before .loop-test .taken)
+    let o = c .before in
+    (start o .pre .0, told-held (start o .pre .1) (o .before .loop .inv .1), o .loop-test .taken)
 
 add-row : tie.Need-add-row Inv-loop μ-loop
-add-row c =
-    let p = c .before .before .before .before .before .before .before .before .before in
-    omega (arith, p .pre .0 .good .high-high, c .before .before .before .before .loop-test .taken)
+add-row c = let o = c .before .before .before .before in omega (arith, start o .pre .0 .good .high-high, o .loop-test .taken)
 
 loop-less : tie.Need-loop-less Inv-loop μ-loop
 loop-less c = omega (arith, c .before .before .before .before .loop-test .taken)
 
 loop-again : tie.Need-loop-again Inv-loop μ-loop
 loop-again c =
-    let a = c .before .before .before .before .before .before .before .before .before .args in
-    let l = c .before .before .before .before .before .loop in
-    (omega (arith, c .before .before .before .before .loop-test .taken), rw (add-one (l .row)) (c .before .before .wake-row .ensures (a .work .now) (l .inv .1)))
+    let o = c .before .before .before .before in
+    let l = o .before .loop in
+    (omega (arith, o .loop-test .taken), rw (add-one (l .row)) (c .before .before .wake-row .ensures (start o .args .work .now) (l .inv .1)))
 
 same-length : tie.Need-same-length Inv-loop μ-loop
-same-length c =
-    let a = c .before .before .before .before .before .args in
-    told-long (a .shape .cells) (rule-at (a .shape) (a .slow .now) (a .times .now)) 0 (c .before .loop .inv .1)
+same-length c = told-long (c .before .loop .inv .1)
 
 returns : tie.Need-returns Inv-loop μ-loop
 returns c =
@@ -54,15 +52,4 @@ returns c =
     told-all (p .pre .0) (omega (arith, c .loop-test .left, c .before .loop .inv .0)) (c .before .loop .inv .1)
 
 pub wake-spec : {M : Type 1} → statement M
-wake-spec =
-    tie.close
-    (tie.spec
-    Inv-loop
-    μ-loop
-    loop-holds
-    wake-row-requires
-    add-row
-    loop-less
-    loop-again
-    same-length
-    returns)
+wake-spec = tie.close (tie.spec Inv-loop μ-loop loop-holds wake-row-requires add-row loop-less loop-again same-length returns)

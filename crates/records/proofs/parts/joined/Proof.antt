@@ -1,10 +1,7 @@
--- `records::parts::joined` meets its contract. Assumes nothing.
+-- `records::parts::joined` meets its contract.
 use borrow.Author.Needs.{needs}
 use Rattle.records.proofs.parts.joined.Statement.{statement}
 use Rattle.records.proofs.parts.joined.Tie as tie
 
-returns : tie.Need-returns
-returns c = search needs
-
 pub joined-spec : {M : Type 1} → statement M
-joined-spec = tie.close (tie.spec returns)
+joined-spec = tie.close (tie.spec (λ c. search needs))

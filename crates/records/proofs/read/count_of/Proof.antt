@@ -1,13 +1,11 @@
--- `records::read::count_of` meets its contract. Assumes nothing.
+-- `records::read::count_of` meets its contract.
+use native.Mathlib.Omega.{arith}
 use borrow.Author.Needs.{needs}
 use Rattle.records.proofs.read.count_of.Statement.{statement}
 use Rattle.records.proofs.read.count_of.Tie as tie
 
-cast-result : tie.Need-cast-result
-cast-result c = search needs
-
 returns : tie.Need-returns
-returns c = search needs
+returns c = omega arith
 
 pub count-of-spec : {M : Type 1} → statement M
-count-of-spec = tie.close (tie.spec cast-result returns)
+count-of-spec = tie.close (tie.spec (λ c. search needs) returns)

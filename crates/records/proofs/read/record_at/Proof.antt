@@ -1,51 +1,43 @@
--- `records::read::record_at` meets its contract. Assumes nothing.
+-- `records::read::record_at` meets its contract.
+use mathlib.Core.Path.{_≡_, ap, _∙_}
 use Prim.Native.Nat.{_+_, _*_, _≤_}
 use native.Mathlib.Omega.{arith}
 use lib.ListN.{length}
+use borrow.Author.Needs.{needs}
+use Rattle.scenario.specs.File.{start-size, runs-end, head-in}
 use Rattle.scenario.proofs.Causes.{accepted}
 use Rattle.records.proofs.Reading.{record-is}
 use Rattle.records.proofs.read.record_at.Statement.{statement}
 use Rattle.records.proofs.read.record_at.Tie as tie
 
-starts-base-requires : tie.Need-starts-base-requires
-starts-base-requires c κs = accepted (c .before .args .file .now) (c .before .pre .0) .front .head
+head-of-requires : tie.Need-head-of-requires
+head-of-requires c κs = accepted (c .before .args .file .now) (c .before .pre .0) .front .head
+
+-- where the starts begin
+base : (c : tie.After-starts-base) → c .starts-base .result ≡ runs-end (head-in (c .before .before .before .args .file .now) .runs)
+base c = c .starts-base .ensures ∙ ap (λ u. runs-end (u .runs)) (c .before .head-of .ensures)
 
 -- the start lies within the file
-within : (c : tie.After-starts-base) → c .starts-base .result + 8 * c .before .before .args .i + 8 ≤ length (c .before .before .args .file .now)
+within : (c : tie.After-starts-base) → c .starts-base .result + start-size * c .before .before .before .args .i + start-size ≤ length
+    (c .before .before .before .args .file .now)
 within c =
-    let a = c .before .before in
-    omega (arith, accepted (a .args .file .now) (a .pre .0) .front .long, c .starts-base .ensures, a .pre .1)
+    let a = c .before .before .before in
+    omega (arith, accepted (a .args .file .now) (a .pre .0) .front .long, base c, a .pre .1)
 
-mul-at : tie.Need-mul-at
-mul-at c = omega (arith, within c)
+mul-start-at : tie.Need-mul-start-at
+mul-start-at c = omega (arith, within c)
 
-add-at : tie.Need-add-at
-add-at c = omega (arith, within c)
+add-start-at : tie.Need-add-start-at
+add-start-at c = omega (arith, within c)
 
-four-at-requires : tie.Need-four-at-requires
-four-at-requires c κs = omega (arith, within c)
-
-add-four-at : tie.Need-add-four-at
-add-four-at c = omega (arith, within (c .before))
-
-four-at-requires-2 : tie.Need-four-at-requires-2
-four-at-requires-2 c κs = omega (arith, within (c .before))
+start-at-requires : tie.Need-start-at-requires
+start-at-requires c κs = omega (arith, within c)
 
 returns : tie.Need-returns
 returns c =
-    let b = c .before .before in
-    let a = b .before .before in
-    record-is (a .args .file .now) (a .args .i) (b .starts-base .result) (c .before .four-at .result) (c .four-at2 .result) (a .pre .1)
-    (b .starts-base .ensures) (c .before .four-at .ensures) (c .four-at2 .ensures)
+    let b = c .before in
+    let a = b .before .before .before in
+    record-is (a .args .file .now) (a .args .i) (b .starts-base .result) (c .start-at .result) (a .pre .1) (base b) (c .start-at .ensures)
 
 pub record-at-spec : {M : Type 1} → statement M
-record-at-spec =
-    tie.close
-    (tie.spec
-    starts-base-requires
-    mul-at
-    add-at
-    four-at-requires
-    add-four-at
-    four-at-requires-2
-    returns)
+record-at-spec = tie.close (tie.spec head-of-requires (λ c κs. search needs) mul-start-at add-start-at start-at-requires returns)

@@ -1,4 +1,4 @@
--- `records::write::place_of` meets its contract. Assumes nothing.
+-- `records::write::place_of` meets its contract.
 use native.Mathlib.Omega.{arith}
 use borrow.Author.Needs.{needs}
 use borrow.Author.Tests.{eq-eqb, ne-eqb}
@@ -7,9 +7,6 @@ use Rattle.records.proofs.write.place_of.Tie as tie
 
 returns : tie.Need-returns
 returns c = rw (ne-eqb (c .before .before .args .reply .number) 0 (c .if1 .taken))
-
-cast-result : tie.Need-cast-result
-cast-result c = search needs
 
 mul-result : tie.Need-mul-result
 mul-result c =
@@ -23,4 +20,4 @@ returns-2 : tie.Need-returns-2
 returns-2 c = rw (eq-eqb (c .before .before .before .args .reply .number) 0 (c .before .if1 .left))
 
 pub place-of-spec : {M : Type 1} → statement M
-place-of-spec = tie.close (tie.spec returns cast-result mul-result sub-result returns-2)
+place-of-spec = tie.close (tie.spec returns (λ c. search needs) mul-result sub-result returns-2)

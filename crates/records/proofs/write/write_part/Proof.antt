@@ -1,4 +1,4 @@
--- `records::write::write_part` meets its contract. Assumes nothing.
+-- `records::write::write_part` meets its contract.
 use mathlib.Core.Path.{sym, ap, _∙_}
 use mathlib.Core.List.{_++_}
 use Prim.Native.Nat.{_+_, _*_}
@@ -12,14 +12,8 @@ use Rattle.scenario.specs.File.{start-bytes}
 use Rattle.records.proofs.write.write_part.Statement.{statement}
 use Rattle.records.proofs.write.write_part.Tie as tie
 
-array-share-prefix-cells : tie.Need-array-share-prefix-cells
-array-share-prefix-cells c = search needs
-
 slice-aggregate-put-starts : tie.Need-slice-aggregate-put-starts
 slice-aggregate-put-starts c = sym (length-take-le _ _ (search needs))
-
-array-share-prefix-begins : tie.Need-array-share-prefix-begins
-array-share-prefix-begins c = search needs
 
 slice-aggregate-put-starts-2 : tie.Need-slice-aggregate-put-starts-2
 slice-aggregate-put-starts-2 c = sym (length-take-le _ _ (search needs))
@@ -31,9 +25,6 @@ put-starts-requires c κs =
     let f = length-take-le (a .args .part .count) (a .args .part .begins) (a .pre .1) in
     (omega (arith, a .pre .2, e), e ∙ sym f)
 
-same-length : tie.Need-same-length
-same-length c = search needs
-
 returns : tie.Need-returns
 returns c =
     let p = c .before .before in
@@ -41,16 +32,13 @@ returns c =
     let out = a .args .out .now in
     let k = a .args .part .count in
     p .put-starts .ensures
-    ∙ ap (λ u. take (a .args .at) out ++ (bytes-of start-bytes (starts-of (take k (a .args .part .cells)) (take k (a .args .part .begins))) ++ drop (a .args .at + 8 * u) out)) (length-take-le k (a .args .part .cells) (a .pre .0))
+    ∙ ap (λ u. take (a .args .at) out ++ (bytes-of start-bytes (starts-of (take k (a .args .part .cells)) (take k (a .args .part .begins)))
+    ++ drop (a .args .at + 8 * u) out))
+    (length-take-le k (a .args .part .cells) (a .pre .0))
 
 pub write-part-spec : {M : Type 1} → statement M
 write-part-spec =
     tie.close
     (tie.spec
-    array-share-prefix-cells
-    slice-aggregate-put-starts
-    array-share-prefix-begins
-    slice-aggregate-put-starts-2
-    put-starts-requires
-    same-length
+    (λ c. search needs) slice-aggregate-put-starts (λ c. search needs) slice-aggregate-put-starts-2 put-starts-requires (λ c. search needs)
     returns)

@@ -1,4 +1,4 @@
--- `rows::tiles::differs` meets its contract. Assumes nothing.
+-- `rows::tiles::differs` meets its contract.
 use borrow.Author.Tests.{eq-eqb, ne-eqb}
 use Rattle.rows.proofs.tiles.differs.Statement.{statement}
 use Rattle.rows.proofs.tiles.differs.Tie as tie

@@ -1,11 +1,11 @@
--- `rows::tiles::fill_row` meets its contract: the entries before `column` are final. Assumes nothing.
+-- `rows::tiles::fill_row` meets its contract: the entries before `column` are final.
 use Prim.Native.Nat.{_-_, _≤_, _<_}
 use native.Mathlib.Omega.{arith}
 use lib.ListN.{length, getD}
 use borrow.Author.Needs.{needs}
 use Rattle.eikonal.specs.Inner.Clip.{clip}
-use Rattle.rows.specs.Rows.{Entered, All}
-use Rattle.rows.proofs.Theory.Entered.{differ-most, count-most, entered-none, entered-next, entered-of}
+use Rattle.rows.specs.Rows.{Entered, Everywhere}
+use Rattle.rows.proofs.Theory.Entered.{differ-most, entered-most, entered-none, entered-next, entered-of}
 use Rattle.rows.proofs.tiles.fill_row.Statement.{statement}
 use Rattle.rows.proofs.tiles.fill_row.Tie as tie
 
@@ -31,22 +31,16 @@ mul-clip c = omega (arith, c .before .before .loop .inv .1 .long)
 shared-slice-read-clip : tie.Need-shared-slice-read-clip Inv-loop μ-loop
 shared-slice-read-clip c = omega (arith, c .before .before .before .loop .inv .1 .long)
 
-clip-requires : tie.Need-clip-requires Inv-loop μ-loop
-clip-requires c κs = search needs
-
 mul-row : tie.Need-mul-row Inv-loop μ-loop
 mul-row c = omega (arith, c .before .before .before .before .loop .inv .1 .long)
 
 slice-write-row : tie.Need-slice-write-row Inv-loop μ-loop
 slice-write-row c = c .before .before .before .loop-test .taken
 
-differs-requires : tie.Need-differs-requires Inv-loop μ-loop
-differs-requires c κs = search needs
-
 add-count : tie.Need-add-count Inv-loop μ-loop
 add-count c =
     let l = c .before .before .before .before .before .loop in
-    omega (arith, count-most (l .inv .1), c .differs .ensures, differ-most (getD (l .row) (l .column) 0) (c .before .clip .result))
+    omega (arith, entered-most (l .inv .1), c .differs .ensures, differ-most (getD (l .row) (l .column) 0) (c .before .clip .result))
 
 add-column : tie.Need-add-column Inv-loop μ-loop
 add-column c = omega (arith, c .before .before .before .before .before .loop .inv .1 .long)
@@ -66,26 +60,11 @@ same-length c = c .before .loop .inv .1 .long
 returns : tie.Need-returns Inv-loop μ-loop
 returns c =
     let l = c .before .loop in
-    entered-of All (λ d h s. omega (arith, l .inv .1 .long)) (l .inv .1)
+    entered-of Everywhere (λ d h s. omega (arith, l .inv .1 .long)) (l .inv .1)
 
 pub fill-row-spec : {M : Type 1} → statement M
 fill-row-spec =
     tie.close
     (tie.spec
-    Inv-loop
-    μ-loop
-    loop-holds
-    mul-before
-    slice-read-before
-    mul-clip
-    shared-slice-read-clip
-    clip-requires
-    mul-row
-    slice-write-row
-    differs-requires
-    add-count
-    add-column
-    loop-less
-    loop-again
-    same-length
-    returns)
+    Inv-loop μ-loop loop-holds mul-before slice-read-before mul-clip shared-slice-read-clip (λ c κs. search needs) mul-row slice-write-row
+    (λ c κs. search needs) add-count add-column loop-less loop-again same-length returns)

@@ -1,10 +1,10 @@
--- `rows::tiles::write_rows` meets its contract: the rows before `row` are final. Assumes nothing.
+-- `rows::tiles::write_rows` meets its contract: the rows before `row` are final.
 use Prim.Native.Nat.{_-_}
 use native.Mathlib.Omega.{arith}
 use Rattle.rows.specs.Lists.{due}
 use Rattle.rows.specs.Rows.{Entered, Block}
-use Rattle.rows.proofs.Theory.Entered.{altered-most, count-most, entered-none, entered-then, entered-of}
-use Rattle.rows.proofs.Theory.TileRows.{cells-most, room-kept, no-rows, one-row-more, fewer-rows}
+use Rattle.rows.proofs.Theory.Entered.{altered-most, entered-most, entered-none, entered-then, entered-of}
+use Rattle.rows.proofs.Theory.TileRows.{fitting-most, room-kept, no-rows, one-row-more, fewer-rows}
 use Rattle.rows.proofs.tiles.write_rows.Statement.{statement}
 use Rattle.rows.proofs.tiles.write_rows.Tie as tie
 
@@ -28,7 +28,7 @@ add-count c =
     let p = c .before .before .before .before .before .before .before .before .pre .0 in
     let l = c .before .before .before .before .before .loop in
     let w = c .before .before .write-row in
-    omega (arith, cells-most p, p .many, l .inv .long, count-most (l .inv), w .ensures .counted, altered-most (l .times) (w .last .0))
+    omega (arith, fitting-most p, p .many, l .inv .long, entered-most (l .inv), w .ensures .counted, altered-most (l .times) (w .last .0))
 
 add-row : tie.Need-add-row Inv-loop μ-loop
 add-row c = omega (arith, c .before .before .before .before .loop-test .taken, c .before .before .before .before .before .before .before .before .pre)
@@ -47,15 +47,4 @@ returns c = entered-of _ (λ d l b. fewer-rows (c .loop-test .left) b) (c .befor
 
 pub write-rows-spec : {M : Type 1} → statement M
 write-rows-spec =
-    tie.close
-    (tie.spec
-    Inv-loop
-    μ-loop
-    loop-holds
-    write-row-requires
-    add-count
-    add-row
-    loop-less
-    loop-again
-    same-length
-    returns)
+    tie.close (tie.spec Inv-loop μ-loop loop-holds write-row-requires add-count add-row loop-less loop-again same-length returns)

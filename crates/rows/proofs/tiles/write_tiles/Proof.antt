@@ -1,4 +1,4 @@
--- `rows::tiles::write_tiles` meets its contract: the tiles written so far are final. Assumes nothing.
+-- `rows::tiles::write_tiles` meets its contract: the tiles written so far are final.
 use mathlib.Core.Path.{_≡_}
 use mathlib.Core.Bool.{true}
 use Prim.Native.Nat.{_-_, _≤_}
@@ -8,8 +8,8 @@ use borrow.Author.Needs.{needs}
 use Rattle.eikonal.specs.Refusals.{member}
 use Rattle.rows.specs.Lists.{due}
 use Rattle.rows.specs.Rows.{Entered, tile-in}
-use Rattle.rows.proofs.Theory.Entered.{count-most, entered-none, entered-then}
-use Rattle.rows.proofs.Theory.TileRows.{cells-most, room-kept, no-tile, one-tile-more, wrote}
+use Rattle.rows.proofs.Theory.Entered.{entered-most, entered-none, entered-then}
+use Rattle.rows.proofs.Theory.TileRows.{fitting-most, room-kept, no-tile, one-tile-more, wrote}
 use Rattle.rows.proofs.tiles.write_tiles.Statement.{statement}
 use Rattle.rows.proofs.tiles.write_tiles.Tie as tie
 
@@ -23,31 +23,33 @@ abbrev μ-loop : tie.MeasureT-loop
 loop-holds : tie.Need-loop-holds Inv-loop μ-loop
 loop-holds c = (omega arith, entered-none _ _ _ (λ d l m. no-tile _ m))
 
-mul-write-tile : tie.Need-mul-write-tile Inv-loop μ-loop
-mul-write-tile c = search needs
-
 shared-slice-read-write-tile : tie.Need-shared-slice-read-write-tile Inv-loop μ-loop
 shared-slice-read-write-tile c = c .before .before .loop-test .taken
 
+abbrev start : tie.At-loop Inv-loop μ-loop → tie.Start Inv-loop μ-loop
+start c = c .before .before .before .before
+
 write-tile-requires : tie.Need-write-tile-requires Inv-loop μ-loop
-write-tile-requires c κs = room-kept (c .before .before .before .before .before .before .before .pre .0) (c .before .before .before .loop .inv .1 .long)
+write-tile-requires c κs = let l = c .before .before .before in room-kept (start l .pre .0) (l .loop .inv .1 .long)
 
 add-count : tie.Need-add-count Inv-loop μ-loop
 add-count c =
-    let p = c .before .before .before .before .before .before .before .before .before .before .pre .0 in
-    let i = c .before .before .before .before .before .before .loop .inv .1 in
-    omega (arith, cells-most p, p .many, i .long, count-most i, count-most (c .before .before .write-tile .ensures))
+    let l = c .before .before .before .before .before .before in
+    let p = start l .pre .0 in
+    let i = l .loop .inv .1 in
+    omega (arith, fitting-most p, p .many, i .long, entered-most i, entered-most (c .before .before .write-tile .ensures))
 
 add-i : tie.Need-add-i Inv-loop μ-loop
-add-i c = omega (arith, c .before .before .before .before .before .loop-test .taken, c .before .before .before .before .before .before .before .before .before .before .good)
+add-i c = let o = c .before .before .before .before .before in omega (arith, o .loop-test .taken, start (o .before) .good)
 
 loop-less : tie.Need-loop-less Inv-loop μ-loop
 loop-less c = omega (arith, c .before .before .before .before .before .loop-test .taken)
 
 loop-again : tie.Need-loop-again Inv-loop μ-loop
 loop-again c =
-    let k = c .before .before .before .before .before .loop-test .taken in
-    (omega (arith, k), entered-then (c .before .before .before .before .before .before .loop .inv .1) (c .before .before .write-tile .ensures) _ (λ d l m. one-tile-more _ _ _ k m))
+    let o = c .before .before .before .before .before in
+    let k = o .loop-test .taken in
+    (omega (arith, k), entered-then (o .before .loop .inv .1) (c .before .before .write-tile .ensures) _ (λ d l m. one-tile-more _ _ _ k m))
 
 same-length : tie.Need-same-length Inv-loop μ-loop
 same-length c = c .before .loop .inv .1 .long
@@ -63,15 +65,5 @@ pub write-tiles-spec : {M : Type 1} → statement M
 write-tiles-spec =
     tie.close
     (tie.spec
-    Inv-loop
-    μ-loop
-    loop-holds
-    mul-write-tile
-    shared-slice-read-write-tile
-    write-tile-requires
-    add-count
-    add-i
-    loop-less
-    loop-again
-    same-length
-    returns)
+    Inv-loop μ-loop loop-holds (λ c. search needs) shared-slice-read-write-tile write-tile-requires add-count add-i loop-less loop-again
+    same-length returns)

@@ -1,4 +1,4 @@
--- `rows::whole::clip` meets its contract. Assumes nothing.
+-- `rows::whole::clip` meets its contract.
 use mathlib.Core.Path.{sym}
 use Rattle.eikonal.proofs.Clip.{clip-keeps, clip-loses}
 use Rattle.rows.proofs.whole.clip.Statement.{statement}

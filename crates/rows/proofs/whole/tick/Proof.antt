@@ -1,4 +1,4 @@
--- `rows::whole::tick` meets its contract. Assumes nothing.
+-- `rows::whole::tick` meets its contract.
 use borrow.Author.Tests.{le-leb, lt-leb}
 use Rattle.rows.proofs.whole.tick.Statement.{statement}
 use Rattle.rows.proofs.whole.tick.Tie as tie

@@ -1,25 +1,10 @@
--- `scenario::bytes::four_at` meets its contract. Assumes nothing.
+-- `scenario::bytes::four_at` meets its contract.
 use mathlib.Core.Path.{sym, ap₂, _∙_}
 use Prim.Native.Nat.{_+_, _*_}
 use borrow.Author.Needs.{needs}
 use Rattle.scenario.proofs.Numbers.{four-drop}
 use Rattle.scenario.proofs.bytes.four_at.Statement.{statement}
 use Rattle.scenario.proofs.bytes.four_at.Tie as tie
-
-two-at-requires : tie.Need-two-at-requires
-two-at-requires c κs = search needs
-
-add-two-at : tie.Need-add-two-at
-add-two-at c = search needs
-
-two-at-requires-2 : tie.Need-two-at-requires-2
-two-at-requires-2 c κs = search needs
-
-mul-result : tie.Need-mul-result
-mul-result c = search needs
-
-add-result : tie.Need-add-result
-add-result c = search needs
 
 returns : tie.Need-returns
 returns c =
@@ -28,4 +13,4 @@ returns c =
 
 pub four-at-spec : {M : Type 1} → statement M
 four-at-spec =
-    tie.close (tie.spec two-at-requires add-two-at two-at-requires-2 mul-result add-result returns)
+    tie.close (tie.spec (λ c κs. search needs) (λ c. search needs) (λ c κs. search needs) (λ c. search needs) (λ c. search needs) returns)

@@ -1,22 +1,10 @@
--- `scenario::bytes::put_four` meets its contract. Assumes nothing.
+-- `scenario::bytes::put_four` meets its contract.
 use Prim.Native.Nat.{_/_}
 use borrow.Author.Needs.{needs}
 use Rattle.scenario.specs.Bytes.{two-bytes, four-bytes}
 use Rattle.scenario.proofs.Filling.{put-behind}
 use Rattle.scenario.proofs.bytes.put_four.Statement.{statement}
 use Rattle.scenario.proofs.bytes.put_four.Tie as tie
-
-put-two-requires : tie.Need-put-two-requires
-put-two-requires c κs = search needs
-
-add-put-two : tie.Need-add-put-two
-add-put-two c = search needs
-
-put-two-requires-2 : tie.Need-put-two-requires-2
-put-two-requires-2 c κs = search needs
-
-same-length : tie.Need-same-length
-same-length c = search needs
 
 returns : tie.Need-returns
 unfolding four-bytes
@@ -27,5 +15,4 @@ returns c =
     (first .put-two .ensures) (c .before .before .put-two2 .ensures)
 
 pub put-four-spec : {M : Type 1} → statement M
-put-four-spec =
-    tie.close (tie.spec put-two-requires add-put-two put-two-requires-2 same-length returns)
+put-four-spec = tie.close (tie.spec (λ c κs. search needs) (λ c. search needs) (λ c κs. search needs) (λ c. search needs) returns)

@@ -1,4 +1,4 @@
--- `scenario::bytes::put_two` meets its contract. Assumes nothing.
+-- `scenario::bytes::put_two` meets its contract.
 use native.Mathlib.Omega.{arith}
 use Prim.Native.Nat.{_/_, _%_}
 use lib.ListN.{length-set}
@@ -8,24 +8,6 @@ use Rattle.scenario.proofs.Filling.{two-stored}
 use Rattle.scenario.proofs.bytes.put_two.Statement.{statement}
 use Rattle.scenario.proofs.bytes.put_two.Tie as tie
 
-cast-out : tie.Need-cast-out
-cast-out c = search needs
-
-slice-write-out : tie.Need-slice-write-out
-slice-write-out c = search needs
-
-cast-out-2 : tie.Need-cast-out-2
-cast-out-2 c = search needs
-
-add-out : tie.Need-add-out
-add-out c = search needs
-
-slice-write-out-2 : tie.Need-slice-write-out-2
-slice-write-out-2 c = simp length-set (omega arith)
-
-same-length : tie.Need-same-length
-same-length c = search needs
-
 returns : tie.Need-returns
 unfolding two-bytes
 returns c = let a = c .args in two-stored (a .out .now) (a .at) (a .x % 256) (a .x / 256 % 256) (c .pre)
@@ -33,4 +15,6 @@ returns c = let a = c .args in two-stored (a .out .now) (a .at) (a .x % 256) (a 
 pub put-two-spec : {M : Type 1} → statement M
 put-two-spec =
     tie.close
-    (tie.spec cast-out slice-write-out cast-out-2 add-out slice-write-out-2 same-length returns)
+    (tie.spec
+    (λ c. search needs) (λ c. search needs) (λ c. search needs) (λ c. search needs) (λ c. simp length-set (omega arith)) (λ c. search needs)
+    returns)

@@ -1,21 +1,9 @@
--- `scenario::bytes::put_wide_pair` meets its contract. Assumes nothing.
+-- `scenario::bytes::put_wide_pair` meets its contract.
 use borrow.Author.Needs.{needs}
 use Rattle.scenario.specs.Bytes.{four-bytes}
 use Rattle.scenario.proofs.Filling.{put-behind}
 use Rattle.scenario.proofs.bytes.put_wide_pair.Statement.{statement}
 use Rattle.scenario.proofs.bytes.put_wide_pair.Tie as tie
-
-put-four-requires : tie.Need-put-four-requires
-put-four-requires c κs = search needs
-
-add-put-four : tie.Need-add-put-four
-add-put-four c = search needs
-
-put-four-requires-2 : tie.Need-put-four-requires-2
-put-four-requires-2 c κs = search needs
-
-same-length : tie.Need-same-length
-same-length c = search needs
 
 returns : tie.Need-returns
 returns c =
@@ -25,5 +13,4 @@ returns c =
     (first .put-four .ensures) (c .before .before .put-four2 .ensures)
 
 pub put-wide-pair-spec : {M : Type 1} → statement M
-put-wide-pair-spec =
-    tie.close (tie.spec put-four-requires add-put-four put-four-requires-2 same-length returns)
+put-wide-pair-spec = tie.close (tie.spec (λ c κs. search needs) (λ c. search needs) (λ c κs. search needs) (λ c. search needs) returns)

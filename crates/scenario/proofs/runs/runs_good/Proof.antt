@@ -1,11 +1,11 @@
--- `scenario::runs::runs_good` meets its contract. Assumes nothing.
+-- `scenario::runs::runs_good` meets its contract.
 use mathlib.Core.Path.{_≡_, sym, ap, _∙_}
 use Prim.Native.Nat.{_+_, _-_, _≤_}
 use lib.ListN.{drop}
 use borrow.Author.Needs.{needs}
 use Rattle.scenario.specs.Bytes.{records}
 use Rattle.scenario.specs.Runs.{runs-good}
-use Rattle.scenario.specs.File.{run-in}
+use Rattle.scenario.specs.File.{head-size, run-size, run-in}
 use Rattle.scenario.specs.Inner.Walk.{runs-onward}
 use Rattle.scenario.proofs.RunWalk.{runs-all, good-here, good-next, good-none}
 use Rattle.scenario.proofs.runs.runs_good.Statement.{statement}
@@ -13,7 +13,7 @@ use Rattle.scenario.proofs.runs.runs_good.Tie as tie
 
 abbrev Inv-loop : tie.InvT-loop
 Inv-loop file count n ground free₀ last₀ i₀ free last i =
-    (i ≤ count) × (runs-good n ground 0 ground (records 10 run-in count (drop 16 file)) ≡ runs-good n ground free last (runs-onward file count i))
+    (i ≤ count) × (runs-good n ground 0 ground (records run-size run-in count (drop head-size file)) ≡ runs-good n ground free last (runs-onward file count i))
 
 abbrev μ-loop : tie.MeasureT-loop
 μ-loop file count n ground free₀ last₀ i₀ free last i = count - i
@@ -23,18 +23,6 @@ loop-holds c =
     let a = c .before .args in
     (search needs, ap (runs-good (a .n) (a .ground) 0 (a .ground)) (runs-all (a .file .now) (a .count)))
 
-mul-run-at : tie.Need-mul-run-at Inv-loop μ-loop
-mul-run-at c = search needs
-
-add-run-at : tie.Need-add-run-at Inv-loop μ-loop
-add-run-at c = search needs
-
-run-at-requires : tie.Need-run-at-requires Inv-loop μ-loop
-run-at-requires c κs = search needs
-
-run-good-requires : tie.Need-run-good-requires Inv-loop μ-loop
-run-good-requires c κs = search needs
-
 returns : tie.Need-returns Inv-loop μ-loop
 returns c =
     let r = c .before .before in
@@ -42,15 +30,6 @@ returns c =
     let l = r .before .before .loop in
     sym (l .inv .1 ∙ good-here (a .file .now) (a .count) (l .i) (r .run-at .result) (r .before .loop-test .taken) (r .run-at .ensures)
     (a .n) (a .ground) (l .free) (l .last) (c .before .run-good .result) (c .before .run-good .ensures) (c .if1 .taken))
-
-run-end-requires : tie.Need-run-end-requires Inv-loop μ-loop
-run-end-requires c κs = search needs
-
-add-i : tie.Need-add-i Inv-loop μ-loop
-add-i c = search needs
-
-loop-less : tie.Need-loop-less Inv-loop μ-loop
-loop-less c = search needs
 
 loop-again : tie.Need-loop-again Inv-loop μ-loop
 loop-again c =
@@ -75,16 +54,5 @@ pub runs-good-spec : {M : Type 1} → statement M
 runs-good-spec =
     tie.close
     (tie.spec
-    Inv-loop
-    μ-loop
-    loop-holds
-    mul-run-at
-    add-run-at
-    run-at-requires
-    run-good-requires
-    returns
-    run-end-requires
-    add-i
-    loop-less
-    loop-again
-    returns-2)
+    Inv-loop μ-loop loop-holds (λ c. search needs) (λ c. search needs) (λ c κs. search needs) (λ c κs. tt) returns (λ c κs. tt)
+    (λ c. search needs) (λ c. search needs) loop-again returns-2)

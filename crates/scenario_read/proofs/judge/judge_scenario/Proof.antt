@@ -1,65 +1,51 @@
--- `scenario_read::judge::judge_scenario` meets its contract. Assumes nothing.
-use mathlib.Core.Path.{_≡_, refl, sym, ap, _∙_}
-use mathlib.Core.List.{List}
-use Prim.Native.Nat.{ℕ, _≤_}
+-- `scenario_read::judge::judge_scenario` meets its contract.
+use mathlib.Core.Path.{_≡_, refl, sym, ap, ap₂, _∙_}
 use native.Mathlib.Omega.{arith}
-use lib.ListN.{length}
-use borrow.Author.Needs.{needs}
+use Rattle.eikonal.specs.Refusals.{cause, none}
+use Rattle.eikonal.proofs.Causes.{first, next}
 use Rattle.scenario.specs.File.{file-refusal}
-use Rattle.scenario.specs.Calls.{reader-refusal, reader-answer}
-use Rattle.scenario.proofs.Causes.{or-else-first, or-else-next, accepted, holds, fails}
-use Rattle.scenario.proofs.Answers.{refuses}
+use Rattle.scenario.specs.Calls.{scenario, scenario-of, reader-refusal, reader-answer}
+use Rattle.scenario.proofs.Causes.{accepted, holds, fails}
+use Rattle.scenario.proofs.Answers.{reader-zero, reader-refused}
 use Rattle.scenario_read.proofs.judge.judge_scenario.Statement.{statement}
 use Rattle.scenario_read.proofs.judge.judge_scenario.Tie as tie
-
-file-refusal-requires : tie.Need-file-refusal-requires
-file-refusal-requires c κs = search needs
-
-refused-requires : tie.Need-refused-requires
-refused-requires c κs = search needs
 
 returns : tie.Need-returns
 unfolding reader-refusal
 returns c =
-    let r = c .before .before in
-    c .refused .ensures ∙ refuses (r .file-refusal .result) _ _ (r .file-refusal .ensures ∙ sym (or-else-first _ _ (λ q. c .before .if1 .taken (r .file-refusal .ensures ∙ q)))) (c .before .if1 .taken)
+    let k = c .before .before .before in
+    let f = k .before .before .args .file .now in
+    let e = k .file-refusal .ensures in
+    let n = c .before .if1 .taken in
+    c .refused .ensures ∙ sym (reader-refused (k .file-refusal .result) f n) ∙ ap₂ reader-answer (first _ _ _ e (λ q. n (ap (λ u. u .number) e ∙ q))) refl
 
--- a file that is not refused has its head
-long : (f : List ℕ) (k : ℕ) → k ≡ file-refusal f → k ≡ 0 → 16 ≤ length f
-long f k e z = accepted f (sym e ∙ z) .front .head
+-- the file alone has no cause
+fine : (c : tie.Else1) → file-refusal (c .before .before .before .before .args .file .now) .number ≡ 0
+fine c = ap (λ u. u .number) (sym (c .before .before .file-refusal .ensures)) ∙ c .if1 .left
 
-room-good-requires : tie.Need-room-good-requires
-room-good-requires c κs = long _ _ (c .before .file-refusal .ensures) (c .if1 .left)
-
-refused-requires-2 : tie.Need-refused-requires-2
-refused-requires-2 c κs = search needs
+head-of-requires : tie.Need-head-of-requires
+head-of-requires c κs = accepted _ (fine c) .front .head
 
 returns-2 : tie.Need-returns-2
 unfolding reader-refusal
 returns-2 c =
-    let m = c .before .before .before in
-    c .refused2 .ensures
-    ∙ refuses 14 _ _ (sym (or-else-next _ _ (sym (m .before .file-refusal .ensures) ∙ m .if1 .left) ∙ rw (fails (c .before .before .room-good .ensures) (c .before .if2 .taken)) refl)) (λ q. omega arith)
-
-scenario-in-requires : tie.Need-scenario-in-requires
-scenario-in-requires c κs = let m = c .before .before in long _ _ (m .before .file-refusal .ensures) (m .if1 .left)
+    let r = c .before .before .before in
+    let h = r .before in
+    let f = h .before .before .before .before .before .args .file .now in
+    let short = fails (r .room-good .ensures) (c .before .before .if2 .taken) in
+    c .refused2 .ensures ∙ ap (λ u. scenario (u .number) 0 0 0 0 0) (c .before .cause .ensures) ∙ sym (reader-refused (cause 14) f (λ q. omega arith))
+    ∙ ap₂ reader-answer (next _ _ (cause 14) (fine (h .before)) (rw (← h .head-of .ensures, short))) refl
 
 returns-3 : tie.Need-returns-3
 unfolding reader-refusal
 returns-3 c =
-    let m = c .before .before .before in
-    c .scenario-in .ensures
-    ∙ ap (λ u. reader-answer u (m .before .before .before .args .file .now)) (sym (or-else-next _ _ (sym (m .before .file-refusal .ensures) ∙ m .if1 .left) ∙ rw (holds (c .before .before .room-good .ensures) (c .before .if2 .left)) refl))
+    let r = c .before .before in
+    let h = r .before in
+    let f = h .before .before .before .before .before .args .file .now in
+    let enough = holds (r .room-good .ensures) (c .before .if2 .left) in
+    c .scenario-of .ensures ∙ ap scenario-of (h .head-of .ensures) ∙ sym (reader-zero none f refl)
+    ∙ ap₂ reader-answer (next _ _ none (fine (h .before)) (rw (← h .head-of .ensures, enough))) refl
 
 pub judge-scenario-spec : {M : Type 1} → statement M
 judge-scenario-spec =
-    tie.close
-    (tie.spec
-    file-refusal-requires
-    refused-requires
-    returns
-    room-good-requires
-    refused-requires-2
-    returns-2
-    scenario-in-requires
-    returns-3)
+    tie.close (tie.spec (λ c κs. tt) (λ c κs. tt) returns head-of-requires (λ c κs. tt) (λ c κs. tt) (λ c κs. tt) returns-2 (λ c κs. tt) returns-3)

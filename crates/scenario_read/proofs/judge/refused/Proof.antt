@@ -1,4 +1,4 @@
--- `scenario_read::judge::refused` meets its contract. Assumes nothing.
+-- `scenario_read::judge::refused` meets its contract.
 use borrow.Author.Needs.{needs}
 use Rattle.scenario.specs.Calls.{scenario}
 use Rattle.scenario_read.proofs.judge.refused.Statement.{statement}

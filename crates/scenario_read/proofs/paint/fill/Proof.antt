@@ -1,4 +1,4 @@
--- `scenario_read::paint::fill` meets its contract. Assumes nothing.
+-- `scenario_read::paint::fill` meets its contract.
 use mathlib.Core.Path.{_≡_, refl}
 use mathlib.Core.List.{_++_}
 use Prim.Native.Nat.{_-_, _≤_}
@@ -19,26 +19,12 @@ abbrev μ-loop : tie.MeasureT-loop
 loop-holds : tie.Need-loop-holds Inv-loop μ-loop
 loop-holds c = (omega arith, c .pre .0, c .pre .1, refl, filled-none (c .args .slow .now) (c .args .from) (c .args .x))
 
-mul-slow : tie.Need-mul-slow Inv-loop μ-loop
-mul-slow c = search needs
-
-slice-write-slow : tie.Need-slice-write-slow Inv-loop μ-loop
-slice-write-slow c = search needs
-
-add-i : tie.Need-add-i Inv-loop μ-loop
-add-i c = search needs
-
-loop-less : tie.Need-loop-less Inv-loop μ-loop
-loop-less c = search needs
-
 loop-again : tie.Need-loop-again Inv-loop μ-loop
 loop-again c =
     let l = c .before .loop in
     let a = c .before .before .args in
-    (omega arith, omega arith, l .inv .2, simp length-set (l .inv .3), filled-more (a .slow .now) (l .slow) (a .from) (l .i) (a .x) (l .inv .0) (omega arith) (l .inv .4))
-
-same-length : tie.Need-same-length Inv-loop μ-loop
-same-length c = search needs
+    let more = filled-more (a .slow .now) (l .slow) (a .from) (l .i) (a .x) (l .inv .0) (omega arith) (l .inv .4) in
+    (omega arith, omega arith, l .inv .2, simp length-set (l .inv .3), more)
 
 returns : tie.Need-returns Inv-loop μ-loop
 returns c =
@@ -51,13 +37,5 @@ pub fill-spec : {M : Type 1} → statement M
 fill-spec =
     tie.close
     (tie.spec
-    Inv-loop
-    μ-loop
-    loop-holds
-    mul-slow
-    slice-write-slow
-    add-i
-    loop-less
-    loop-again
-    same-length
-    returns)
+    Inv-loop μ-loop loop-holds (λ c. search needs) (λ c. search needs) (λ c. search needs) (λ c. search needs) loop-again
+    (λ c. search needs) returns)

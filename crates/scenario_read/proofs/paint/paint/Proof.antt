@@ -1,20 +1,14 @@
--- `scenario_read::paint::paint` meets its contract. Assumes nothing.
+-- `scenario_read::paint::paint` meets its contract.
 use native.Mathlib.Omega.{arith}
 use borrow.Author.Needs.{needs}
 use Rattle.scenario_read.proofs.Painting.{ground-and-run}
 use Rattle.scenario_read.proofs.paint.paint.Statement.{statement}
 use Rattle.scenario_read.proofs.paint.paint.Tie as tie
 
-wide-requires : tie.Need-wide-requires
-wide-requires c κs = search needs
-
 fill-requires : tie.Need-fill-requires
 fill-requires c κs =
     let a = c .before .before .before in
     (omega (arith, a .pre .0, c .before .wide .ensures), omega (arith, a .pre .1, c .before .wide .ensures))
-
-run-end-requires : tie.Need-run-end-requires
-run-end-requires c κs = search needs
 
 fill-requires-2 : tie.Need-fill-requires-2
 fill-requires-2 c κs =
@@ -22,18 +16,13 @@ fill-requires-2 c κs =
     let a = w .before .before in
     (omega (arith, w .wide .ensures, c .run-end .ensures), omega (arith, a .pre .1, c .run-end .ensures, c .before .before .before .before .fill .kept .0))
 
-same-length : tie.Need-same-length
-same-length c = search needs
-
 returns : tie.Need-returns
 returns c =
     let m = c .before .before .before .before .before .before .before in
     let w = m .before .before in
     let a = w .before .before .args in
-    ground-and-run (a .slow .now) (m .fill .last .0) (c .before .before .fill2 .last .0) (a .from) (a .ground) (w .wide .result) (c .before .before .before .run-end .result) (a .x)
+    ground-and-run (a .slow .now) _ _ (a .from) (a .ground) (w .wide .result) (c .before .before .before .run-end .result) (a .x)
     (w .wide .ensures) (c .before .before .before .run-end .ensures) (m .fill .ensures) (c .before .before .fill2 .ensures)
 
 pub paint-spec : {M : Type 1} → statement M
-paint-spec =
-    tie.close
-    (tie.spec wide-requires fill-requires run-end-requires fill-requires-2 same-length returns)
+paint-spec = tie.close (tie.spec (λ c κs. tt) fill-requires (λ c κs. tt) fill-requires-2 (λ c. search needs) returns)

@@ -1,14 +1,14 @@
--- `scenario_read::paint::read_slow` meets its contract. Assumes nothing.
+-- `scenario_read::paint::read_slow` meets its contract.
 use mathlib.Core.Path.{_≡_, refl, sym, ap, _∙_, subst}
 use mathlib.Core.List.{_++_}
-use Prim.Native.Nat.{_+_, _*_, _-_, _≤_}
+use Prim.Native.Nat.{_-_, _≤_}
 use native.Mathlib.Omega.{arith}
-use lib.ListN.{length, take, drop, replicate}
+use lib.ListN.{length, take, replicate}
 use borrow.Author.Needs.{needs}
-use Rattle.scenario.specs.Bytes.{records}
 use Rattle.scenario.specs.Runs.{painted, runs-good}
-use Rattle.scenario.specs.File.{run-in, ground-in, runs-in}
+use Rattle.scenario.specs.File.{runs-end, runs-in}
 use Rattle.scenario.specs.Inner.Walk.{runs-onward}
+use Rattle.scenario.proofs.Reading.{runs-read}
 use Rattle.scenario.proofs.RunWalk.{runs-all}
 use Rattle.scenario_read.proofs.Painting.{Painting, painting-none, painting-fits, painting-more, painting-end}
 use Rattle.scenario_read.proofs.paint.read_slow.Statement.{statement}
@@ -20,33 +20,22 @@ Inv-loop file slow₀ ground count free₀ i₀ slow free i = Painting file coun
 abbrev μ-loop : tie.MeasureT-loop
 μ-loop file slow₀ ground count free₀ i₀ slow free i = count - i
 
-two-at-requires : tie.Need-two-at-requires Inv-loop μ-loop
-two-at-requires c κs = omega (arith, c .before .before .pre .0)
-
-run-count-requires : tie.Need-run-count-requires Inv-loop μ-loop
-run-count-requires c κs = omega (arith, c .before .before .before .pre .0)
-
--- all runs of the file, and its ground
-all : (c : tie.After-run-count Inv-loop μ-loop) → runs-in (c .before .before .before .before .args .file .now) ≡ runs-onward (c .before .before .before .before .args .file .now) (c .run-count .result) 0
-unfolding runs-in
+-- all runs of the file
+all : (c : tie.After-wide Inv-loop μ-loop) → let f = c .before .before .before .args .file .now in runs-in f ≡ runs-onward f (c .wide .result) 0
 all c =
-    let f = c .before .before .before .before .args .file .now in
-    ap (λ u. records 10 run-in u (drop 16 f)) (sym (c .run-count .ensures)) ∙ runs-all f (c .run-count .result)
-
-ground : (c : tie.After-run-count Inv-loop μ-loop) → ground-in (c .before .before .before .before .args .file .now) ≡ c .before .two-at .result
-unfolding ground-in
-ground c = sym (c .before .two-at .ensures .0)
+    let s = c .before .before .before in
+    sym (runs-read _ _ (s .pre .0 .0) _ (c .wide .ensures)) ∙ runs-all (s .args .file .now) (c .wide .result)
 
 loop-holds : tie.Need-loop-holds Inv-loop μ-loop
 loop-holds c =
-    let a = c .before .before .before .before in
-    let n = length (a .args .slow .now) in
-    painting-none (a .args .file .now) (c .run-count .result) (c .before .two-at .result) n (a .args .slow .now) refl
-    (sym (λ i. runs-good n (ground c i) 0 (ground c i) (all c i)) ∙ a .pre .1)
+    let s = c .before .before .before in
+    let g = s .args .head .ground in
+    let n = length (s .args .slow .now) in
+    painting-none _ _ g n (s .args .slow .now) refl (ap (runs-good n g 0 g) (sym (all c)) ∙ s .pre .1)
 
 -- the bytes of all runs
-room : (c : tie.After-run-count Inv-loop μ-loop) → 16 + 10 * c .run-count .result ≤ length (c .before .before .before .before .args .file .now)
-room c = omega (arith, c .before .before .before .before .pre .0, c .run-count .ensures)
+room : (c : tie.After-wide Inv-loop μ-loop) → runs-end (c .wide .result) ≤ length (c .before .before .before .args .file .now)
+room c = omega (arith, c .before .before .before .pre .0 .1, c .wide .ensures)
 
 mul-run-at : tie.Need-mul-run-at Inv-loop μ-loop
 mul-run-at c = omega (arith, room (c .before .before))
@@ -63,15 +52,6 @@ paint-requires c κs =
     let l = r .before .before .loop in
     let f = painting-fits (l .inv) (r .run-at .result) (r .before .loop-test .taken) (r .run-at .ensures) in
     (f .behind, omega (arith, f .within, l .inv .long))
-
-run-end-requires : tie.Need-run-end-requires Inv-loop μ-loop
-run-end-requires c κs = search needs
-
-add-i : tie.Need-add-i Inv-loop μ-loop
-add-i c = search needs
-
-loop-less : tie.Need-loop-less Inv-loop μ-loop
-loop-less c = search needs
 
 loop-again : tie.Need-loop-again Inv-loop μ-loop
 loop-again c =
@@ -92,28 +72,14 @@ returns c =
     let p = c .before .before in
     let l = p .before .before .before .loop in
     let k = p .before .before .before .before in
-    let n = length (k .before .before .before .before .args .slow .now) in
+    let a = k .before .before .before .args in
     painting-end (l .inv) (p .before .before .loop-test .left) (p .fill .last .0) (omega (arith, p .fill .kept .0, l .inv .long))
-    (subst (λ u. take u (p .fill .last .0) ≡ take (l .free) (l .slow) ++ replicate (u - l .free) (k .before .two-at .result)) (l .inv .long) (p .fill .ensures))
-    ∙ sym (λ i. painted (ground k i) 0 n (all k i))
+    (subst (λ u. take u (p .fill .last .0) ≡ take (l .free) (l .slow) ++ replicate (u - l .free) (a .head .ground)) (l .inv .long) (p .fill .ensures))
+    ∙ ap (painted (a .head .ground) 0 (length (a .slow .now))) (sym (all k))
 
 pub read-slow-spec : {M : Type 1} → statement M
 read-slow-spec =
     tie.close
     (tie.spec
-    Inv-loop
-    μ-loop
-    two-at-requires
-    run-count-requires
-    loop-holds
-    mul-run-at
-    add-run-at
-    run-at-requires
-    paint-requires
-    run-end-requires
-    add-i
-    loop-less
-    loop-again
-    fill-requires
-    same-length
-    returns)
+    Inv-loop μ-loop (λ c κs. tt) loop-holds mul-run-at add-run-at run-at-requires paint-requires (λ c κs. tt) (λ c. search needs)
+    (λ c. search needs) loop-again fill-requires same-length returns)

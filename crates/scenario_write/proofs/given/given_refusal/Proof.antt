@@ -1,126 +1,103 @@
--- `scenario_write::given::given_refusal` meets its contract. Assumes nothing.
+-- `scenario_write::given::given_refusal` meets its contract.
 use mathlib.Core.Path.{_≡_, sym, ap₂, _∙_}
-use mathlib.Core.Bool.{true}
+use mathlib.Core.Bool.{true, _&&_}
 use Prim.Native.Nat.{_*_, _≤_}
 use native.Mathlib.Omega.{arith}
 use native.Mathlib.Nat.{mul-le-mul}
 use lib.Dec.{eqb}
 use lib.ListN.{length}
-use borrow.Author.Needs.{needs}
 use borrow.Author.Tests.{eq-eqb, ne-eqb, lt-ltb, le-ltb}
-use Rattle.eikonal.specs.Refusals.{side-good, any-above}
-use Rattle.eikonal.specs.Entry.{plain}
-use Rattle.eikonal.proofs.Good.{and-true}
-use Rattle.scenario.specs.File.{sides-good, ticks-good}
+use Rattle.eikonal.specs.Board.{size}
+use Rattle.eikonal.specs.Refusals.{sides-good, any-above}
+use Rattle.scenario.specs.File.{ticks-good}
 use Rattle.scenario.specs.Calls.{given-refusal}
-use Rattle.scenario.proofs.Causes.{holds, fails, side-most}
+use Rattle.scenario.proofs.Causes.{holds, fails}
 use Rattle.scenario_write.proofs.given.given_refusal.Statement.{statement}
 use Rattle.scenario_write.proofs.given.given_refusal.Tie as tie
 
-sides-good-requires : tie.Need-sides-good-requires
-sides-good-requires c κs = search needs
+returns : tie.Need-returns
+unfolding given-refusal
+returns c xs = c .cause .ensures ∙ rw (fails (c .before .before .sides-good .ensures) (c .before .if1 .taken))
 
 -- each way out has passed the tests in front of its own
-returns : tie.Need-returns
-unfolding given-refusal plain
-returns c cs ts p q = rw (fails (c .before .sides-good .ensures) (c .if1 .taken))
-
-ticks-good-requires : tie.Need-ticks-good-requires
-ticks-good-requires c κs = search needs
+sided : (c : tie.Else1) → let a = c .before .before .before .args in sides-good (a .width) (a .height) ≡ true
+sided c = holds (c .before .sides-good .ensures) (c .if1 .left)
 
 returns-2 : tie.Need-returns-2
-unfolding given-refusal plain
-returns-2 c cs ts p q =
-    let s = c .before .before in
-    rw (holds (s .before .sides-good .ensures) (s .if1 .left), fails (c .before .ticks-good .ensures) (c .if2 .taken))
-
-wide-requires : tie.Need-wide-requires
-wide-requires c κs = search needs
-
-wide-requires-2 : tie.Need-wide-requires-2
-wide-requires-2 c κs = search needs
-
--- good sides have a small product
-mul-if3 : tie.Need-mul-if3
-unfolding sides-good
-mul-if3 c =
-    let s = c .before .before .before .before in
-    let a = s .before .before .before .args in
-    let sides = and-true (side-good (a .width)) (side-good (a .height)) (holds (s .before .sides-good .ensures) (s .if1 .left)) in
-    let w : c .before .wide .result ≤ 256 = omega (arith, c .before .wide .ensures, side-most (a .width) (sides .0)) in
-    let h : c .wide2 .result ≤ 256 = omega (arith, c .wide2 .ensures, side-most (a .height) (sides .1)) in
-    record { fits = omega (arith, mul-le-mul w h) }
-
--- sides and ticks are good, and the product is the number of cells
-front : (c : tie.After-wide2) → let a = c .before .before .before .before .before .before .before .args in
-    (sides-good (a .width) (a .height) ≡ true) × (ticks-good (a .ticks) ≡ true) × (c .before .wide .result * c .wide2 .result ≡ a .width * a .height)
-front c =
+unfolding given-refusal
+returns-2 c xs =
     let t = c .before .before in
-    let s = t .before .before in
-    (holds (s .before .sides-good .ensures) (s .if1 .left), holds (t .before .ticks-good .ensures) (t .if2 .left), ap₂ _*_ (c .before .wide .ensures) (c .wide2 .ensures))
+    c .cause2 .ensures ∙ rw (sided (t .before), fails (t .ticks-good .ensures) (c .before .if2 .taken))
+
+timed : (c : tie.Else2) → let a = c .before .before .before .before .before .args in (sides-good (a .width) (a .height) ≡ true) × (ticks-good (a .ticks) ≡ true)
+timed c = (sided (c .before .before), holds (c .before .ticks-good .ensures) (c .if2 .left))
 
 returns-3 : tie.Need-returns-3
-unfolding given-refusal plain
-returns-3 c cs ts p q =
-    let f = front (c .before) in
-    let a = c .before .before .before .before .before .before .before .before .args in
-    rw (f .0, f .1, ne-eqb (length (a .slow .now)) (a .width * a .height) (λ e. c .if3 .taken (e ∙ sym (f .2))))
+unfolding given-refusal
+returns-3 c xs =
+    let t = c .before .before in
+    let a = t .before .before .before .before .before .args in
+    c .cause3 .ensures ∙ rw (timed t .0, timed t .1, ne-eqb (a .cells) (a .begins) (c .before .if3 .taken))
 
--- the slownesses are as many as cells
-cells-good : (c : tie.Else3) → let a = c .before .before .before .before .before .before .before .before .args in eqb (length (a .slow .now)) (a .width * a .height) ≡ true
-cells-good c =
-    let a = c .before .before .before .before .before .before .before .before .args in
-    eq-eqb (length (a .slow .now)) (a .width * a .height) (c .if3 .left ∙ front (c .before) .2)
+mul-if4 : tie.Need-mul-if4
+mul-if4 c =
+    let w : c .before .wide .result ≤ 4294967295 = omega (arith, c .before .wide .ensures) in
+    let h : c .wide2 .result ≤ 4294967295 = omega (arith, c .wide2 .ensures) in
+    record { fits = omega (arith, mul-le-mul w h) }
+
+-- the product is the number of cells
+product : (c : tie.After-wide2) → let a = c .before .before .before .before .before .before .before .before .args in
+    c .before .wide .result * c .wide2 .result ≡ a .width * a .height
+product c = ap₂ _*_ (c .before .wide .ensures) (c .wide2 .ensures)
 
 returns-4 : tie.Need-returns-4
-unfolding given-refusal plain
-returns-4 c cs ts p q =
-    let f = front (c .before .before) in
-    rw (f .0, f .1, cells-good (c .before), ne-eqb (length cs) (length ts) (λ e. c .if4 .taken (sym p ∙ e ∙ q)))
+unfolding given-refusal size
+returns-4 c xs =
+    let w = c .before .before in
+    let p = w .before .before in
+    let t = p .before in
+    let a = t .before .before .before .before .before .args in
+    let wrong = ne-eqb (length (a .slow .now)) (a .width * a .height) (λ e. c .before .if4 .taken (e ∙ sym (product w))) in
+    c .cause4 .ensures ∙ rw (timed t .0, timed t .1, eq-eqb (a .cells) (a .begins) (p .if3 .left), wrong)
+
+even : (c : tie.Else4) → let a = c .before .before .before .before .before .before .before .before .before .args in
+    eqb (a .cells) (a .begins) && eqb (length (a .slow .now)) (a .width * a .height) ≡ true
+even c =
+    let p = c .before .before .before in
+    let a = p .before .before .before .before .before .before .args in
+    rw (eq-eqb (a .cells) (a .begins) (p .if3 .left), eq-eqb (length (a .slow .now)) (a .width * a .height) (c .if4 .left ∙ product (c .before)))
 
 returns-5 : tie.Need-returns-5
-unfolding given-refusal plain any-above
-returns-5 c cs ts p q =
-    let l = c .before in
-    let f = front (l .before .before) in
-    let a = l .before .before .before .before .before .before .before .before .before .args in
-    rw (f .0, f .1, cells-good (l .before), eq-eqb (length cs) (length ts) (p ∙ l .if4 .left ∙ sym q), lt-ltb 4095 (a .ground) (c .if5 .taken))
-
-any-above-requires : tie.Need-any-above-requires
-any-above-requires c κs = search needs
+unfolding given-refusal size any-above
+returns-5 c xs =
+    let e = c .before .before in
+    let t = e .before .before .before .before in
+    let a = t .before .before .before .before .before .args in
+    c .cause5 .ensures ∙ rw (timed t .0, timed t .1, even e, lt-ltb 4095 (a .ground) (c .before .if5 .taken))
 
 returns-6 : tie.Need-returns-6
-unfolding given-refusal plain any-above
-returns-6 c cs ts p q =
-    let g = c .before .before in
-    let l = g .before in
-    let f = front (l .before .before) in
-    let a = l .before .before .before .before .before .before .before .before .before .args in
-    rw (f .0, f .1, cells-good (l .before), eq-eqb (length cs) (length ts) (p ∙ l .if4 .left ∙ sym q), le-ltb 4095 (a .ground) (g .if5 .left), sym (c .before .any-above .ensures) ∙ c .if6 .taken)
+unfolding given-refusal size any-above
+returns-6 c xs =
+    let s = c .before .before in
+    let g = s .before in
+    let t = g .before .before .before .before .before in
+    let a = t .before .before .before .before .before .args in
+    let steep = sym (s .any-above .ensures) ∙ c .before .if6 .taken in
+    c .cause6 .ensures ∙ rw (timed t .0, timed t .1, even (g .before), le-ltb 4095 (a .ground) (g .if5 .left), steep)
 
 returns-7 : tie.Need-returns-7
-unfolding given-refusal plain any-above
-returns-7 c cs ts p q =
-    let g = c .before .before in
-    let l = g .before in
-    let f = front (l .before .before) in
-    let a = l .before .before .before .before .before .before .before .before .before .args in
-    rw (f .0, f .1, cells-good (l .before), eq-eqb (length cs) (length ts) (p ∙ l .if4 .left ∙ sym q), le-ltb 4095 (a .ground) (g .if5 .left), sym (c .before .any-above .ensures) ∙ c .if6 .left)
+unfolding given-refusal size any-above
+returns-7 c xs =
+    let s = c .before .before in
+    let g = s .before in
+    let t = g .before .before .before .before .before in
+    let a = t .before .before .before .before .before .args in
+    let gentle = sym (s .any-above .ensures) ∙ c .before .if6 .left in
+    c .cause7 .ensures ∙ rw (timed t .0, timed t .1, even (g .before), le-ltb 4095 (a .ground) (g .if5 .left), gentle)
 
 pub given-refusal-spec : {M : Type 1} → statement M
 given-refusal-spec =
     tie.close
     (tie.spec
-    sides-good-requires
-    returns
-    ticks-good-requires
-    returns-2
-    wide-requires
-    wide-requires-2
-    mul-if3
-    returns-3
-    returns-4
-    returns-5
-    any-above-requires
-    returns-6
-    returns-7)
+    (λ c κs. tt) (λ c κs. tt) returns (λ c κs. tt) (λ c κs. tt) returns-2 (λ c κs. tt) returns-3 (λ c κs. tt) (λ c κs. tt) mul-if4
+    (λ c κs. tt) returns-4 (λ c κs. tt) returns-5 (λ c κs. tt) (λ c κs. tt) returns-6 (λ c κs. tt) returns-7)

@@ -1,4 +1,4 @@
--- `scenario_write::write::count_runs` meets its contract. Assumes nothing.
+-- `scenario_write::write::count_runs` meets its contract.
 use mathlib.Core.Path.{_≡_, ap, _∙_}
 use Prim.Native.Nat.{_+_, _-_, _≤_}
 use native.Mathlib.Omega.{arith}
@@ -21,24 +21,12 @@ loop-holds : tie.Need-loop-holds Inv-loop μ-loop
 unfolding runs-of
 loop-holds c = (omega arith, omega arith)
 
-mul-differs : tie.Need-mul-differs Inv-loop μ-loop
-mul-differs c = search needs
-
-shared-slice-read-differs : tie.Need-shared-slice-read-differs Inv-loop μ-loop
-shared-slice-read-differs c = search needs
-
-differs-requires : tie.Need-differs-requires Inv-loop μ-loop
-differs-requires c κs = search needs
-
 -- a stretch is at most one run more
 add-count : tie.Need-add-count Inv-loop μ-loop
 add-count c =
     let l = c .before .before .before .loop in
     let a = c .before .before .before .before .before .args in
     omega (arith, l .inv .1, runs-of-count (a .ground) (a .slow .now), c .differs .ensures, one-at-most (eqb (getD (a .slow .now) (l .i) 0) (a .ground)))
-
-stretch-end-requires : tie.Need-stretch-end-requires Inv-loop μ-loop
-stretch-end-requires c κs = search needs
 
 loop-less : tie.Need-loop-less Inv-loop μ-loop
 loop-less c = omega (arith, c .stretch-end .ensures .0 .0, c .stretch-end .ensures .0 .1)
@@ -62,14 +50,5 @@ pub count-runs-spec : {M : Type 1} → statement M
 count-runs-spec =
     tie.close
     (tie.spec
-    Inv-loop
-    μ-loop
-    loop-holds
-    mul-differs
-    shared-slice-read-differs
-    differs-requires
-    add-count
-    stretch-end-requires
-    loop-less
-    loop-again
+    Inv-loop μ-loop loop-holds (λ c. search needs) (λ c. search needs) (λ c κs. tt) add-count (λ c κs. search needs) loop-less loop-again
     returns)

@@ -1,4 +1,4 @@
--- `scenario_write::write::differs` meets its contract. Assumes nothing.
+-- `scenario_write::write::differs` meets its contract.
 use borrow.Author.Tests.{eq-eqb, ne-eqb}
 use Rattle.scenario_write.proofs.write.differs.Statement.{statement}
 use Rattle.scenario_write.proofs.write.differs.Tie as tie

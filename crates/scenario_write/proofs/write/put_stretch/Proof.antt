@@ -1,4 +1,4 @@
--- `scenario_write::write::put_stretch` meets its contract. Assumes nothing.
+-- `scenario_write::write::put_stretch` meets its contract.
 use mathlib.Core.Path.{_≡_, refl, sym, ap, _∙_}
 use mathlib.Core.List.{[], _∷_, append-nil}
 use Prim.Native.Nat.{_-_}
@@ -23,23 +23,11 @@ returns c =
 one : (c : tie.Else1) → let a = c .before .before .args in closed (a .ground) (a .from) (a .until) (a .x) [] ≡ run (a .from) (a .until - a .from) (a .x) ∷ []
 one c = let a = c .before .before .args in closed-run (a .ground) (a .from) (a .until) (a .x) [] (c .if1 .left)
 
-cast-t9 : tie.Need-cast-t9
-cast-t9 c = search needs
-
-sub-t10 : tie.Need-sub-t10
-sub-t10 c = search needs
-
-cast-t11 : tie.Need-cast-t11
-cast-t11 c = search needs
-
 put-run-requires : tie.Need-put-run-requires
 put-run-requires c κs = omega (arith, c .before .before .before .pre .0, ap length (one (c .before)))
 
 add-result : tie.Need-add-result
 add-result c = omega (arith, c .before .before .before .before .before .before .pre .0, ap length (one (c .before .before .before .before)))
-
-same-length : tie.Need-same-length
-same-length c = search needs
 
 returns-2 : tie.Need-returns-2
 unfolding bytes-of run
@@ -51,13 +39,4 @@ returns-2 c =
 
 pub put-stretch-spec : {M : Type 1} → statement M
 put-stretch-spec =
-    tie.close
-    (tie.spec
-    returns
-    cast-t9
-    sub-t10
-    cast-t11
-    put-run-requires
-    add-result
-    same-length
-    returns-2)
+    tie.close (tie.spec returns (λ c. search needs) (λ c. search needs) (λ c. search needs) put-run-requires add-result (λ c. search needs) returns-2)

@@ -1,4 +1,4 @@
--- `scenario_write::write::write_runs` meets its contract. Assumes nothing.
+-- `scenario_write::write::write_runs` meets its contract.
 use mathlib.Core.Path.{_≡_, refl, sym, ap, _∙_}
 use mathlib.Core.List.{_++_, append-assoc, append-nil}
 use Prim.Native.Nat.{_+_, _*_, _-_, _≤_}
@@ -7,15 +7,15 @@ use lib.ListN.{length, take, getD}
 use borrow.Author.Needs.{needs}
 use Rattle.scenario.specs.Bytes.{bytes-of}
 use Rattle.scenario.specs.Runs.{runs-of}
-use Rattle.scenario.specs.File.{run-bytes}
+use Rattle.scenario.specs.File.{head-size, run-size, runs-end, run-bytes}
 use Rattle.scenario_write.proofs.Stretches.{runs-after, after-none, closed-length, closed-bytes}
 use Rattle.scenario_write.proofs.write.write_runs.Statement.{statement}
 use Rattle.scenario_write.proofs.write.write_runs.Tie as tie
 
 abbrev Inv-loop : tie.InvT-loop
 Inv-loop out₀ slow ground at₀ i₀ out at i =
-    (i ≤ length slow) × (length out ≡ length out₀) × (at + 10 * length (runs-after slow ground i) ≡ 16 + 10 * length (runs-of ground slow))
-    × (take at out ++ bytes-of run-bytes (runs-after slow ground i) ≡ take 16 out₀ ++ bytes-of run-bytes (runs-of ground slow))
+    (i ≤ length slow) × (length out ≡ length out₀) × (at + run-size * length (runs-after slow ground i) ≡ runs-end (length (runs-of ground slow)))
+    × (take at out ++ bytes-of run-bytes (runs-after slow ground i) ≡ take head-size out₀ ++ bytes-of run-bytes (runs-of ground slow))
 
 abbrev μ-loop : tie.MeasureT-loop
 μ-loop out₀ slow ground at₀ i₀ out at i = length slow - i
@@ -23,15 +23,6 @@ abbrev μ-loop : tie.MeasureT-loop
 loop-holds : tie.Need-loop-holds Inv-loop μ-loop
 unfolding runs-of
 loop-holds c = (omega arith, refl, refl, refl)
-
-stretch-end-requires : tie.Need-stretch-end-requires Inv-loop μ-loop
-stretch-end-requires c κs = search needs
-
-mul-put-stretch : tie.Need-mul-put-stretch Inv-loop μ-loop
-mul-put-stretch c = search needs
-
-shared-slice-read-put-stretch : tie.Need-shared-slice-read-put-stretch Inv-loop μ-loop
-shared-slice-read-put-stretch c = search needs
 
 put-stretch-requires : tie.Need-put-stretch-requires Inv-loop μ-loop
 put-stretch-requires c κs =
@@ -61,30 +52,18 @@ loop-again c =
           ∙ append-assoc (take (l .at) (l .out)) _ _ ∙ ap (λ u. take (l .at) (l .out) ++ u) (sym b) ∙ l .inv .3,
     )
 
-same-length : tie.Need-same-length Inv-loop μ-loop
-same-length c = search needs
-
 returns : tie.Need-returns Inv-loop μ-loop
 unfolding bytes-of
 returns c =
     let l = c .before .loop in
     let a = c .before .before .before .before .args in
     let none = after-none (a .slow .now) (a .ground) (l .i) (c .loop-test .left) in
-    let at : 16 + 10 * length (runs-of (a .ground) (a .slow .now)) ≡ l .at = omega (arith, l .inv .2, ap length none) in
+    let at : runs-end (length (runs-of (a .ground) (a .slow .now))) ≡ l .at = omega (arith, l .inv .2, ap length none) in
     rw at (sym (append-nil (take (l .at) (l .out))) ∙ ap (λ u. take (l .at) (l .out) ++ bytes-of run-bytes u) (sym none) ∙ l .inv .3)
 
 pub write-runs-spec : {M : Type 1} → statement M
 write-runs-spec =
     tie.close
     (tie.spec
-    Inv-loop
-    μ-loop
-    loop-holds
-    stretch-end-requires
-    mul-put-stretch
-    shared-slice-read-put-stretch
-    put-stretch-requires
-    loop-less
-    loop-again
-    same-length
-    returns)
+    Inv-loop μ-loop loop-holds (λ c κs. search needs) (λ c. search needs) (λ c. search needs) put-stretch-requires loop-less loop-again
+    (λ c. search needs) returns)

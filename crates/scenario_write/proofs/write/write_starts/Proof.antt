@@ -1,4 +1,4 @@
--- `scenario_write::write::write_starts` meets its contract. Assumes nothing.
+-- `scenario_write::write::write_starts` meets its contract.
 use mathlib.Core.Path.{_≡_, refl}
 use mathlib.Core.List.{_++_}
 use Prim.Native.Nat.{_+_, _*_, _-_, _≤_}
@@ -7,14 +7,15 @@ use lib.ListN.{length, take}
 use borrow.Author.Needs.{needs}
 use Rattle.eikonal.specs.Refusals.{starts-of}
 use Rattle.scenario.specs.Bytes.{bytes-of}
-use Rattle.scenario.specs.File.{start-bytes}
+use Rattle.scenario.specs.File.{start-size, start-bytes}
 use Rattle.scenario_write.proofs.StartBytes.{bytes-after, written-none, written-more, written-all}
 use Rattle.scenario_write.proofs.write.write_starts.Statement.{statement}
 use Rattle.scenario_write.proofs.write.write_starts.Tie as tie
 
 abbrev Inv-loop : tie.InvT-loop
 Inv-loop out₀ at cells begins i₀ out i =
-    (i ≤ length cells) × (length out ≡ length out₀) × (take (at + 8 * i) out ++ bytes-after cells begins i ≡ take at out₀ ++ bytes-of start-bytes (starts-of cells begins))
+    (i ≤ length cells) × (length out ≡ length out₀)
+    × (take (at + start-size * i) out ++ bytes-after cells begins i ≡ take at out₀ ++ bytes-of start-bytes (starts-of cells begins))
 
 abbrev μ-loop : tie.MeasureT-loop
 μ-loop out₀ at cells begins i₀ out i = length cells - i
@@ -24,35 +25,11 @@ loop-holds c =
     let a = c .before .before .before .args in
     (omega arith, refl, written-none (a .cells .now) (a .begins .now) (a .out .now) (a .at))
 
-mul-put-wide-pair : tie.Need-mul-put-wide-pair Inv-loop μ-loop
-mul-put-wide-pair c = search needs
-
-add-put-wide-pair : tie.Need-add-put-wide-pair Inv-loop μ-loop
-add-put-wide-pair c = search needs
-
-mul-put-wide-pair-2 : tie.Need-mul-put-wide-pair-2 Inv-loop μ-loop
-mul-put-wide-pair-2 c = search needs
-
-shared-slice-read-put-wide-pair : tie.Need-shared-slice-read-put-wide-pair Inv-loop μ-loop
-shared-slice-read-put-wide-pair c = search needs
-
-mul-put-wide-pair-3 : tie.Need-mul-put-wide-pair-3 Inv-loop μ-loop
-mul-put-wide-pair-3 c = search needs
-
-shared-slice-read-put-wide-pair-2 : tie.Need-shared-slice-read-put-wide-pair-2 Inv-loop μ-loop
-shared-slice-read-put-wide-pair-2 c = search needs
-
 put-wide-pair-requires : tie.Need-put-wide-pair-requires Inv-loop μ-loop
 put-wide-pair-requires c κs =
     let l = c .before .before .before .before .loop in
     let a = c .before .before .before .before .before .before .before .before in
     omega (arith, a .pre .0, l .inv .1)
-
-add-i : tie.Need-add-i Inv-loop μ-loop
-add-i c = search needs
-
-loop-less : tie.Need-loop-less Inv-loop μ-loop
-loop-less c = search needs
 
 loop-again : tie.Need-loop-again Inv-loop μ-loop
 loop-again c =
@@ -66,9 +43,6 @@ loop-again c =
           (t .loop-test .taken) (omega (arith, a .pre .1, t .loop-test .taken)) (p .put-wide-pair .ensures),
     )
 
-same-length : tie.Need-same-length Inv-loop μ-loop
-same-length c = search needs
-
 returns : tie.Need-returns Inv-loop μ-loop
 returns c =
     let l = c .before .loop in
@@ -79,18 +53,5 @@ pub write-starts-spec : {M : Type 1} → statement M
 write-starts-spec =
     tie.close
     (tie.spec
-    Inv-loop
-    μ-loop
-    loop-holds
-    mul-put-wide-pair
-    add-put-wide-pair
-    mul-put-wide-pair-2
-    shared-slice-read-put-wide-pair
-    mul-put-wide-pair-3
-    shared-slice-read-put-wide-pair-2
-    put-wide-pair-requires
-    add-i
-    loop-less
-    loop-again
-    same-length
-    returns)
+    Inv-loop μ-loop loop-holds (λ c. search needs) (λ c. search needs) (λ c. search needs) (λ c. search needs) (λ c. search needs)
+    (λ c. search needs) put-wide-pair-requires (λ c. search needs) (λ c. search needs) loop-again (λ c. search needs) returns)

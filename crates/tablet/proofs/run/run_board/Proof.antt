@@ -1,4 +1,4 @@
--- `tablet::run::run_board` meets its contract. Assumes nothing.
+-- `tablet::run::run_board` meets its contract.
 use mathlib.Core.Path.{_≡_, sym, ap₂}
 use mathlib.Core.Bool.{true}
 use mathlib.Core.List.{_++_}
@@ -9,36 +9,47 @@ use lib.ListN.{length, take, drop}
 use lib.Seq.{length-take-le}
 use borrow.Author.Needs.{needs}
 use Rattle.eikonal.specs.Tiles.{tile-count}
-use Rattle.eikonal.specs.Refusals.{board, order-good}
-use Rattle.eikonal.specs.Entry.{plain}
-use Rattle.eikonal.proofs.Good.{side}
-use Rattle.tablet.proofs.Parts.{part-fits, part-count}
+use Rattle.eikonal.specs.Refusals.{by-lists, order-good}
+use Rattle.eikonal.proofs.Good.{sides-within}
+use Rattle.eikonal.proofs.Up.{up-most}
+use Rattle.tablet.proofs.Parts.{Back, back}
 use Rattle.tablet.proofs.Orders.{part-good}
 use Rattle.tablet.proofs.Runs.{run-rounds, run-times}
 use Rattle.tablet.proofs.run.run_board.Statement.{statement}
 use Rattle.tablet.proofs.run.run_board.Tie as tie
 
-entries-requires : tie.Need-entries-requires
-entries-requires c κs = search needs
+-- the sides of the tiles
+tile-sides : (s : tie.Start) → (1 ≤ s .args .across) × (s .args .across ≤ 256) × (1 ≤ s .args .down) × (s .args .down ≤ 256)
+tile-sides s = sides-within (s .args .across) (s .args .down) (s .pre .1 .1 .sides)
 
 tiles-along-requires : tie.Need-tiles-along-requires
 tiles-along-requires c κs =
-    let a = c .before .before .before .before .before in
-    let s = side (a .args .across) (a .pre .1 .wide) in
-    (a .pre .0 .1, s .0, s .1)
+    let s = c .before .before .before .before .before in
+    let t = tile-sides s in
+    (omega (arith, s .pre .1 .0 .0), t .0, t .1)
 
 tiles-along-requires-2 : tie.Need-tiles-along-requires-2
 tiles-along-requires-2 c κs =
-    let a = c .before .before .before .before .before .before in
-    let s = side (a .args .down) (a .pre .1 .high) in
-    (a .pre .0 .2, s .0, s .1)
+    let s = c .before .before .before .before .before .before in
+    let t = tile-sides s in
+    (omega (arith, s .pre .1 .0 .1), t .2, t .3)
 
 -- no more than 32 tiles each way
 few : (c : tie.After-tiles-along2) → c .before .tiles-along .result * c .tiles-along2 .result ≤ 1024
-few c = mul-le-mul (c .before .tiles-along .ensures .1) (c .tiles-along2 .ensures .1)
+few c =
+    let s = c .before .before .before .before .before .before .before in
+    let t = tile-sides s in
+    let a = s .args in
+    let small = s .pre .1 .0 in
+    let w : c .before .tiles-along .result ≤ 32 = omega (arith, c .before .tiles-along .ensures, up-most (a .width) (a .across) (t .0), small .0) in
+    let h : c .tiles-along2 .result ≤ 32 = omega (arith, c .tiles-along2 .ensures, up-most (a .height) (a .down) (t .2), small .1) in
+    mul-le-mul w h
 
 mul-tiles : tie.Need-mul-tiles
-mul-tiles c = omega (arith, few c)
+mul-tiles c = record { fits = omega (arith, few c) }
+
+cast-tiles : tie.Need-cast-tiles
+cast-tiles c = record { fits = omega (arith, few c) }
 
 -- so the order has room for them
 fits : (c : tie.After-tiles-along2) → c .before .tiles-along .result * c .tiles-along2 .result ≤ length (c .before .before .entries .result)
@@ -53,60 +64,49 @@ slice-aggregate-rise c = sym (length-take-le _ (c .before .before .before .entri
 rise-requires : tie.Need-rise-requires
 rise-requires c κs = omega (arith, few (c .before), length-take-le _ (c .before .before .before .entries .result) (fits (c .before)))
 
-work-entries-requires : tie.Need-work-entries-requires
-work-entries-requires c κs = search needs
+-- the order as it came back
+order-back : (c : tie.After-rise) → let t = c .before .before in
+    Back (t .before .tiles-along .result * t .tiles-along2 .result) (t .before .before .entries .result) (c .rise .last .0)
+order-back c = let t = c .before .before in back _ (t .before .before .entries .result) _ (fits t) (c .rise .kept .0)
 
 array-share-prefix-order : tie.Need-array-share-prefix-order
-array-share-prefix-order c = part-fits _ (c .before .before .before .before .before .before .entries .result) (c .before .before .rise .last .0) (fits (c .before .before .before .before)) (c .before .before .rise .kept .0)
+array-share-prefix-order c = order-back (c .before .before) .fits
 
 slice-aggregate-tile-run : tie.Need-slice-aggregate-tile-run
-slice-aggregate-tile-run c = part-count _ (c .before .before .before .before .before .before .before .entries .result) (c .before .before .before .rise .last .0) (fits (c .before .before .before .before .before)) (c .before .before .before .rise .kept .0)
+slice-aggregate-tile-run c = order-back (c .before .before .before) .count
 
 slice-aggregate-tile-run-2 : tie.Need-slice-aggregate-tile-run-2
 slice-aggregate-tile-run-2 c = sym (c .before .before .before .work-entries .ensures)
 
-tile-run-requires : tie.Need-tile-run-requires
-tile-run-requires c κs = search needs
-
-same-length : tie.Need-same-length
-same-length c = search needs
-
 -- the rising order is good
-ordered : (c : tie.After-rise) → let n = c .before .before .before .tiles-along .result * c .before .before .tiles-along2 .result in let a = c .before .before .before .before .before .before .before .before .before .args in
-    order-good (board (plain (a .width) (a .height) (a .slow .now) (a .cells .now) (a .begins .now))) (a .across) (a .down) (take n (c .rise .last .0 ++ drop n (c .before .before .before .before .entries .result))) ≡ true
-unfolding tile-count board plain
+ordered : (c : tie.After-rise) → let t = c .before .before in let n = t .before .tiles-along .result * t .tiles-along2 .result in
+    let a = t .before .before .before .before .before .before .before .args in
+    order-good (by-lists (a .width) (a .height) (a .slow .now) (a .cells .now) (a .begins .now) .board) (a .across) (a .down)
+    (take n (c .rise .last .0 ++ drop n (t .before .before .entries .result))) ≡ true
+unfolding tile-count by-lists
 ordered c =
-    part-good _ (c .before .before .before .before .entries .result) (c .rise .last .0) (fits (c .before .before)) (c .rise .kept .0) (c .rise .ensures) _ _ _
-    (ap₂ _*_ (c .before .before .before .tiles-along .ensures .0) (c .before .before .tiles-along2 .ensures .0))
+    let t = c .before .before in
+    part-good _ (t .before .before .entries .result) (c .rise .last .0) (fits t) (c .rise .kept .0) (c .rise .ensures) _ _ _
+    (ap₂ _*_ (t .before .tiles-along .ensures) (t .tiles-along2 .ensures))
 
 returns : tie.Need-returns
+unfolding by-lists
 returns c =
-    let r = c .before .before .before .before .before .before .before .before .before in
-    let p = c .before .before .before .before .before .before .before .before .before .before .before .before .before .before .before .before .before .before in
-    let a = p .args in
-    let w = c .before .before .before .before .before .before .before .work-entries in
-    let t = c .before .before .before .tile-run in (
-      run-rounds (a .width) (a .height) (a .slow .now) (a .cells .now) (a .begins .now) (a .across) (a .down) (a .stride) (p .pre .1) _ (a .times .now) (w .result)
-          (p .pre .0) (ordered r) (w .ensures) (t .result) _ _ (t .ensures),
-      run-times (a .width) (a .height) (a .slow .now) (a .cells .now) (a .begins .now) (a .across) (a .down) (a .stride) (p .pre .1) _ (a .times .now) (w .result)
-          (p .pre .0) (ordered r) (w .ensures) (t .result) _ _ (t .ensures),
+    let n = c .before .before .before in
+    let w = n .before .before .before .before in
+    let r = w .before .before in
+    let s = r .before .before .before .before .before .before .before .before .before in
+    let a = s .args in
+    let p = by-lists (a .width) (a .height) (a .slow .now) (a .cells .now) (a .begins .now) in
+    let e = n .tile-run .ensures in (
+      run-rounds p _ _ _ (s .pre .0) (s .pre .1 .0) (s .pre .1 .1) (ordered r) (w .work-entries .ensures) _ _ _ _ e (omega arith),
+      run-times p _ _ _ (s .pre .0) (s .pre .1 .0) (s .pre .1 .1) (ordered r) (w .work-entries .ensures) _ _ _ _ e (omega arith),
     )
 
 pub run-board-spec : {M : Type 1} → statement M
 run-board-spec =
     tie.close
     (tie.spec
-    entries-requires
-    tiles-along-requires
-    tiles-along-requires-2
-    mul-tiles
-    array-borrow-prefix-order
-    slice-aggregate-rise
-    rise-requires
-    work-entries-requires
-    array-share-prefix-order
-    slice-aggregate-tile-run
-    slice-aggregate-tile-run-2
-    tile-run-requires
-    same-length
+    (λ c κs. tt) tiles-along-requires tiles-along-requires-2 mul-tiles cast-tiles array-borrow-prefix-order slice-aggregate-rise
+    rise-requires (λ c κs. tt) array-share-prefix-order slice-aggregate-tile-run slice-aggregate-tile-run-2 (λ c κs. tt) (λ c. search needs)
     returns)

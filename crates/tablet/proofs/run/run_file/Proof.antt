@@ -1,4 +1,4 @@
--- `tablet::run::run_file` meets its contract. Assumes nothing.
+-- `tablet::run::run_file` meets its contract.
 use mathlib.Core.Path.{refl, sym, ap, _∙_}
 use Prim.Native.Nat.{_≤_}
 use native.Mathlib.Omega.{arith}
@@ -8,7 +8,7 @@ use borrow.Author.Needs.{needs}
 use Rattle.eikonal.specs.Board.{size}
 use Rattle.scenario.specs.File.{held}
 use Rattle.scenario.proofs.Causes.{accepts}
-use Rattle.scenario.proofs.Answers.{entered}
+use Rattle.scenario.proofs.Answers.{filled-in}
 use Rattle.scenario.proofs.Reading.{slow-length}
 use Rattle.tablet.proofs.SmallFiles.{Small, small, cells-few}
 use Rattle.tablet.proofs.run.run_file.Statement.{statement}
@@ -16,12 +16,6 @@ use Rattle.tablet.proofs.run.run_file.Tie as tie
 
 few : (c : tie.Start) → Small (c .args .file .now)
 few c = small (c .args .file .now) (c .pre .0 .0)
-
-entries-requires : tie.Need-entries-requires
-entries-requires c κs = search needs
-
-slice-aggregate-fill-slow : tie.Need-slice-aggregate-fill-slow
-slice-aggregate-fill-slow c = search needs
 
 fill-slow-requires : tie.Need-fill-slow-requires
 fill-slow-requires c κs =
@@ -48,14 +42,12 @@ run-starts-requires c κs =
     let n = length (p .args .times .now) in (
       (
         p .pre .0 .0,
-        ap (take n) (c .before .before .before .fill-slow .ensures ∙ entered 0 (held f .slow) _ refl) ∙ take-at (held f .slow) (drop (length (held f .slow)) _) n (slow-length f (few p .taken) ∙ sym (p .pre .0 .1)),
+        ap (take n) (c .before .before .before .fill-slow .ensures ∙ filled-in 0 (held f .slow) _ refl)
+            ∙ take-at (held f .slow) (drop (length (held f .slow)) _) n (slow-length f (few p .taken) ∙ sym (p .pre .0 .1)),
         p .pre .0 .1,
       ),
       p .pre .1,
     )
-
-same-length : tie.Need-same-length
-same-length c = search needs
 
 returns : tie.Need-returns
 returns c = c .before .before .run-starts .ensures
@@ -64,11 +56,5 @@ pub run-file-spec : {M : Type 1} → statement M
 run-file-spec =
     tie.close
     (tie.spec
-    entries-requires
-    slice-aggregate-fill-slow
-    fill-slow-requires
-    array-share-prefix-slow
-    slice-aggregate-run-starts
-    run-starts-requires
-    same-length
-    returns)
+    (λ c κs. tt) (λ c. search needs) fill-slow-requires array-share-prefix-slow slice-aggregate-run-starts run-starts-requires
+    (λ c. search needs) returns)

@@ -1,0 +1,159 @@
+-- From the steps of a call to the ledger: what one step leaves meets what the next one asks, and in the end the call has kept its contract.
+use mathlib.Core.Path.{_≡_, refl, sym, ap, subst, _∙_}
+use mathlib.Core.Bool.{true}
+use mathlib.Core.Logic.{_≢_}
+use mathlib.Core.List.{List, [], _++_}
+use native.Mathlib.Decide.{ℕ-discrete}
+use native.Mathlib.Nat.{mul-le-mul}
+use native.Mathlib.Omega.{arith}
+use Prim.Native.Nat.{ℕ, _*_, _≤_}
+use lib.ListN.{length, replicate}
+use borrow.Author.Tests.{eq-eqb, ne-eqb}
+use Rattle.eikonal.specs.Board.{Board, size}
+use Rattle.eikonal.specs.Tiles.{tile-count}
+use Rattle.eikonal.specs.Refusals.{Handed, handed-refusal, order-good, job-refusal}
+use Rattle.eikonal.specs.Ledger.{Call, call-board, refusal, entered, counted, answer, ledger-answer, ledger-after, work-after}
+use Rattle.eikonal.specs.Entry.{lent, Says}
+use Rattle.eikonal.specs.declared.Refusal.{Refusal}
+use Rattle.eikonal.specs.declared.Reply.{Reply}
+use Rattle.eikonal.specs.declared.Job.{Job}
+use Rattle.eikonal.specs.declared.Job.the-variants.{March, Round, Run}
+use Rattle.eikonal.specs.declared.Start.{Start}
+use Rattle.eikonal.proofs.Good.{size-most, accepted}
+use Rattle.eikonal.proofs.Accepted.{Fits, fits, march-can, round-can, run-can}
+use Rattle.eikonal.proofs.Answers.{answered-zero, answered-refused}
+use Rattle.front.specs.State.{Begun}
+use Rattle.front.specs.declared.Shape.{Shape}
+use Rattle.front.proofs.Theory.Beginning.{begun}
+use Rattle.engine.specs.Run.{whole}
+use Rattle.engine.specs.Calls.{Fit, Through, Goes, Doable, shaped, Opened, Sowable, Sown, Endable, Ended}
+use Rattle.engine.specs.declared.calls.Task.{Task}
+use Rattle.engine.proofs.Theory.Calls.{drop-same}
+
+-- ---- an accepted job can be done in its shape, whose tiles have good sides
+module _ (b : Board) (xs : List ℕ) (wide : b .wide ≤ 256) (high : b .high ≤ 256) where
+  doable : (j : Job) → job-refusal b j xs .number ≡ 0 → Doable j (shaped (b .wide) (b .high) j) xs
+  unfolding Doable order-good tile-count
+  doable (March z) e = (wide, high, march-can b xs z e)
+  doable (Round tw th m) e = let r = round-can b xs tw th m e in (refl, refl, r .0, r .1 .ordered)
+  doable (Run tw th d z) e = let r = run-can b xs tw th d z e in (refl, refl, r .1, r .2, r .0)
+
+  tiles-sided : (j : Job) → job-refusal b j xs .number ≡ 0 → (s : Shape) → s ≡ shaped (b .wide) (b .high) j
+      → (1 ≤ s .across) × (s .across ≤ 256) × (1 ≤ s .down) × (s .down ≤ 256)
+  tiles-sided (March z) e s is = rw is (omega arith, omega arith, omega arith, omega arith)
+  tiles-sided (Round tw th m) e s is = let r = round-can b xs tw th m e .1 in rw is (r .across-low, r .across-high, r .down-low, r .down-high)
+  tiles-sided (Run tw th d z) e s is = let r = run-can b xs tw th d z e .3 in rw is (r .across-low, r .across-high, r .down-low, r .down-high)
+
+-- the board is in its shape
+in-shape : (b : Board) (j : Job) (s : Shape) → s ≡ shaped (b .wide) (b .high) j → (s .width ≡ b .wide) × (s .height ≡ b .high) × (s .cells ≡ size b)
+unfolding size
+in-shape b (March z) s is = rw is (refl, refl, refl)
+in-shape b (Round tw th m) s is = rw is (refl, refl, refl)
+in-shape b (Run tw th d z) s is = rw is (refl, refl, refl)
+
+-- ---- what a call that is not refused gives its beginning: sides that fit, and room
+pub sides-fit : (p : Handed) (r : Refusal) → r ≡ handed-refusal p → r .number ≡ 0 → (p .board .wide ≤ 256) × (p .board .high ≤ 256)
+sides-fit p r e z = let g = accepted p (sym (ap (λ (k : Refusal). k .number) e) ∙ z) .good in (g .wide-high, g .high-high)
+
+module _ (c : Call) (t : ℕ) (r : Refusal) (e : r ≡ refusal c t) (z : r .number ≡ 0) where
+  fine : Fits c t
+  fine = fits c t (sym (ap (λ (k : Refusal). k .number) e) ∙ z)
+
+  pub board-sides : (call-board c .wide ≤ 256) × (call-board c .high ≤ 256)
+  board-sides = let g = fine .given .good in (g .wide-high, g .high-high)
+
+  pub board-room : (s : Shape) → s ≡ shaped (call-board c .wide) (call-board c .high) (c .job) → (1 ≤ s .cells) × (s .cells ≤ 65536) × (4 * s .cells ≤ c .work)
+  unfolding size
+  board-room s is =
+      let g = fine .given .good in
+      rw (in-shape (call-board c) (c .job) s is .2)
+      (omega (arith, mul-le-mul (g .wide-low) (g .high-low)), omega (arith, mul-le-mul (g .wide-high) (g .high-high)), fine .work-fits)
+
+-- what is kept of the work list is kept from before the starts were placed
+through-from : {n k : ℕ} {xs : List Start} {us : List ℕ} {r : ℕ} {ts v v' w : List ℕ} → Begun n xs v v' → Through n k us r ts v' w → Through n k us r ts v w
+through-from {n = n} {v = v} {v' = v'} be th = record {
+  counts = th .counts;
+  enters = th .enters;
+  wipes = th .wipes ∙ ap (λ (x : List ℕ). replicate (4 * n) 0 ++ x) (drop-same (4 * n) v' v (be .long) (λ j l. be .rest j (omega arith)));
+}
+
+-- ---- the call c, with the task that its beginning leaves
+module _ (c : Call) (t : Task) (ts v v0 : List ℕ) (same : c .work ≡ length v) (op : Opened c (length ts) t v v0) where
+  not-refused : t .refusal .number ≡ 0 → refusal c (length ts) .number ≡ 0
+  not-refused z = sym (ap (λ (k : Refusal). k .number) (op .judged)) ∙ z
+
+  fit : t .refusal .number ≡ 0 → Fits c (length ts)
+  fit z = fits c (length ts) (not-refused z)
+
+  cells-are : t .refusal .number ≡ 0 → t .shape .cells ≡ size (call-board c)
+  cells-are z = in-shape (call-board c) (c .job) (t .shape) (op .shape-is z) .2
+
+  -- plain lists of its starts are of one length
+  pub even : t .refusal .number ≡ 0 → c .handed .paired ≡ true
+  even z = fit z .given .paired
+
+  -- its starts can be placed
+  pub sowable : Sowable t (call-board c .starts) v0
+  sowable z = (rw (cells-are z) (size-most (fit z .given .good)), op .emptied z .placed, rw (cells-are z) (fit z .given .rise))
+
+  module _ (v1 : List ℕ) (so : Sown t (call-board c .starts) v0 v1) where
+    stands : t .refusal .number ≡ 0 → Begun (t .shape .cells) (call-board c .starts) v v1
+    stands z = begun (t .shape .cells) (call-board c .starts) v v0 v1 (sowable z .2) (fit z .given .timely) (op .emptied z) (so .sown z)
+
+    fitting : (z : t .refusal .number ≡ 0) → Fit (t .shape) (call-board c .slow) (call-board c .starts) ts v1
+    unfolding size
+    fitting z =
+        let b = call-board c in
+        let i = in-shape b (c .job) (t .shape) (op .shape-is z) in
+        let g = fit z .given .good in
+        let d = tiles-sided b (c .order) (g .wide-high) (g .high-high) (c .job) (fit z .can) (t .shape) (op .shape-is z) in
+        record {
+          good = rw (i .0, i .1) g;
+          size = rw (i .2, i .0, i .1) refl;
+          across-low = d .0;
+          across-high = d .1;
+          down-low = d .2;
+          down-high = d .3;
+          many = fit z .times-fit ∙ sym (i .2);
+          room = omega (arith, fit z .work-fits, i .2, stands z .long, same);
+        }
+
+    -- the job can be done
+    pub endable : Endable t (c .job) (call-board c .slow) (c .order) ts v1
+    endable z =
+        let g = fit z .given .good in (
+          record { starts = call-board c .starts; fit = fitting z; stands = stands z .stands },
+          subst (λ (s : Shape). Doable (c .job) s (c .order)) (sym (op .shape-is z))
+              (doable (call-board c) (c .order) (g .wide-high) (g .high-high) (c .job) (fit z .can)),
+        )
+
+    -- and once it is, the call has kept its contract
+    through : (z : t .refusal .number ≡ 0) (r : ℕ) (us u : List ℕ) → Goes (c .job) (t .shape) (call-board c .slow) r ts us v1 u
+        → Through (size (call-board c)) (counted (call-board c) (c .job) ts) (entered (call-board c) (c .job) ts) r us v u
+    through z r us u go =
+        let b = call-board c in
+        let i = in-shape b (c .job) (t .shape) (op .shape-is z) in
+        let is : whole (t .shape) (b .slow) (b .starts) ≡ b = rw (i .0, i .1) refl in
+        rw (is, i .2) at (through-from (stands z) (go (b .starts) (fitting z) (stands z .stands)))
+
+    pub says : (x : Reply) (us u : List ℕ) → Ended t (c .job) (call-board c .slow) x ts us v1 u → Says c x (lent ts v) (lent us u)
+    unfolding ledger-answer ledger-after work-after
+    says x us u en = elim (ℕ-discrete (t .refusal .number) 0) [
+      | yes z ↦
+          let k = not-refused z in
+          let g = en .gone-through z in
+          let th = through z (x .count) us u (g .1) in
+          record {
+            answers = g .0 ∙ ap (answer 0) (th .counts) ∙ sym (answered-zero (refusal c (length ts)) _ k);
+            leaves = th .enters ∙ rw (eq-eqb (refusal c (length ts) .number) 0 k);
+            works = th .wipes ∙ rw (eq-eqb (refusal c (length ts) .number) 0 k);
+          }
+      | no d ↦
+          let k : refusal c (length ts) .number ≢ 0 = λ e. d (ap (λ (q : Refusal). q .number) (op .judged) ∙ e) in
+          let r = en .turned-down d in
+          record {
+            answers = r .0 ∙ ap (λ (q : Refusal). answer (q .number) 0) (op .judged) ∙ sym (answered-refused (refusal c (length ts)) _ k);
+            leaves = r .1 ∙ rw (ne-eqb (refusal c (length ts) .number) 0 k);
+            works = r .2 ∙ so .kept d ∙ op .kept d ∙ rw (ne-eqb (refusal c (length ts) .number) 0 k);
+          }
+    ]

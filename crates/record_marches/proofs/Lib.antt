@@ -1,4 +1,0 @@
-pub mod Placing
-pub mod Closing
-pub mod Calling
-pub mod Promises

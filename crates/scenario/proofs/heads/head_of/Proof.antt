@@ -1,0 +1,28 @@
+-- `scenario::heads::head_of` meets its contract.
+use borrow.Author.Needs.{needs}
+use Rattle.scenario.specs.File.{head-in}
+use Rattle.scenario.proofs.heads.head_of.Statement.{statement}
+use Rattle.scenario.proofs.heads.head_of.Tie as tie
+
+returns : tie.Need-returns
+unfolding head-in
+returns c =
+    let runs = c .before in
+    let ground = runs .before in
+    let ticks = ground .before in
+    let height = ticks .before in
+    λ i. record {
+      width = height .before .two-at .ensures .0 i;
+      height = height .two-at2 .ensures .0 i;
+      ticks = ticks .two-at3 .ensures .0 i;
+      ground = ground .two-at4 .ensures .0 i;
+      runs = runs .four-at .ensures i;
+      starts = c .four-at2 .ensures i;
+    }
+
+pub head-of-spec : {M : Type 1} → statement M
+head-of-spec =
+    tie.close
+    (tie.spec
+    (λ c κs. search needs) (λ c κs. search needs) (λ c κs. search needs) (λ c κs. search needs) (λ c κs. search needs)
+    (λ c κs. search needs) returns)
