@@ -1,6 +1,7 @@
 // This tree and another commit in one interleaved run: each row is timed on both, one directly after the other and each
 // of them first by turns. Both must give the same answers and the same times.
 #include "adapter.hpp"
+#include "boards.hpp"
 #include <deque>
 #include <memory>
 
@@ -19,7 +20,26 @@ struct Line {
     const Both &on;
     const Row row;
     Took took[2];
+
+    double ratio() const { return ::ratio(took[0], took[1]); }
 };
+
+bool lower(const Line *a, const Line *b) { return a->ratio() < b->ratio(); }
+
+// For each call the greatest ratio of all boards, and of those the greatest: what a bar is read off.
+void summary(const std::deque<Line> &lines) {
+    std::printf("\ngreatest ratio of all boards\n");
+    std::vector<const Line *> worst;
+    for (const Row &row : rows) {
+        std::vector<const Line *> of_call;
+        for (const Line &line : lines)
+            if (line.row.play == row.play) of_call.push_back(&line);
+        worst.push_back(*std::max_element(of_call.begin(), of_call.end(), lower));
+        std::printf("%-10s %8.2f  %s\n", row.name, worst.back()->ratio(), worst.back()->on.board.name);
+    }
+    const Line &all = **std::max_element(worst.begin(), worst.end(), lower);
+    std::printf("%-10s %8.2f  %s, %s\n", "all", all.ratio(), all.row.name, all.on.board.name);
+}
 
 } // namespace
 
@@ -35,9 +55,10 @@ int main(int, char **argv) {
         else
             std::printf("%s: bench/calls.hpp of %s does not have it\n", row.name, argv[2]);
     };
-    for (const auto &b : yardstick::boards()) {
+    for (const auto &b : all_boards()) {
         boards.emplace_back(b);
-        for (const Row &row : rows) add(boards.back(), row);
+        for (const Row &row : rows)
+            if (row.measured(b)) add(boards.back(), row);
     }
     add(boards[1], {"local rule", [](Lent &l) { return l.rule(); }});
     boards.emplace_back(yardstick::Board{"no board", 1, 1, {1}, {}, {}});
@@ -58,7 +79,8 @@ int main(int, char **argv) {
 
     std::printf("%d interleaved runs, medians; 256 x 256 cells, horizon %u\n", runs, horizon);
     std::printf("%-20s %-10s %14s %14s %8s\n", "board", "call", "this tree (us)", argv[2], "ratio");
-    for (const auto &[on, row, took] : lines)
-        std::printf("%-20s %-10s %14.0f %14.0f %8.2f\n", on.board.name, row.name, median(took[0]), median(took[1]),
-            ratio(took[0], took[1]));
+    for (const Line &line : lines)
+        std::printf("%-20s %-10s %14.0f %14.0f %8.2f\n", line.on.board.name, line.row.name, median(line.took[0]),
+            median(line.took[1]), line.ratio());
+    summary(lines);
 }

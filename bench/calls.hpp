@@ -20,6 +20,10 @@ class Calls final : public Lent {
     }
     // How many tiles there are; the first so many entries of `order` name them, rising.
     size_t tiles(uint32_t side) const { return size_t((w + side - 1) / side) * ((h + side - 1) / side); }
+    uint32_t round_to(uint32_t side, uint32_t bound) {
+        return accepted(murgolab_one_round_plain(w, h, b.slow.data(), n, b.cells.data(), starts, b.begins.data(),
+            starts, side, side, bound, order.data(), tiles(side), times_.data(), n, work.data(), 4 * n));
+    }
 
 public:
     explicit Calls(const yardstick::Board &board)
@@ -31,10 +35,7 @@ public:
         return accepted(murgolab_march_plain(w, h, b.slow.data(), n, b.cells.data(), starts, b.begins.data(), starts,
             horizon, times_.data(), n, work.data(), 4 * n));
     }
-    uint32_t round(uint32_t side) override {
-        return accepted(murgolab_one_round_plain(w, h, b.slow.data(), n, b.cells.data(), starts, b.begins.data(),
-            starts, side, side, horizon, order.data(), tiles(side), times_.data(), n, work.data(), 4 * n));
-    }
+    uint32_t round(uint32_t side) override { return round_to(side, horizon); }
     uint32_t run(uint32_t side, uint32_t stride) override {
         return accepted(murgolab_tile_run_plain(w, h, b.slow.data(), n, b.cells.data(), starts, b.begins.data(), starts,
             side, side, stride, horizon, order.data(), tiles(side), times_.data(), n, work.data(), 4 * n));
@@ -67,6 +68,10 @@ public:
         for (uint32_t k = 0; k < passes; k++)
             for (uint32_t s = first; s < end; s++) sum += accepted(murgolab_diagonal(s));
         return sum;
+    }
+    uint32_t round_of_run(uint32_t side, uint32_t stride, uint32_t j) override {
+        if (j == 1) std::fill(times_.begin(), times_.end(), MURGOLAB_NEVER);
+        return round_to(side, std::min<uint64_t>(uint64_t(j) * stride, horizon));
     }
 };
 

@@ -2,6 +2,7 @@
 // slows all of them. Neither times nor work are cleared before a timed call: times hold what the call before left,
 // work its zeros.
 #include "adapter.hpp"
+#include "boards.hpp"
 #include <memory>
 
 namespace {
@@ -18,7 +19,7 @@ double late(uint32_t slowness, yardstick::FastMarching &fast) {
 
 int main(int, char **argv) {
     const int runs = std::atoi(argv[1]);
-    const auto boards = yardstick::boards();
+    const auto boards = all_boards();
     constexpr size_t calls = std::size(rows);
     std::vector<std::vector<Took>> took(boards.size(), std::vector<Took>(calls));
     std::vector<Took> yard(boards.size());
@@ -30,10 +31,12 @@ int main(int, char **argv) {
     for (int k = 0; k < runs; k++) {
         for (size_t i = 0; i < boards.size(); i++) {
             yard[i].push_back(micros([&] { sink = fast.march(boards[i])[0]; }));
-            for (size_t m = 0; m < calls; m++) took[i][m].push_back(micros([&] { rows[m].play(*lent[i]); }));
+            for (size_t m = 0; m < calls; m++)
+                if (rows[m].measured(boards[i])) took[i][m].push_back(micros([&] { rows[m].play(*lent[i]); }));
         }
         rule.push_back(micros([&] { sink = lent[1]->rule(); }));
-        for (size_t m = 0; m < std::size(steps); m++) step[m].push_back(micros([&] { sink = steps[m].play(*lent[0]); }));
+        for (size_t m = 0; m < std::size(steps); m++)
+            step[m].push_back(micros([&] { sink = steps[m].play(*lent[0]); }));
     }
     std::printf("%d interleaved runs, medians; 256 x 256 cells, horizon %u; times and work not cleared between calls\n",
         runs, horizon);
@@ -43,7 +46,11 @@ int main(int, char **argv) {
     for (size_t i = 0; i < boards.size(); i++) {
         const Took &march = took[i][0];
         std::printf("%-20s %12.0f %15.2f", boards[i].name, median(march), ratio(march, yard[i]));
-        for (size_t m = 1; m < calls; m++) std::printf(" %9.2f", ratio(took[i][m], march));
+        for (size_t m = 1; m < calls; m++)
+            if (took[i][m].empty())
+                std::printf(" %9s", "-");
+            else
+                std::printf(" %9.2f", ratio(took[i][m], march));
         std::printf("\n");
     }
     std::printf("local rule on b: %.1f ns a call\n", 1000 * median(rule) / (254 * 256));

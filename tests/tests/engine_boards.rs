@@ -133,7 +133,8 @@ fn a_round_forgets_what_the_tile_held() {
     assert_eq!((reply, after), (Reply::accepted(2), vec![40, NEVER]));
 }
 
-/// The largest boards: even, scattered, walled, a snake with the latest times that there are.
+/// The largest boards: even, scattered, walled, all cells starting, at random times and each before the last, a snake
+/// with the latest times that there are.
 fn largest_boards() -> Vec<Board> {
     let mut r = Random::new(77);
     let mut board = |slow: &mut dyn FnMut(&mut Random) -> u32| {
@@ -147,8 +148,10 @@ fn largest_boards() -> Vec<Board> {
     let walled = board(&mut |r| if r.below(10) < 3 { 0 } else { r.within(1, 100) });
     let cells: Vec<u32> = (0..65_536).collect();
     let begins = cells.iter().map(|c| c * 40_503 % 1_000_001).collect();
-    let crowded = Board { cells, begins, ..even.clone() };
-    vec![even, scattered, walled, crowded, snake(256, 256, 4_095)]
+    let crowded = Board { cells: cells.clone(), begins, ..even.clone() };
+    let begins = cells.iter().map(|c| 1_000_000 - 15 * c).collect();
+    let falling = Board { cells, begins, ..even.clone() };
+    vec![even, scattered, walled, crowded, falling, snake(256, 256, 4_095)]
 }
 
 #[test]
@@ -163,7 +166,7 @@ fn the_largest_boards_are_marched() {
 #[test]
 fn the_largest_boards_are_run_and_rounded_over_tiles() {
     for (i, board) in largest_boards().into_iter().enumerate() {
-        let side = [8, 32, 16, 8, 64][i];
+        let side = [8, 32, 16, 8, 24, 64][i];
         let order = rising(&board, side, side);
         for stride in [65_536, 1] {
             let run = Kind::Run { across: side, down: side, stride, horizon: LARGEST, order: order.clone() };

@@ -8,7 +8,7 @@ use lib.ListN.{length, getD, take}
 use lib.Seq.{take-suc}
 use Rattle.eikonal.specs.Refusals.{any-above}
 
-pub any-above-append : (m : ℕ) (xs ys : List ℕ) → any-above m (xs ++ ys) ≡ any-above m xs || any-above m ys
+any-above-append : (m : ℕ) (xs ys : List ℕ) → any-above m (xs ++ ys) ≡ any-above m xs || any-above m ys
 unfolding any-above
 any-above-append m [] ys = refl
 any-above-append m (x ∷ xs) ys = ap (λ (b : Bool). ltb m x || b) (any-above-append m xs ys) ∙ sym (or-assoc (ltb m x) (any-above m xs) (any-above m ys))

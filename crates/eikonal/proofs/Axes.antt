@@ -14,7 +14,7 @@ use Rattle.eikonal.specs.Board.{never, least-from, square}
 use Rattle.eikonal.proofs.Levels.{order, Agree, Under}
 use Rattle.eikonal.proofs.Least.{Least, least, least-bound}
 
-pub square-mono : {a b : ℕ} → a ≤ b → square a ≤ square b
+square-mono : {a b : ℕ} → a ≤ b → square a ≤ square b
 unfolding square
 square-mono h = mul-le-mul h h
 
@@ -136,7 +136,7 @@ module _ (far m w : ℕ) (ws : List ℕ) (enough : Enough far m w ws) where
       go (comes q n l) i = least-bound l v (omega arith) k
 
   -- so it follows the axes, as far as they go before v
-  pub axes-follow : (f g : ℕ → ℕ) (v : ℕ) → v < never → ((i : ℕ) → v - g i ≤ v - f i) → local-axes far m w ws g ≤ v → local-axes far m w ws f ≤ v
+  axes-follow : (f g : ℕ → ℕ) (v : ℕ) → v < never → ((i : ℕ) → v - g i ≤ v - f i) → local-axes far m w ws g ≤ v → local-axes far m w ws f ≤ v
   axes-follow f g v h p k =
       let r = axes-passes g v h k in
       passes-local-axes f v h (r .0) (axes-on m w ws g f v v p (r .1))

@@ -37,7 +37,7 @@ module _ (b : Board) (look : Look) (sound : Sound look) (g : Good b) (m : ℕ) (
           sym (ap (min m) (cut-time m (solved-by b look) e low) ∙ clip-low m m (time (solved-by b look) e) (omega arith) (omega arith))
 
   -- and it alone does
-  pub cut-by-rule : (ts : List ℕ) → length ts ≡ size b
+  cut-by-rule : (ts : List ℕ) → length ts ≡ size b
       → ((c : ℕ) → c < size b → time ts c ≡ clip m (met b c (look (time ts) c))) → ts ≡ cut m (solved-by b look)
   unfolding time
   cut-by-rule ts l meets = ext-getD never ts (cut m (solved-by b look)) same-length (λ c h. same c)

@@ -33,7 +33,7 @@ row-low w h c l k = go (order (c / w) h)
     go (inr i) = absurd (omega (arith, mul-le-mul-right w i, div-add-mod' c w))
 
 -- the cell below is on the board just if the row is not the last
-pub below-on : (w h c : ℕ) → 1 ≤ w → c < w * h → suc (c / w) ≢ h → c + w < w * h
+below-on : (w h c : ℕ) → 1 ≤ w → c < w * h → suc (c / w) ≢ h → c + w < w * h
 below-on w h c l k e =
     let i : suc (suc (c / w)) ≤ h = omega (arith, row-low w h c l k, e) in
     omega (arith, mul-le-mul-right w i, div-add-mod' c w, mod-lt c l)
@@ -53,7 +53,7 @@ pub above-off : (w c : ℕ) → 1 ≤ w → c / w ≡ 0 → c < w
 above-off w c l e = omega (arith, div-add-mod' c w, mod-lt c l, ap (λ (x : ℕ). x * w) e)
 
 -- the cell to the right of a cell that is not in the last column is on the board
-pub right-on : (w h c : ℕ) → 1 ≤ w → c < w * h → suc (c % w) ≢ w → suc c < w * h
+right-on : (w h c : ℕ) → 1 ≤ w → c < w * h → suc (c % w) ≢ w → suc c < w * h
 right-on w h c l k e =
     let i : suc (c / w) ≤ h = row-low w h c l k in
     omega (arith, mul-le-mul-right w i, div-add-mod' c w, mod-lt c l, e)

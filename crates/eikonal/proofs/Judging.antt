@@ -27,7 +27,7 @@ starts-of-append (c ∷ cs) [] ds us e = absurd (omega arith)
 starts-of-append (c ∷ cs) (t ∷ ts) ds us e =
     ap (λ (xs : List Start). record { cell = c; time = t } ∷ xs) (starts-of-append cs ts ds us (omega arith))
 
-pub judge-parts : (ss cs ts ds us : List ℕ) (j : Judged) → length cs ≡ length ts
+judge-parts : (ss cs ts ds us : List ℕ) (j : Judged) → length cs ≡ length ts
     → judge ss (starts-of (cs ++ ds) (ts ++ us)) j ≡ judge ss (starts-of ds us) (judge ss (starts-of cs ts) j)
 judge-parts ss cs ts ds us j e = rw (starts-of-append cs ts ds us e) (judge-append ss (starts-of cs ts) (starts-of ds us) j)
 

@@ -49,7 +49,7 @@ enough : (s : ℕ) → Enough s s 1 second
 unfolding Enough
 enough s = (omega arith, omega arith)
 
-pub passes-is : (s a b t : ℕ) → passes s a b t ≡ passes-axes s 1 second (two a b) t
+passes-is : (s a b t : ℕ) → passes s a b t ≡ passes-axes s 1 second (two a b) t
 unfolding passes passes-axes pull two
 passes-is s a b t =
     let p : 1 * (t - a) ≡ t - a = omega arith in

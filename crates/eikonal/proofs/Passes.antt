@@ -3,7 +3,7 @@ use mathlib.Core.Path.{_≡_, refl, sym, ap, _∙_, fun-ext}
 use mathlib.Core.Bool.{Bool, true, false, cond}
 use mathlib.Core.List.{List}
 use mathlib.Core.Logic.{_⊎_, inl, inr}
-use Prim.Native.Nat.{ℕ, zero, suc, _+_, _-_, _≤_, _<_, min}
+use Prim.Native.Nat.{ℕ, zero, suc, _+_, _≤_, _<_, min}
 use native.Mathlib.Omega.{arith}
 use native.Mathlib.Nat.{add-zero, add-suc, zero-add, suc-add}
 use lib.Dec.{ltb}
@@ -32,12 +32,12 @@ unfolding rule
 rule-off b look f c h = rw (le-ltb c (size b) h)
 
 -- ---- lists of times
-pub pass-length : (n k : ℕ) (b : Board) (f : ℕ → ℕ → ℕ) → length (one-pass n k b f) ≡ n
+pass-length : (n k : ℕ) (b : Board) (f : ℕ → ℕ → ℕ) → length (one-pass n k b f) ≡ n
 unfolding one-pass
 pass-length zero k b f = refl
 pass-length (suc n) k b f = ap suc (pass-length n (suc k) b f)
 
-pub pass-time : (n k c : ℕ) (b : Board) (f : ℕ → ℕ → ℕ) → c < n → time (one-pass n k b f) c ≡ met b (k + c) (f (k + c))
+pass-time : (n k c : ℕ) (b : Board) (f : ℕ → ℕ → ℕ) → c < n → time (one-pass n k b f) c ≡ met b (k + c) (f (k + c))
 unfolding one-pass time
 pass-time zero k c b f h = absurd (omega arith)
 pass-time (suc n) k zero b f h = rw add-zero
@@ -48,7 +48,7 @@ unfolding time
 time-off ts c h = List·getD-eq-default ts never h
 
 module _ (b : Board) (look : Look) where
-  pub pass-is : (ts : List ℕ) (c : ℕ) → time (one-pass (size b) 0 b (look (time ts))) c ≡ rule b look (time ts) c
+  pass-is : (ts : List ℕ) (c : ℕ) → time (one-pass (size b) 0 b (look (time ts))) c ≡ rule b look (time ts) c
   pass-is ts c = go (order c (size b))
     where
       go : (c < size b) ⊎ (size b ≤ c) → time (one-pass (size b) 0 b (look (time ts))) c ≡ rule b look (time ts) c
@@ -56,7 +56,7 @@ module _ (b : Board) (look : Look) where
       go (inr h) =
           time-off (one-pass (size b) 0 b (look (time ts))) c (rw pass-length h) ∙ sym (rule-off b look (time ts) c h)
 
-  pub passes-are : (n i : ℕ) (ts : List ℕ) → time ts ≡ worked never (rule b look) i
+  passes-are : (n i : ℕ) (ts : List ℕ) → time ts ≡ worked never (rule b look) i
       → time (passes-of n b (λ us. look (time us)) ts) ≡ worked never (rule b look) (n + i)
   unfolding passes-of worked
   passes-are zero i ts e = rw zero-add e
@@ -64,7 +64,7 @@ module _ (b : Board) (look : Look) where
       rw (suc-add, ← add-suc)
       (passes-are n (suc i) (one-pass (size b) 0 b (look (time ts))) (fun-ext (pass-is ts) ∙ ap (rule b look) e))
 
-  pub passes-length : (n : ℕ) (ts : List ℕ) → length ts ≡ size b → length (passes-of n b (λ us. look (time us)) ts) ≡ size b
+  passes-length : (n : ℕ) (ts : List ℕ) → length ts ≡ size b → length (passes-of n b (λ us. look (time us)) ts) ≡ size b
   unfolding passes-of
   passes-length zero ts e = e
   passes-length (suc n) ts e = passes-length n (one-pass (size b) 0 b (look (time ts))) (pass-length (size b) 0 b (look (time ts)))
@@ -97,7 +97,7 @@ pub record Sound (look : Look) : Type 0 where
   pub agree : (t : ℕ) (f g : ℕ → ℕ) → Agree t f g → (c : ℕ) → Agree t (look f c) (look g c)
   pub under : (f g : ℕ → ℕ) → Under never f g → (c : ℕ) → Under never (look f c) (look g c)
 
-pub rule-agree : (b : Board) (k l : Look) (f g : ℕ → ℕ) (t c : ℕ) → t < never → Agree t (k f c) (l g c)
+rule-agree : (b : Board) (k l : Look) (f g : ℕ → ℕ) (t c : ℕ) → t < never → Agree t (k f c) (l g c)
     → min (suc t) (rule b k f c) ≡ min (suc t) (rule b l g c)
 unfolding rule
 rule-agree b k l f g t c h a = go (ltb c (size b))
@@ -127,7 +127,7 @@ module _ (b : Board) (look : Look) (sound : Sound look) where
   pub rule-causal : Causal never (rule b look)
   rule-causal t f g h a c = rule-agree b look look f g t c h (sound .agree t f g a c)
 
-  pub rule-monotone : Monotone never (rule b look)
+  rule-monotone : Monotone never (rule b look)
   rule-monotone f g a c = rule-under b look look f g c (sound .under f g a c)
 
   off : (j c : ℕ) → size b ≤ c → never ≤ worked never (rule b look) j c
@@ -136,7 +136,7 @@ module _ (b : Board) (look : Look) (sound : Sound look) where
   off (suc j) c h = omega (arith, rule-off b look (worked never (rule b look) j) c h)
 
   -- after n passes, and after any more, the state is the limit's
-  pub worked-out : (j : ℕ) → size b ≤ j → Agree never (worked never (rule b look) j) (worked never (rule b look) (size b))
+  worked-out : (j : ℕ) → size b ≤ j → Agree never (worked never (rule b look) j) (worked never (rule b look) (size b))
   worked-out j h c =
       reached-limit never (rule b look) rule-causal rule-monotone (size b) j (off never)
       (omega (arith, count-most (size b) never (worked never (rule b look) never))) c
@@ -144,7 +144,7 @@ module _ (b : Board) (look : Look) (sound : Sound look) where
       (count-most (size b) never (worked never (rule b look) never)) c)
 
   module _ (g : Good b) where
-    pub rule-most : (f : ℕ → ℕ) (c : ℕ) → rule b look f c ≤ never
+    rule-most : (f : ℕ → ℕ) (c : ℕ) → rule b look f c ≤ never
     unfolding rule
     rule-most f c = go (ltb c (size b))
       where

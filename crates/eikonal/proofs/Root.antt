@@ -9,6 +9,17 @@ use native.Mathlib.Nat.{mul-le-mul, mul-le-mul-right, le-of-mul-le-mul-left, div
 abbrev pub Enough : (s d e : ℕ) → Type 0
 Enough s d e = s * s ≤ (d + e) * (d + e) + e * e
 
+-- as many as the slowness are enough
+pub as-many : (s d e : ℕ) → s ≤ e → Enough s d e
+as-many s d e h = omega (arith, mul-le-mul h h)
+
+-- the squares of numbers below 8192 fit, and so does their sum
+small : (x : ℕ) → x < 8192 → x * x ≤ 67092481
+small x h = let k : x ≤ 8191 = omega arith in mul-le-mul k k
+
+pub squares-fit : (d e : ℕ) → d + e < 8192 → (d + e) * (d + e) + e * e ≤ 134184962
+squares-fit d e h = omega (arith, small (d + e) h, small e (omega arith))
+
 -- ---- lines
 two-products : (x y : ℕ) → 2 * (x * y) ≤ x * x + y * y
 two-products x y = elim (decLe x y) [
@@ -23,7 +34,7 @@ two-products x y = elim (decLe x y) [
     more a k = omega arith
 
 -- no point past a line that clears the disc of radius s lies within it
-pub beyond : (u v k s x y : ℕ) → 1 ≤ k → u * u + v * v ≤ k * k → k * s ≤ u * x + v * y → s * s ≤ x * x + y * y
+beyond : (u v k s x y : ℕ) → 1 ≤ k → u * u + v * v ≤ k * k → k * s ≤ u * x + v * y → s * s ≤ x * x + y * y
 beyond u v k s x y h l m =
     le-of-mul-le-mul-left {k = k * k}
     (omega (arith, mul-le-mul m m, two-products (u * y) (v * x), mul-le-mul-right (x * x + y * y) l))
@@ -82,3 +93,11 @@ module _ (s d : ℕ) (near : d < s) where
       let a : d + suc e - 1 ≡ d + e = omega arith in
       let b : suc e - 1 ≡ e = omega arith in
       rw (a, b) (omega arith)
+
+  -- where one tick fewer is too few, no fewer are enough
+  pub no-fewer : (e k : ℕ) → (d + e - 1) * (d + e - 1) + (e - 1) * (e - 1) < s * s → Enough s d k → e ≤ k
+  no-fewer e k f g = elim (decLe e k) [
+    | yes l ↦ l
+    | no l ↦ (let x : d + k ≤ d + e - 1 = omega arith in let y : k ≤ e - 1 = omega arith in
+        absurd (omega (arith, mul-le-mul x x, mul-le-mul y y)))
+  ]

@@ -43,7 +43,7 @@ module _ (b : Board) (g : Good b) (tw th : ℕ) where
   unfolding round solved-in-tiles solved-by
   round-time m ts c h = cut-time m (solved-by b (tiled b tw th ts)) c h
 
-  pub round-length : (m : ℕ) (ts : List ℕ) → length (round b tw th m ts) ≡ size b
+  round-length : (m : ℕ) (ts : List ℕ) → length (round b tw th m ts) ≡ size b
   unfolding round solved-in-tiles solved-by
   round-length m ts = cut-length m (solved-by b (tiled b tw th ts)) ∙ solved-length b (tiled b tw th ts)
 
@@ -101,7 +101,7 @@ module _ (b : Board) (g : Good b) (tw th : ℕ) where
       see u i k c e = pick (eqb (tile-of b tw th c) (tile-of b tw th e)) u e i (k e)
 
   -- A ROUND AT THE HORIZON has one level more of the march than it was lent
-  pub round-step : (h t : ℕ) (ts : List ℕ) → h ≤ largest → t < never → Agree t (time ts) (time (marched b h))
+  round-step : (h t : ℕ) (ts : List ℕ) → h ≤ largest → t < never → Agree t (time ts) (time (marched b h))
       → Agree (suc t) (time (round b tw th h ts)) (time (marched b h))
   round-step h t ts l k a c =
       ap (min (suc t)) (round-time h ts c (omega arith))
@@ -178,7 +178,7 @@ module _ (b : Board) (g : Good b) (tw th : ℕ) where
     is-march k a = ext-getD never (after k) (marched b h) (after-length k ∙ sym (marched-long b h)) (λ c i. omega (arith, a c, march-most c, after-most k c))
 
     -- WHERE A ROUND AT THE HORIZON ALTERS NOTHING the march's times are reached
-    pub still-march : (k : ℕ) → h ≤ suc k * s → after k ≡ after (suc k) → after (suc k) ≡ marched b h
+    still-march : (k : ℕ) → h ≤ suc k * s → after k ≡ after (suc k) → after (suc k) ≡ marched b h
     still-march k i e = is-march (suc k) (go never (omega arith))
       where
         go : (t : ℕ) → t ≤ never → Agree t (time (after (suc k))) (time (marched b h))
@@ -186,7 +186,7 @@ module _ (b : Board) (g : Good b) (tw th : ℕ) where
         go (suc t) j c = after-step k t i j (rw e (go t (omega arith))) c
 
     -- AS MANY ROUNDS at the horizon as cells are reached come to the march
-    pub soon-march : (k j : ℕ) → h ≤ suc k * s → reached h (solved b) ≤ j → after (k + j) ≡ marched b h
+    soon-march : (k j : ℕ) → h ≤ suc k * s → reached h (solved b) ≤ j → after (k + j) ≡ marched b h
     soon-march k j i r = is-march (k + j) (settles (size b) never (time (marched b h)) (λ j. time (after (k + j))) off (λ j. after-march (k + j)) step never j
         (omega arith) (omega (arith, march-count)))
       where

@@ -83,14 +83,14 @@ known-up : (m n t : ℕ) → m ≤ n → Known m t → Known n t
 known-up m n t h (inl e) = inl e
 known-up m n t h (inr k) = inr (omega arith)
 
-pub met-known : {b : Board} → Good b → (m c : ℕ) (f : ℕ → ℕ) → 995905 ≤ m → ((e : ℕ) → Known m (f e)) → Known (m + 4095) (met b c f)
+met-known : {b : Board} → Good b → (m c : ℕ) (f : ℕ → ℕ) → 995905 ≤ m → ((e : ℕ) → Known m (f e)) → Known (m + 4095) (met b c f)
 met-known {b} g m c f h k =
     rw (met-is b c f)
     (earlier-known (m + 4095) _ _
     (known-up 1000000 (m + 4095) (start-time c (b .starts)) (omega arith) (g .starts-known c))
     (local-known m (slowness b c) (along b c f) (down b c f) (g .slow-most c) (sides-known m _ _ _ _ f k) (sides-known m _ _ _ _ f k)))
 
-pub rule-known : {b : Board} → Good b → (look : Look) (m c : ℕ) (f : ℕ → ℕ) → 995905 ≤ m → ((e : ℕ) → Known m (look f c e)) → Known (m + 4095) (rule b look f c)
+rule-known : {b : Board} → Good b → (look : Look) (m c : ℕ) (f : ℕ → ℕ) → 995905 ≤ m → ((e : ℕ) → Known m (look f c e)) → Known (m + 4095) (rule b look f c)
 unfolding rule
 rule-known {b} g look m c f h k = cond-known (ltb c (size b)) (m + 4095) _ _ (met-known g m c (look f c) h k) (inl refl)
 

@@ -7,8 +7,8 @@ use Prim.Native.Nat.{ℕ, zero, suc, _+_, _*_, _%_, _≤_, _<_, min, max}
 use lib.Dec.{eqb}
 use lib.ListN.{length}
 use Rattle.eikonal.specs.Board.{Board, size, slowness, start-time, time, Meets, solved, marched, reached, diagonal, local, never, largest}
-use Rattle.eikonal.specs.declared.Start.{Start}
 use Rattle.eikonal.specs.Board.{all-never, passes, earlier}
+use Rattle.eikonal.specs.declared.Start.{Start}
 use Rattle.eikonal.specs.Tiles.{Meets-in-tiles, solved-in-tiles, after-rounds, last-round, rounds, up}
 use Rattle.eikonal.specs.Refusals.{Handed, by-lists, by-records, starts-of, cells-of, begins-of, board-refusal, order-good}
 use Rattle.eikonal.specs.Ledger.{Call, call, refusal, ledger-answer, ledger-after, Book, book, ledger}

@@ -1,9 +1,9 @@
 // The arrival time of a front at a cell, from the times of its four neighbours: the local rule.
-//
 // Of the two sides, left or right and above or below, one comes first and the other `apart` ticks after it. `past` ticks after
 // the second are enough if (apart + past)² + past² reaches the square of the slowness.
 ghost use mathlib.Core.Path.{_≡_};
 ghost use Prim.Native.Nat.{_+_, _-_, _*_, _≤_, _<_, min, max};
+ghost use lib.Dec.{ltb};
 ghost use Rattle.eikonal.specs.Board.{never, local};
 ghost use Rattle.eikonal.specs.Entry.{seen, Local-says};
 use super::Reply;
@@ -66,26 +66,49 @@ pub fn least_past(slowness: u32, apart: u32) -> u32
     }
 }
 
-// The local rule of any times, at most never.
-pub fn arrival_time(slowness: u32, left: u32, right: u32, above: u32, below: u32) -> u32
+// Whether so many ticks past the second are too few. As many as the slowness are enough: of fewer the squares fit.
+fn too_few(slowness: u32, apart: u32, past: u32) -> bool
+    requires { ⌜ (apart < slowness) × (slowness ≤ 4095) ⌝ }
+    ensures { λ r. ⌜ r ≡ ltb ((apart + past) * (apart + past) + past * past) (slowness * slowness) ⌝ }
+{
+    if past >= slowness {
+        return false;
+    }
+    let whole = apart + past;
+    whole * whole + past * past < slowness * slowness
+}
+
+// The local rule of any times, at most the limit: one tick before the limit is tried first, so that Newton's steps are spent only
+// where they lower it.
+pub fn arrival_before(
+    limit: u32,
+    slowness: u32,
+    left: u32,
+    right: u32,
+    above: u32,
+    below: u32,
+) -> u32
     requires { ⌜ slowness ≤ 4095 ⌝ }
-    ensures { λ r. ⌜ r ≡ min never (local slowness left right above below) ⌝ }
+    ensures { λ r. ⌜ r ≡ min limit (local slowness left right above below) ⌝ }
 {
     if slowness == 0 {
-        return NEVER;
+        return limit;
     }
     let across = lesser(left, right);
     let down = lesser(above, below);
     let first = lesser(across, down);
-    if first == NEVER {
-        return NEVER;
-    }
     let second = greater(across, down);
     let apart = second - first;
     if apart >= slowness {
-        return after(first, slowness);
+        return lesser(limit, after(first, slowness));
     }
-    after(second, least_past(slowness, apart))
+    if limit <= second {
+        return limit;
+    }
+    if too_few(slowness, apart, limit - second - 1) {
+        return limit;
+    }
+    second + least_past(slowness, apart)
 }
 
 // A time handed in counts as never above 300,000,000.
@@ -107,7 +130,8 @@ pub fn local_rule(slowness: u32, left: u32, right: u32, above: u32, below: u32) 
     }
     Reply {
         number: 0,
-        count: arrival_time(
+        count: arrival_before(
+            NEVER,
             slowness,
             known(left),
             known(right),

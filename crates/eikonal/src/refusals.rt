@@ -77,7 +77,7 @@ fn is_late(time: u32) -> bool
 }
 
 // One start more, on a board of n cells, with the slowness of its cell.
-pub fn judge_start(n: usize, slow: u32, cell: u32, time: u32, so_far: Judged) -> Judged
+fn judge_start(n: usize, slow: u32, cell: u32, time: u32, so_far: Judged) -> Judged
     ensures { λ r. ⌜ r ≡ judge-start n slow cell time «so_far» ⌝ }
 {
     let at = cell as usize;

@@ -33,8 +33,8 @@ pub record Fit (s : Shape) (slow : List ℕ) (xs : List Start) (times work : Lis
   pub many : length times ≡ s .cells
   pub room : 4 * s .cells ≤ length work
 
--- some starts are placed that make it one
-pub record Seated (s : Shape) (slow times work : List ℕ) : Type 0 where
+-- some starts stand in the work list that make it one
+pub record Some-standing (s : Shape) (slow times work : List ℕ) : Type 0 where
   pub starts : List Start
   pub fit : Fit s slow starts times work
   pub stands : Standing (s .cells) starts work
@@ -91,7 +91,7 @@ pub record Sown (t : Task) (xs : List Start) (work work' : List ℕ) : Type 0 wh
 
 -- the job can be done, and is: unless the call is refused; then the refusal is the answer, and the lists are as they were
 abbrev pub Endable : Task → Job → (slow order times work : List ℕ) → Type 0
-Endable t j ss xs ts v = t .refusal .number ≡ 0 → Seated (t .shape) ss ts v × Doable j (t .shape) xs
+Endable t j ss xs ts v = t .refusal .number ≡ 0 → Some-standing (t .shape) ss ts v × Doable j (t .shape) xs
 
 pub record Ended (t : Task) (j : Job) (slow : List ℕ) (x : Reply) (times times' work work' : List ℕ) : Type 0 where
   pub turned-down : t .refusal .number ≢ 0 → (x ≡ answer (t .refusal .number) 0) × (times' ≡ times) × (work' ≡ work)

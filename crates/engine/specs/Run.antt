@@ -8,9 +8,8 @@ use Rattle.eikonal.specs.Board.{Board, board-of, size, start-time, time}
 use Rattle.eikonal.specs.declared.Start.{Start}
 use Rattle.eikonal.specs.Tiles.{altered, after-rounds, rounds}
 use Rattle.eikonal.specs.Inner.Good.{Good}
-use Rattle.queue.specs.Tree.{keys}
 use Rattle.front.specs.Front.{Tied, Settled, Upheld, Drift}
-use Rattle.front.specs.Board.{rule-by, tentative}
+use Rattle.front.specs.Board.{rule-by, tentative, Work, keys}
 use Rattle.front.specs.State.{Held}
 use Rattle.front.specs.declared.Shape.{Shape}
 
@@ -30,21 +29,21 @@ abbrev pub whole : Shape → (slow : List ℕ) → List Start → Board
 whole s ss xs = board-of (s .width) (s .height) ss xs
 
 -- after j rounds, with the work list at hand
-pub record At-round (s : Shape) (slow : List ℕ) (xs : List Start) (stride horizon j : ℕ) (times work : List ℕ) : Type 0 where
+pub record At-round (s : Shape) (slow : List ℕ) (xs : List Start) (stride horizon j : ℕ) (times : List ℕ) (work : Work) : Type 0 where
   pub held : Held (s .cells) work
-  pub between : Between (whole s slow xs) (s .across) (s .down) stride horizon j times (tentative work (s .cells)) (keys work (s .cells))
+  pub between : Between (whole s slow xs) (s .across) (s .down) stride horizon j times (tentative (work .list) (s .cells)) (keys work)
 
 -- the same, of some legal board that has the sides and slownesses
-pub record Amid (s : Shape) (slow : List ℕ) (stride horizon j : ℕ) (times work : List ℕ) : Type 0 where
+pub record Amid (s : Shape) (slow : List ℕ) (stride horizon j : ℕ) (times : List ℕ) (work : Work) : Type 0 where
   pub starts : List Start
   pub good : Good (whole s slow starts)
   pub at : At-round s slow starts stride horizon j times work
 
 -- ONE ROUND MORE, in which m cells were taken: none just if the round alters nothing
-pub record One-round (s : Shape) (slow : List ℕ) (xs : List Start) (stride horizon j m : ℕ) (times times' work work' : List ℕ) : Type 0 where
+pub record One-round (s : Shape) (slow : List ℕ) (xs : List Start) (stride horizon j m : ℕ) (times times' : List ℕ) (work work' : Work) : Type 0 where
   pub long : length times' ≡ length times
-  pub kept : length work' ≡ length work
-  pub past : (i : ℕ) → 4 * s .cells ≤ i → getD work' i 0 ≡ getD work i 0
+  pub kept : length (work' .list) ≡ length (work .list)
+  pub past : (i : ℕ) → 4 * s .cells ≤ i → getD (work' .list) i 0 ≡ getD (work .list) i 0
   pub next : At-round s slow xs stride horizon (suc j) times' work'
   pub idle : m ≡ 0 → after-rounds (suc j) (whole s slow xs) (s .across) (s .down) stride horizon
       ≡ after-rounds j (whole s slow xs) (s .across) (s .down) stride horizon
@@ -65,8 +64,8 @@ pub record Ran (s : Shape) (slow : List ℕ) (xs : List Start) (stride horizon l
   pub past : (i : ℕ) → 4 * s .cells ≤ i → getD work' i 0 ≡ getD work i 0
 
 -- WHATEVER STARTS the work list stands for: one round more, and a run with a limit
-abbrev pub Rounds-on : Shape → (slow : List ℕ) → (stride horizon j m : ℕ) → (times times' work work' : List ℕ) → Type 0
+abbrev pub Rounds-on : Shape → (slow : List ℕ) → (stride horizon j m : ℕ) → (times times' : List ℕ) → (work work' : Work) → Type 0
 Rounds-on s ss S H j m ts ts' v v' = (xs : List Start) → Good (whole s ss xs) → At-round s ss xs S H j ts v → One-round s ss xs S H j m ts ts' v v'
 
-abbrev pub Runs : Shape → (slow : List ℕ) → (stride horizon limit r : ℕ) → (times times' work work' : List ℕ) → Type 0
-Runs s ss S H limit r ts ts' v v' = (xs : List Start) → Good (whole s ss xs) → At-round s ss xs S H 0 ts v → Ran s ss xs S H limit r ts ts' v v'
+abbrev pub Runs : Shape → (slow : List ℕ) → (stride horizon limit r : ℕ) → (times times' : List ℕ) → (work : Work) → (work' : List ℕ) → Type 0
+Runs s ss S H limit r ts ts' v v' = (xs : List Start) → Good (whole s ss xs) → At-round s ss xs S H 0 ts v → Ran s ss xs S H limit r ts ts' (v .list) v'

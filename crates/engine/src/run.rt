@@ -1,13 +1,12 @@
 // A tile run: rounds one after the other, with leaps over those that come before the least key.
 ghost use mathlib.Core.Path.{_≡_};
-ghost use Prim.Native.Nat.{ℕ, suc, _*_, _≤_, _<_, min};
+ghost use Prim.Native.Nat.{suc, _*_, _≤_, min};
 ghost use lib.Dec.{leb};
-ghost use lib.ListN.{length};
 ghost use Rattle.eikonal.specs.Board.{largest};
-ghost use Rattle.queue.specs.Tree.{Tree, keys};
-ghost use Rattle.front.specs.Board.{Ground};
+ghost use Rattle.front.specs.Board.{Ground, at};
 ghost use Rattle.engine.specs.Run.{Amid, Leapt, Rounds-on, Runs};
 use front::Shape;
+use front::drain::Taken;
 
 // The bound of the round after so many.
 fn bound_after(done: u32, stride: u32, horizon: u32) -> u32
@@ -29,14 +28,6 @@ fn at_horizon(round: u32, stride: u32, horizon: u32) -> bool
     let reach = (round as u64) * (stride as u64);
     let end = horizon as u64;
     end <= reach
-}
-
-fn least_key(work: &[u32], n: usize) -> u32
-    requires { ⌜ (1 ≤ n) × (n ≤ 65536) × (2 * n ≤ length (now work)) × Tree (now work) n ⌝ }
-    ensures { λ r. ⌜ ((c : ℕ) → c < n → r ≤ keys (now (work .entry)) n c) ⌝ }
-{
-    let c = queue::first(work, n);
-    work[n + c]
 }
 
 fn at_most(rounds: u32, limit: u64) -> u32
@@ -62,29 +53,34 @@ fn leap(least: u32, done: u32, stride: u32, horizon: u32) -> u32
     if done < far { far } else { done }
 }
 
-// Works out the round after `done` rounds: the times are then those after one round more. Answers how many cells were taken.
+// Works out the round after `done` rounds: the times are then those after one round more. Answers how many cells were taken, and how many are pending.
 fn round(
     slow: &[u32],
     times: &mut [u32],
     work: &mut [u32],
+    size: usize,
     cols: &[u8; 257],
     rows: &[u8; 257],
     shape: Shape,
     done: u32,
     stride: u32,
     horizon: u32,
-) -> usize
-    requires { ⌜ Ground shape (now slow) (now times) (now cols) (now rows) × Amid shape (now slow) stride horizon done (now times) (now work)
+) -> Taken
+    requires { ⌜ Ground shape (now slow) (now times) (now cols) (now rows) × Amid shape (now slow) stride horizon done (now times) (at (now work) size)
         × (done ≤ 1000000000) × (1 ≤ stride) × (stride ≤ largest) × (horizon ≤ largest) ⌝ }
-    ensures { λ m. ⌜ Rounds-on shape (now (slow .entry)) stride horizon done m (now (times .entry)) (now (times .exit)) (now (work .entry)) (now (work .exit))
-        ⌝ }
+    ensures { λ r. ⌜ Rounds-on shape (now (slow .entry)) stride horizon done (r .cells) (now (times .entry)) (now (times .exit))
+        (at (now (work .entry)) size) (at (now (work .exit)) (r .pending)) ⌝ }
 {
     let n = shape.cells;
     let bound = bound_after(done, stride, horizon);
-    let m = front::drain::drain(slow, times, work, cols, rows, shape, bound);
+    let taken = front::drain::drain(slow, times, work, size, cols, rows, shape, bound);
+    let m = taken.cells;
     front::commit::store(times, work, n, m);
-    front::commit::announce(slow, times, work, cols, rows, shape, m);
-    m
+    let pending = front::commit::announce(slow, times, work, taken.pending, cols, rows, shape, m);
+    Taken {
+        cells: m,
+        pending: pending,
+    }
 }
 
 // Works rounds out, or leaps over them, until a round at the horizon alters nothing or the limit of rounds is reached. Answers how many there are:
@@ -93,6 +89,7 @@ pub fn run(
     slow: &[u32],
     times: &mut [u32],
     work: &mut [u32],
+    size: usize,
     cols: &[u8; 257],
     rows: &[u8; 257],
     shape: Shape,
@@ -100,21 +97,38 @@ pub fn run(
     horizon: u32,
     limit: u64,
 ) -> u32
-    requires { ⌜ Ground shape (now slow) (now times) (now cols) (now rows) × Amid shape (now slow) stride horizon 0 (now times) (now work) × (1 ≤ stride)
-        × (stride ≤ largest) × (horizon ≤ largest) ⌝ }
-    ensures { λ r. ⌜ Runs shape (now (slow .entry)) stride horizon limit r (now (times .entry)) (now (times .exit)) (now (work .entry)) (now (work .exit)) ⌝ }
+    requires { ⌜ Ground shape (now slow) (now times) (now cols) (now rows) × Amid shape (now slow) stride horizon 0 (now times) (at (now work) size)
+        × (1 ≤ stride) × (stride ≤ largest) × (horizon ≤ largest) ⌝ }
+    ensures { λ r. ⌜ Runs shape (now (slow .entry)) stride horizon limit r (now (times .entry)) (now (times .exit)) (at (now (work .entry)) size)
+        (now (work .exit)) ⌝ }
 {
     let n = shape.cells;
+    let mut pending = size;
     let mut done = 0;
     while (done as u64) < limit {
-        let m = round(slow, times, work, cols, rows, shape, done, stride, horizon);
+        let taken = round(
+            slow,
+            times,
+            work,
+            pending,
+            cols,
+            rows,
+            shape,
+            done,
+            stride,
+            horizon,
+        );
+        pending = taken.pending;
         done += 1;
-        if m == 0 {
+        if taken.cells == 0 {
             if at_horizon(done, stride, horizon) {
                 return done;
             }
         }
-        done = at_most(leap(least_key(work, n), done, stride, horizon), limit);
+        done = at_most(
+            leap(queue::least_key(work, pending, n), done, stride, horizon),
+            limit,
+        );
     }
     done
 }

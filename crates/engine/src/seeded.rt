@@ -7,7 +7,7 @@ ghost use Rattle.eikonal.specs.Board.{largest};
 ghost use Rattle.eikonal.specs.Refusals.{order-good};
 ghost use Rattle.front.specs.Board.{land};
 ghost use Rattle.eikonal.specs.declared.Job.the-variants.{March, Round, Run};
-ghost use Rattle.engine.specs.Calls.{Seated, Doable, Goes};
+ghost use Rattle.engine.specs.Calls.{Some-standing, Doable, Goes};
 use eikonal::Job;
 use eikonal::arrival::NEVER;
 use front::Shape;
@@ -18,13 +18,14 @@ const NO_LIMIT: u64 = 4294967296;
 
 // A whole march: one tile covers the board, so that no stored time is seen.
 fn march(shape: Shape, slow: &[u32], horizon: u32, times: &mut [u32], work: &mut [u32]) -> u32
-    requires { ⌜ Seated shape (now slow) (now times) (now work) × (shape .width ≤ shape .across) × (shape .height ≤ shape .down) × (horizon ≤ largest) ⌝ }
+    requires { ⌜ Some-standing shape (now slow) (now times) (now work) × (shape .width ≤ shape .across) × (shape .height ≤ shape .down)
+        × (horizon ≤ largest) ⌝ }
     ensures { λ r. ⌜ Goes (March horizon) shape (now (slow .entry)) r (now (times .entry)) (now (times .exit)) (now (work .entry)) (now (work .exit)) ⌝ }
 {
     let n = shape.cells;
     let cols = front::seams::lay(shape.width, shape.across);
     let rows = front::seams::lay(shape.height, shape.down);
-    front::drain::drain(slow, times, work, &cols, &rows, shape, horizon);
+    front::strip::drain_tile(slow, times, work, &cols, &rows, shape, horizon);
     let count = rows::whole::finish(work, times, n, horizon);
     queue::lists::fill(work, 0, 4 * n, 0);
     count
@@ -38,7 +39,7 @@ fn tile_run(
     times: &mut [u32],
     work: &mut [u32],
 ) -> u32
-    requires { ⌜ Seated shape (now slow) (now times) (now work) × (1 ≤ stride) × (stride ≤ largest) × (horizon ≤ largest) ⌝ }
+    requires { ⌜ Some-standing shape (now slow) (now times) (now work) × (1 ≤ stride) × (stride ≤ largest) × (horizon ≤ largest) ⌝ }
     ensures { λ r. ⌜ Goes (Run (shape .across) (shape .down) stride horizon) shape (now (slow .entry)) r (now (times .entry)) (now (times .exit))
         (now (work .entry)) (now (work .exit)) ⌝ }
 {
@@ -46,10 +47,12 @@ fn tile_run(
     queue::lists::fill(times, 0, n, NEVER);
     let cols = front::seams::lay(shape.width, shape.across);
     let rows = front::seams::lay(shape.height, shape.down);
+    let size = front::seed::gather(work, n, 0, n);
     let count = super::run::run(
         slow,
         times,
         work,
+        size,
         &cols,
         &rows,
         shape,
@@ -69,7 +72,7 @@ fn one_round(
     times: &mut [u32],
     work: &mut [u32],
 ) -> u32
-    requires { ⌜ Seated shape (now slow) (now times) (now work) × (bound ≤ largest)
+    requires { ⌜ Some-standing shape (now slow) (now times) (now work) × (bound ≤ largest)
         × (order-good (land shape []) (shape .across) (shape .down) (now order) ≡ true) ⌝ }
     ensures { λ r. ⌜ Goes (Round (shape .across) (shape .down) bound) shape (now (slow .entry)) r (now (times .entry)) (now (times .exit)) (now (work .entry))
         (now (work .exit)) ⌝ }
@@ -77,8 +80,7 @@ fn one_round(
     let n = shape.cells;
     let cols = front::seams::lay(shape.width, shape.across);
     let rows = front::seams::lay(shape.height, shape.down);
-    front::wake::wake(slow, times, work, &cols, &rows, shape);
-    front::drain::drain(slow, times, work, &cols, &rows, shape, bound);
+    front::strip::drain_strips(slow, times, work, &cols, &rows, shape, bound);
     let count = rows::tiles::write_tiles(times, work, shape, order, bound);
     queue::lists::fill(work, 0, 4 * n, 0);
     count
@@ -92,7 +94,7 @@ pub fn job(
     times: &mut [u32],
     work: &mut [u32],
 ) -> u32
-    requires { ⌜ Seated shape (now slow) (now times) (now work) × Doable job shape (now order) ⌝ }
+    requires { ⌜ Some-standing shape (now slow) (now times) (now work) × Doable job shape (now order) ⌝ }
     ensures { λ r. ⌜ Goes job shape (now (slow .entry)) r (now (times .entry)) (now (times .exit)) (now (work .entry)) (now (work .exit)) ⌝ }
 {
     match job {

@@ -7,6 +7,7 @@ use lib.ListN.{length, getD}
 use Rattle.eikonal.specs.Board.{Board}
 use Rattle.eikonal.specs.Tiles.{counts-as}
 use Rattle.eikonal.specs.Inner.Good.{Good}
+use Rattle.queue.specs.Heap as queue
 use Rattle.front.specs.Front.{gives}
 use Rattle.front.specs.Seams.{seam, edge}
 use Rattle.front.specs.declared.Shape.{Shape}
@@ -33,6 +34,18 @@ noted v n i = getD v (3 * n + i) 0
 pub record Marked (count side : ℕ) (marks : List ℕ) : Type 0 where
   pub at : (i : ℕ) → i ≤ count → getD marks i 0 ≡ seam count side i
 
+-- THE WORK LIST, with how many cells are pending
+pub record Work : Type 0 where
+  pub list : List ℕ
+  pub size : ℕ
+
+abbrev pub at : (list : List ℕ) → (size : ℕ) → Work
+at v m = record { list = v; size = m }
+
+-- a pending cell's time, never of a cell that is not pending
+abbrev pub keys : Work → (c : ℕ) → ℕ
+keys v c = queue.keys (v .list) (v .size) c
+
 -- a legal board, lent with its stored times and its seams
 pub record Ground (s : Shape) (slow stored cols rows : List ℕ) : Type 0 where
   pub good : Good (land s slow)
@@ -43,11 +56,16 @@ pub record Ground (s : Shape) (slow stored cols rows : List ℕ) : Type 0 where
   pub columns : Marked (s .width) (s .across) cols
   pub lines : Marked (s .height) (s .down) rows
 
--- the cell at a row and a column
-pub record Site (s : Shape) (c row col : ℕ) : Type 0 where
-  pub cell : c ≡ row * s .width + col
-  pub column : col < s .width
-  pub line : row < s .height
+-- its number of cells and its width
+pub record Measures (s : Shape) (n w : ℕ) : Type 0 where
+  pub cells : n ≡ s .cells
+  pub width : w ≡ s .width
+
+-- of n cells in rows of w, the one at a row and a column
+pub record Site (n w c row col : ℕ) : Type 0 where
+  pub on : c < n
+  pub cell : c ≡ row * w + col
+  pub column : col < w
 
 -- a neighbour across a seam that is not the edge is on the board
 pub record Sees (n : ℕ) (slow stored work : List ℕ) (c less more seam : ℕ) : Type 0 where

@@ -2,11 +2,11 @@
 -- narrow band, those taken are accepted, and what a commit does is the ghost exchange.
 -- Only internal contracts cite these definitions; no public promise rests on them.
 use mathlib.Core.Path.{_≡_}
-use mathlib.Core.Bool.{cond}
+use mathlib.Core.Bool.{cond, _&&_}
 use mathlib.Core.Logic.{_⊎_, _≢_}
 use mathlib.Core.List.{List, [], _∷_}
 use Prim.Native.Nat.{ℕ, zero, suc, _+_, _*_, _-_, _≤_, _<_, min}
-use lib.Dec.{eqb}
+use lib.Dec.{eqb, leb, ltb}
 use Rattle.eikonal.specs.Board.{Board, never, arrival}
 use Rattle.eikonal.specs.Tiles.{tile-of}
 
@@ -17,6 +17,17 @@ ghosted b tw th g f c e = cond (eqb (tile-of b tw th c) (tile-of b tw th e)) (f 
 -- what the local rule gives a cell, at most never
 abbrev pub gives : Board → (tw th : ℕ) → (ghost : ℕ → ℕ → ℕ) → (c : ℕ) → (f : ℕ → ℕ) → ℕ
 gives b tw th g c f = min never (arrival b c (ghosted b tw th g f c))
+
+-- a cell is one of those from lo on and below hi, or none
+abbrev pub Among : (lo hi c : ℕ) → Type 0
+Among lo hi c = (lo ≤ c) × (c < hi)
+
+abbrev pub Not-among : (lo hi c : ℕ) → Type 0
+Not-among lo hi c = Among lo hi c → ⊥
+
+-- a rule for these cells alone: to all others it gives no time
+unfoldable pub among : (lo hi : ℕ) → (L : ℕ → (ℕ → ℕ) → ℕ) → (c : ℕ) → (f : ℕ → ℕ) → ℕ
+among lo hi L c f = cond (leb lo c && ltb c hi) (L c f) never
 
 -- what neighbours may go by: the time of a cell that is not pending, else never
 abbrev pub heard : (y k : ℕ → ℕ) → (e : ℕ) → ℕ

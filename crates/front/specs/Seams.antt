@@ -1,8 +1,9 @@
 -- Seams: what lies between two neighbouring columns, or two neighbouring rows. Only internal contracts cite these: they are definitions.
 use mathlib.Core.Bool.{_||_, cond}
 use mathlib.Core.List.{List, [], _∷_}
-use Prim.Native.Nat.{ℕ, suc, _+_, _-_, _/_, _%_}
+use Prim.Native.Nat.{ℕ, suc, _+_, _-_, _/_, _%_, min}
 use lib.Dec.{eqb}
+use lib.ListN.{getD}
 use Rattle.eikonal.specs.Board.{Board, never, size}
 
 abbrev pub edge : ℕ
@@ -17,6 +18,10 @@ inside = 2
 -- before place i of so many: the board's edge, a border between tiles, or the inside of a tile
 unfoldable pub seam : (count side i : ℕ) → ℕ
 seam n s i = cond (eqb i 0 || eqb i n) edge (cond (eqb (i % s) 0) border inside)
+
+-- of seams as laid the least around the place at a row and a column: an inside seam is the greatest, so it is inside if all four are
+abbrev pub least-seam : (cols rows : List ℕ) → (row col : ℕ) → ℕ
+least-seam cs rs r c = min (min (getD cs c 0) (getD cs (c + 1) 0)) (min (getD rs r 0) (getD rs (r + 1) 0))
 
 -- what is seen across a seam: the tentative time within the tile, the ghost beyond a border, never off the board
 unfoldable pub across : (seam own ghost : ℕ) → ℕ

@@ -5,7 +5,7 @@ ghost use lib.ListN.{length};
 ghost use Rattle.eikonal.specs.Board.{time};
 ghost use Rattle.front.specs.Front.{Written};
 ghost use Rattle.front.specs.Seams.{border, near};
-ghost use Rattle.front.specs.Board.{land, rule-at, tentative, noted, Ground};
+ghost use Rattle.front.specs.Board.{land, rule-at, tentative, noted, at, Ground};
 ghost use Rattle.front.specs.State.{Held, Announced};
 use super::Shape;
 use queue::lists::wide;
@@ -24,27 +24,43 @@ pub fn store(times: &mut [u32], work: &[u32], n: usize, m: usize)
     }
 }
 
-// The neighbours in other tiles of the m cells that are noted hear of them, each with its stored time.
+// The neighbours in other tiles of the m cells that are noted hear of them, each with its stored time. Answers how many cells are then pending.
 pub fn announce(
     slow: &[u32],
     times: &[u32],
     work: &mut [u32],
+    size: usize,
     cols: &[u8; 257],
     rows: &[u8; 257],
     shape: Shape,
     m: usize,
-)
-    requires { ⌜ Ground shape (now slow) (now times) (now cols) (now rows) × Held (shape .cells) (now work) × (m ≤ shape .cells)
+) -> usize
+    requires { ⌜ Ground shape (now slow) (now times) (now cols) (now rows) × Held (shape .cells) (at (now work) size) × (m ≤ shape .cells)
         × ((i : ℕ) → i < m → noted (now work) (shape .cells) i < shape .cells) ⌝ }
     ensures { λ r. ⌜ Announced (shape .cells) (rule-at shape (now (slow .entry)) (now (times .entry))) (time (now (times .entry)))
         (noted (now (work .entry)) (shape .cells)) (λ c. near (land shape (now (slow .entry))) (shape .across) (shape .down) border c) m
-        (now (work .entry)) (now (work .exit)) ⌝ }
+        (at (now (work .entry)) size) (at (now (work .exit)) r) ⌝ }
 {
     let n = shape.cells;
+    let w = shape.width;
+    let mut pending = size;
     let mut i = 0;
     while i < m {
         let c = wide(work[3 * n + i]);
-        super::spread::tell_others(slow, times, work, cols, rows, shape, c, times[c]);
+        pending = super::spread::tell_others(
+            slow,
+            times,
+            work,
+            pending,
+            cols,
+            rows,
+            shape,
+            n,
+            w,
+            c,
+            times[c],
+        );
         i += 1;
     }
+    pending
 }

@@ -1,59 +1,88 @@
 // The narrow band is drained up to a bound: pending cells are taken (accepted), the least first, and their tiles hear of them.
-ghost use Prim.Native.Nat.{_<_};
+ghost use Prim.Native.Nat.{ℕ, _<_};
 ghost use Rattle.eikonal.specs.Board.{never};
-ghost use Rattle.queue.specs.Tree.{keys, Least};
 ghost use Rattle.front.specs.Seams.{inside, near};
-ghost use Rattle.front.specs.Board.{land, rule-at, Ground};
-ghost use Rattle.front.specs.State.{Held, Took, Ready, Drained};
+ghost use Rattle.front.specs.Front.{among};
+ghost use Rattle.front.specs.Board.{land, rule-at, at, Ground};
+ghost use Rattle.front.specs.State.{Held, Took, Drained, Ready-among, Some-ready};
 use super::Shape;
 use super::seams::INSIDE;
+use super::spread::row_of;
 
-// Takes the cell c, whose key is the least, and notes it as the m-th.
+// How many cells a drain took, and how many are then pending.
+pub struct Taken {
+    pub cells: usize,
+    pub pending: usize,
+}
+
+// Takes a cell whose key is the least, and notes it as the m-th. Answers how many cells are then pending.
 fn take(
     slow: &[u32],
     times: &[u32],
     work: &mut [u32],
+    size: usize,
     cols: &[u8; 257],
     rows: &[u8; 257],
     shape: Shape,
-    c: usize,
     m: usize,
-)
-    requires { ⌜ Ground shape (now slow) (now times) (now cols) (now rows) × Held (shape .cells) (now work) × Least (now work) (shape .cells) c
-        × (keys (now work) (shape .cells) c < never) × (m < shape .cells) ⌝ }
-    ensures { λ r. ⌜ Took (shape .cells) m c (rule-at shape (now (slow .entry)) (now (times .entry)))
-        (near (land shape (now (slow .entry))) (shape .across) (shape .down) inside c) (now (work .entry)) (now (work .exit)) ⌝ }
+) -> usize
+    requires { ⌜ Ground shape (now slow) (now times) (now cols) (now rows) × Held (shape .cells) (at (now work) size) × (0 < size) × (m < shape .cells) ⌝ }
+    ensures { λ r. ⌜ Took (shape .cells) m (rule-at shape (now (slow .entry)) (now (times .entry)))
+        (near (land shape (now (slow .entry))) (shape .across) (shape .down) inside) (at (now (work .entry)) size) (at (now (work .exit)) r) ⌝ }
 {
     let n = shape.cells;
-    let leaf = n + c;
-    let t = work[leaf];
+    let w = shape.width;
+    let t = queue::least_key(work, size, n);
+    let c = queue::first(work, size, n);
+    let left = queue::remove_first(work, size, n);
     let at = 3 * n + m;
     work[at] = c as u32;
-    queue::remove(work, n, c);
-    super::spread::tell(slow, times, work, cols, rows, shape, c, t, INSIDE);
+    let row = row_of(c, w);
+    let col = c - row * w;
+    super::spread::tell(
+        slow,
+        times,
+        work,
+        left,
+        cols,
+        rows,
+        shape,
+        n,
+        w,
+        c,
+        row,
+        col,
+        t,
+        INSIDE,
+    )
 }
 
-// Takes every pending cell up to the bound, and answers how many.
+// Takes every pending cell up to the bound.
 pub fn drain(
     slow: &[u32],
     times: &[u32],
     work: &mut [u32],
+    size: usize,
     cols: &[u8; 257],
     rows: &[u8; 257],
     shape: Shape,
     bound: u32,
-) -> usize
-    requires { ⌜ Ground shape (now slow) (now times) (now cols) (now rows) × Ready (shape .cells) (rule-at shape (now slow) (now times)) (now work)
+) -> Taken
+    requires { ⌜ Ground shape (now slow) (now times) (now cols) (now rows) × Some-ready shape (now slow) (now times) (at (now work) size)
         × (bound < never) ⌝ }
-    ensures { λ m. ⌜ Drained (shape .cells) bound m (rule-at shape (now (slow .entry)) (now (times .entry))) (now (work .entry)) (now (work .exit)) ⌝ }
+    ensures { λ r. ⌜ ((lo hi : ℕ) → Ready-among shape (now (slow .entry)) (now (times .entry)) lo hi (at (now (work .entry)) size)
+        → Drained (shape .cells) bound (r .cells) (among lo hi (rule-at shape (now (slow .entry)) (now (times .entry)))) (at (now (work .entry)) size)
+        (at (now (work .exit)) (r .pending))) ⌝ }
 {
     let n = shape.cells;
     let mut m = 0;
-    let mut c = queue::first(work, n);
-    while work[n + c] <= bound {
-        take(slow, times, work, cols, rows, shape, c, m);
+    let mut pending = size;
+    while queue::least_key(work, pending, n) <= bound {
+        pending = take(slow, times, work, pending, cols, rows, shape, m);
         m += 1;
-        c = queue::first(work, n);
     }
-    m
+    Taken {
+        cells: m,
+        pending: pending,
+    }
 }

@@ -5,9 +5,11 @@ pub mod seams;
 pub mod seed;
 mod sight;
 mod spread;
-pub mod wake;
+pub mod strip;
+mod wake;
 
-// A board's sides, its tiles' sides, and its number of cells.
+// A board's sides, its tiles' sides, and its number of cells. A struct is copied for every call that it is handed to, which costs a sixth of a march:
+// so the functions that a neighbour's hearing goes through take the number of cells and the width beside it. Only their contracts read the shape.
 pub struct Shape {
     pub width: usize,
     pub height: usize,

@@ -1,6 +1,6 @@
 // Seams: what lies before each column, or each row. An inside seam parts two cells of one tile.
 ghost use mathlib.Core.Path.{_≡_};
-ghost use Prim.Native.Nat.{_≤_, _<_};
+ghost use Prim.Native.Nat.{_≤_};
 ghost use Rattle.front.specs.Seams.{seam};
 ghost use Rattle.front.specs.Board.{Marked};
 

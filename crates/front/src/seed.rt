@@ -1,18 +1,18 @@
-// The beginning of a round: nothing is pending and every tentative time is never, then the starts are placed.
+// The beginning of a round: every tentative time is never, then the starts are placed; those that have a time are gathered in the queue.
 ghost use mathlib.Core.Path.{_≡_};
 ghost use mathlib.Core.List.{[], _∷_};
 ghost use Prim.Native.Nat.{ℕ, _*_, _≤_, _<_};
 ghost use lib.ListN.{length, getD};
 ghost use Rattle.eikonal.specs.Refusals.{starts-of};
-ghost use Rattle.front.specs.State.{Placed, Seeded, Empty};
+ghost use Rattle.front.specs.Board.{at};
+ghost use Rattle.front.specs.State.{Placed, Seeded, Empty, Gathered};
 use eikonal::arrival::NEVER;
 
-// No cell is pending or has a time.
+// No cell has a time.
 pub fn empty(work: &mut [u32], n: usize)
-    requires { ⌜ (1 ≤ n) × (n ≤ 65536) × (4 * n ≤ length (now work)) ⌝ }
+    requires { ⌜ (n ≤ 65536) × (4 * n ≤ length (now work)) ⌝ }
     ensures { λ r. ⌜ Empty n (now (work .entry)) (now (work .exit)) ⌝ }
 {
-    queue::clear(work, n);
     queue::lists::fill(work, 2 * n, 3 * n, NEVER);
 }
 
@@ -24,7 +24,6 @@ fn place(work: &mut [u32], n: usize, c: usize, t: u32)
     let at = 2 * n + c;
     if t < work[at] {
         work[at] = t;
-        queue::lower(work, n, c, t);
     }
 }
 
@@ -39,4 +38,21 @@ pub fn seed(work: &mut [u32], n: usize, cells: &[u32], begins: &[u32])
         place(work, n, cells[i] as usize, begins[i]);
         i += 1;
     }
+}
+
+// Of the cells from `from` up to `end` every one that has a time is pending with it, and no other cell is. Answers how many there are.
+pub fn gather(work: &mut [u32], n: usize, from: usize, end: usize) -> usize
+    requires { ⌜ (n ≤ 65536) × (from ≤ end) × (end ≤ n) × Placed n (now work) ⌝ }
+    ensures { λ r. ⌜ Gathered n from end (now (work .entry)) (at (now (work .exit)) r) ⌝ }
+{
+    let mut size = 0;
+    let mut c = from;
+    while c < end {
+        let t = work[2 * n + c];
+        if t < NEVER {
+            size = queue::insert(work, size, n, c, t);
+        }
+        c += 1;
+    }
+    size
 }

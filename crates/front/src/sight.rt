@@ -1,10 +1,10 @@
 // What a cell sees of its neighbours, and what the local rule gives it from that.
 ghost use mathlib.Core.Path.{_≡_};
-ghost use Prim.Native.Nat.{_+_, _-_, _*_, _≤_, _<_};
+ghost use Prim.Native.Nat.{_+_, _-_, _*_, _≤_, _<_, min};
 ghost use lib.ListN.{length};
 ghost use Rattle.eikonal.specs.Tiles.{counts-as};
 ghost use Rattle.front.specs.Seams.{across};
-ghost use Rattle.front.specs.Board.{land, rule-at, tentative, Ground, Site, Sees};
+ghost use Rattle.front.specs.Board.{land, rule-at, tentative, Ground, Measures, Site, Sees};
 use super::Shape;
 use super::seams::EDGE;
 use super::seams::INSIDE;
@@ -32,19 +32,19 @@ fn see(
     times: &[u32],
     work: &[u32],
     shape: Shape,
+    n: usize,
     c: usize,
     less: usize,
     more: usize,
     seam: u8,
 ) -> u32
-    requires { ⌜ Sees (shape .cells) (now slow) (now times) (now work) c less more seam ⌝ }
-    ensures { λ r. ⌜ r ≡ across seam (tentative (now (work .entry)) (shape .cells) (c + more - less))
+    requires { ⌜ Sees n (now slow) (now times) (now work) c less more seam ⌝ }
+    ensures { λ r. ⌜ r ≡ across seam (tentative (now (work .entry)) n (c + more - less))
         (counts-as (land shape (now (slow .entry))) (now (times .entry)) (c + more - less)) ⌝ }
 {
     if seam == EDGE {
         return NEVER;
     }
-    let n = shape.cells;
     let e = c + more - less;
     if seam == INSIDE {
         let at = 2 * n + e;
@@ -53,7 +53,7 @@ fn see(
     ghost_time(slow, times, shape, e)
 }
 
-// What the local rule gives the cell c.
+// What the local rule gives the cell c, at most the limit.
 pub fn rule(
     slow: &[u32],
     times: &[u32],
@@ -61,17 +61,19 @@ pub fn rule(
     cols: &[u8; 257],
     rows: &[u8; 257],
     shape: Shape,
+    n: usize,
+    w: usize,
     c: usize,
     row: usize,
     col: usize,
+    limit: u32,
 ) -> u32
-    requires { ⌜ Ground shape (now slow) (now times) (now cols) (now rows) × Site shape c row col × (4 * shape .cells ≤ length (now work)) ⌝ }
-    ensures { λ r. ⌜ r ≡ rule-at shape (now (slow .entry)) (now (times .entry)) c (tentative (now (work .entry)) (shape .cells)) ⌝ }
+    requires { ⌜ Ground shape (now slow) (now times) (now cols) (now rows) × Measures shape n w × Site n w c row col × (4 * n ≤ length (now work)) ⌝ }
+    ensures { λ r. ⌜ r ≡ min limit (rule-at shape (now (slow .entry)) (now (times .entry)) c (tentative (now (work .entry)) n)) ⌝ }
 {
-    let w = shape.width;
-    let l = see(slow, times, work, shape, c, 1, 0, cols[col]);
-    let r = see(slow, times, work, shape, c, 0, 1, cols[col + 1]);
-    let u = see(slow, times, work, shape, c, w, 0, rows[row]);
-    let d = see(slow, times, work, shape, c, 0, w, rows[row + 1]);
-    eikonal::arrival::arrival_time(slow[c], l, r, u, d)
+    let l = see(slow, times, work, shape, n, c, 1, 0, cols[col]);
+    let r = see(slow, times, work, shape, n, c, 0, 1, cols[col + 1]);
+    let u = see(slow, times, work, shape, n, c, w, 0, rows[row]);
+    let d = see(slow, times, work, shape, n, c, 0, w, rows[row + 1]);
+    eikonal::arrival::arrival_before(limit, slow[c], l, r, u, d)
 }

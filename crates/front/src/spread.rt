@@ -1,39 +1,46 @@
-// Cells hear of a neighbour's time, and are lowered to what the local rule then gives them.
+// Cells hear of a neighbour's time, and are lowered to what the local rule then gives them. Each function answers how many cells are then pending.
 ghost use mathlib.Core.Path.{_≡_};
 ghost use mathlib.Core.Logic.{_⊎_, _≢_};
-ghost use Prim.Native.Nat.{ℕ, _+_, _-_, _*_, _/_, _≤_, _<_, min};
+ghost use Prim.Native.Nat.{ℕ, _+_, _/_, _≤_, _<_, min};
 ghost use lib.Dec.{eqb};
-ghost use lib.ListN.{getD};
-ghost use Rattle.front.specs.Seams.{edge, border, inside, hearer, near};
-ghost use Rattle.front.specs.Board.{land, rule-at, tentative, Ground, Site};
+ghost use Rattle.front.specs.Seams.{edge, border, inside, least-seam, hearer, near};
+ghost use Rattle.front.specs.Board.{land, rule-at, tentative, at, Ground, Measures, Site};
 ghost use Rattle.front.specs.State.{Held, Touched, Told};
 use super::Shape;
 use super::seams::BORDER;
 use super::seams::INSIDE;
+use eikonal::arrival::NEVER;
 
-// Lowers the cell e to what the rule gives it, if that is earlier.
+// Lowers the cell e to what the rule gives it, if that is earlier. A cell that has had no time yet is new to the queue.
 pub fn relax(
     slow: &[u32],
     times: &[u32],
     work: &mut [u32],
+    size: usize,
     cols: &[u8; 257],
     rows: &[u8; 257],
     shape: Shape,
+    n: usize,
+    w: usize,
     e: usize,
     row: usize,
     col: usize,
-)
-    requires { ⌜ Ground shape (now slow) (now times) (now cols) (now rows) × Site shape e row col × Held (shape .cells) (now work) ⌝ }
-    ensures { λ r. ⌜ ((t : ℕ) → (t ≡ 0) ⊎ (t < tentative (now (work .entry)) (shape .cells) e)
-        → Touched (shape .cells) (rule-at shape (now (slow .entry)) (now (times .entry))) t e (now (work .entry)) (now (work .exit))) ⌝ }
+) -> usize
+    requires { ⌜ Ground shape (now slow) (now times) (now cols) (now rows) × Measures shape n w × Site n w e row col × Held n (at (now work) size) ⌝ }
+    ensures { λ r. ⌜ ((t : ℕ) → (t ≡ 0) ⊎ (t < tentative (now (work .entry)) n e)
+        → Touched n (rule-at shape (now (slow .entry)) (now (times .entry))) t e (at (now (work .entry)) size) (at (now (work .exit)) r)) ⌝ }
 {
-    let n = shape.cells;
-    let v = super::sight::rule(slow, times, work, cols, rows, shape, e, row, col);
     let at = 2 * n + e;
-    if v < work[at] {
-        work[at] = v;
-        queue::lower(work, n, e, v);
+    let y = work[at];
+    let x = super::sight::rule(slow, times, work, cols, rows, shape, n, w, e, row, col, y);
+    if x < y {
+        work[at] = x;
+        if y == NEVER {
+            return queue::insert(work, size, n, e, x);
+        }
+        return queue::lower(work, size, n, e, x);
     }
+    size
 }
 
 // The cell e hears of a cell whose time is t. One that is no later, and a wall, need not be looked at.
@@ -41,26 +48,41 @@ fn touch(
     slow: &[u32],
     times: &[u32],
     work: &mut [u32],
+    size: usize,
     cols: &[u8; 257],
     rows: &[u8; 257],
     shape: Shape,
+    n: usize,
+    w: usize,
     e: usize,
     row: usize,
     col: usize,
     t: u32,
-)
-    requires { ⌜ Ground shape (now slow) (now times) (now cols) (now rows) × Site shape e row col × Held (shape .cells) (now work) ⌝ }
-    ensures { λ r. ⌜ Touched (shape .cells) (rule-at shape (now (slow .entry)) (now (times .entry))) t e (now (work .entry)) (now (work .exit)) ⌝ }
+) -> usize
+    requires { ⌜ Ground shape (now slow) (now times) (now cols) (now rows) × Measures shape n w × Site n w e row col × Held n (at (now work) size) ⌝ }
+    ensures { λ r. ⌜ Touched n (rule-at shape (now (slow .entry)) (now (times .entry))) t e (at (now (work .entry)) size) (at (now (work .exit)) r) ⌝ }
 {
-    let n = shape.cells;
     let at = 2 * n + e;
     if work[at] <= t {
-        return;
+        return size;
     }
     if slow[e] == 0 {
-        return;
+        return size;
     }
-    relax(slow, times, work, cols, rows, shape, e, row, col);
+    relax(
+        slow,
+        times,
+        work,
+        size,
+        cols,
+        rows,
+        shape,
+        n,
+        w,
+        e,
+        row,
+        col,
+    )
 }
 
 // The same if the seam between the two cells is of the given kind. Off the board there is no such cell; the seam there is the edge.
@@ -68,23 +90,42 @@ fn tell_across(
     slow: &[u32],
     times: &[u32],
     work: &mut [u32],
+    size: usize,
     cols: &[u8; 257],
     rows: &[u8; 257],
     shape: Shape,
+    n: usize,
+    w: usize,
     e: usize,
     row: usize,
     col: usize,
     t: u32,
     mark: u8,
     kind: u8,
-)
-    requires { ⌜ Ground shape (now slow) (now times) (now cols) (now rows) × Held (shape .cells) (now work) × (mark ≡ kind → Site shape e row col) ⌝ }
-    ensures { λ r. ⌜ Touched (shape .cells) (rule-at shape (now (slow .entry)) (now (times .entry))) t (hearer (shape .cells) kind mark e)
-        (now (work .entry)) (now (work .exit)) ⌝ }
+) -> usize
+    requires { ⌜ Ground shape (now slow) (now times) (now cols) (now rows) × Measures shape n w × Held n (at (now work) size)
+        × (mark ≡ kind → Site n w e row col) ⌝ }
+    ensures { λ r. ⌜ Touched n (rule-at shape (now (slow .entry)) (now (times .entry))) t (hearer n kind mark e)
+        (at (now (work .entry)) size) (at (now (work .exit)) r) ⌝ }
 {
     if mark == kind {
-        touch(slow, times, work, cols, rows, shape, e, row, col, t);
+        return touch(
+            slow,
+            times,
+            work,
+            size,
+            cols,
+            rows,
+            shape,
+            n,
+            w,
+            e,
+            row,
+            col,
+            t,
+        );
     }
+    size
 }
 
 // One step back; off the board the difference wraps.
@@ -95,39 +136,45 @@ fn back(x: usize, step: usize) -> usize
 }
 
 // Division of 32 bits is much quicker than of 64.
-fn row_of(c: usize, w: usize) -> usize
+pub fn row_of(c: usize, w: usize) -> usize
     requires { ⌜ (c ≤ 65536) × (1 ≤ w) × (w ≤ 256) ⌝ }
     ensures { λ r. ⌜ r ≡ c / w ⌝ }
 {
     ((c as u32) / (w as u32)) as usize
 }
 
-// The neighbours of c across seams of the given kind hear of it.
+// The neighbours of c, which is at a row and a column, across seams of the given kind hear of it.
 pub fn tell(
     slow: &[u32],
     times: &[u32],
     work: &mut [u32],
+    size: usize,
     cols: &[u8; 257],
     rows: &[u8; 257],
     shape: Shape,
+    n: usize,
+    w: usize,
     c: usize,
+    row: usize,
+    col: usize,
     t: u32,
     kind: u8,
-)
-    requires { ⌜ Ground shape (now slow) (now times) (now cols) (now rows) × Held (shape .cells) (now work) × (c < shape .cells) × (kind ≢ edge) ⌝ }
-    ensures { λ r. ⌜ Told (shape .cells) (rule-at shape (now (slow .entry)) (now (times .entry))) t
-        (near (land shape (now (slow .entry))) (shape .across) (shape .down) kind c) (now (work .entry)) (now (work .exit)) ⌝ }
+) -> usize
+    requires { ⌜ Ground shape (now slow) (now times) (now cols) (now rows) × Measures shape n w × Held n (at (now work) size)
+        × Site n w c row col × (kind ≢ edge) ⌝ }
+    ensures { λ r. ⌜ Told n (rule-at shape (now (slow .entry)) (now (times .entry))) t
+        (near (land shape (now (slow .entry))) (shape .across) (shape .down) kind c) (at (now (work .entry)) size) (at (now (work .exit)) r) ⌝ }
 {
-    let w = shape.width;
-    let row = row_of(c, w);
-    let col = c - row * w;
-    tell_across(
+    let left = tell_across(
         slow,
         times,
         work,
+        size,
         cols,
         rows,
         shape,
+        n,
+        w,
         back(c, 1),
         row,
         back(col, 1),
@@ -135,13 +182,16 @@ pub fn tell(
         cols[col],
         kind,
     );
-    tell_across(
+    let right = tell_across(
         slow,
         times,
         work,
+        left,
         cols,
         rows,
         shape,
+        n,
+        w,
         c + 1,
         row,
         col + 1,
@@ -149,13 +199,16 @@ pub fn tell(
         cols[col + 1],
         kind,
     );
-    tell_across(
+    let up = tell_across(
         slow,
         times,
         work,
+        right,
         cols,
         rows,
         shape,
+        n,
+        w,
         back(c, w),
         back(row, 1),
         col,
@@ -167,16 +220,19 @@ pub fn tell(
         slow,
         times,
         work,
+        up,
         cols,
         rows,
         shape,
+        n,
+        w,
         c + w,
         row + 1,
         col,
         t,
         rows[row + 1],
         kind,
-    );
+    )
 }
 
 fn lesser(a: u8, b: u8) -> u8
@@ -185,11 +241,10 @@ fn lesser(a: u8, b: u8) -> u8
     if a < b { a } else { b }
 }
 
-// Whether all four seams around a cell are inside its tile. One branch is compiled: an inside seam is the greatest.
-fn inner(cols: &[u8; 257], rows: &[u8; 257], row: usize, col: usize) -> bool
+// Whether all four seams around a cell are inside its tile. An inside seam is the greatest, so that one branch is compiled.
+pub fn inner(cols: &[u8; 257], rows: &[u8; 257], row: usize, col: usize) -> bool
     requires { ⌜ (row < 256) × (col < 256) ⌝ }
-    ensures { λ r. ⌜ r ≡ eqb (min (min (getD (now (cols .entry)) col 0) (getD (now (cols .entry)) (col + 1) 0))
-        (min (getD (now (rows .entry)) row 0) (getD (now (rows .entry)) (row + 1) 0))) inside ⌝ }
+    ensures { λ r. ⌜ r ≡ eqb (least-seam (now (cols .entry)) (now (rows .entry)) row col) inside ⌝ }
 {
     let beside = lesser(cols[col], cols[col + 1]);
     let over = lesser(rows[row], rows[row + 1]);
@@ -201,21 +256,38 @@ pub fn tell_others(
     slow: &[u32],
     times: &[u32],
     work: &mut [u32],
+    size: usize,
     cols: &[u8; 257],
     rows: &[u8; 257],
     shape: Shape,
+    n: usize,
+    w: usize,
     c: usize,
     t: u32,
-)
-    requires { ⌜ Ground shape (now slow) (now times) (now cols) (now rows) × Held (shape .cells) (now work) × (c < shape .cells) ⌝ }
-    ensures { λ r. ⌜ Told (shape .cells) (rule-at shape (now (slow .entry)) (now (times .entry))) t
-        (near (land shape (now (slow .entry))) (shape .across) (shape .down) border c) (now (work .entry)) (now (work .exit)) ⌝ }
+) -> usize
+    requires { ⌜ Ground shape (now slow) (now times) (now cols) (now rows) × Measures shape n w × Held n (at (now work) size) × (c < n) ⌝ }
+    ensures { λ r. ⌜ Told n (rule-at shape (now (slow .entry)) (now (times .entry))) t
+        (near (land shape (now (slow .entry))) (shape .across) (shape .down) border c) (at (now (work .entry)) size) (at (now (work .exit)) r) ⌝ }
 {
-    let w = shape.width;
     let row = row_of(c, w);
     let col = c - row * w;
     if inner(cols, rows, row, col) {
-        return;
+        return size;
     }
-    tell(slow, times, work, cols, rows, shape, c, t, BORDER);
+    tell(
+        slow,
+        times,
+        work,
+        size,
+        cols,
+        rows,
+        shape,
+        n,
+        w,
+        c,
+        row,
+        col,
+        t,
+        BORDER,
+    )
 }

@@ -1,8 +1,7 @@
-// A single round, begun: every cell hears the stored times.
-ghost use Prim.Native.Nat.{ℕ, suc, _*_, _<_};
-ghost use mathlib.Core.List.{List};
-ghost use Rattle.front.specs.Board.{rule-at, Ground};
-ghost use Rattle.front.specs.State.{Held, Told, cells-below};
+// Rows of a single round, begun: every cell with a neighbour in another tile hears the stored times. Within a tile nothing is to be heard yet.
+ghost use Prim.Native.Nat.{ℕ, suc, _*_, _≤_, _<_};
+ghost use Rattle.front.specs.Board.{Work, at, Ground};
+ghost use Rattle.front.specs.State.{Held, Woken};
 use super::Shape;
 
 // After the cells of the rows before, those of a row.
@@ -10,42 +9,66 @@ fn wake_row(
     slow: &[u32],
     times: &[u32],
     work: &mut [u32],
+    size: usize,
     cols: &[u8; 257],
     rows: &[u8; 257],
     shape: Shape,
     row: usize,
-)
-    requires { ⌜ Ground shape (now slow) (now times) (now cols) (now rows) × Held (shape .cells) (now work) × (row < shape .height) ⌝ }
-    ensures { λ r. ⌜ ((v : List ℕ)
-        → Told (shape .cells) (rule-at shape (now (slow .entry)) (now (times .entry))) 0 (cells-below (row * shape .width)) v (now (work .entry))
-        → Told (shape .cells) (rule-at shape (now (slow .entry)) (now (times .entry))) 0 (cells-below (suc row * shape .width)) v (now (work .exit))) ⌝ }
+) -> usize
+    requires { ⌜ Ground shape (now slow) (now times) (now cols) (now rows) × Held (shape .cells) (at (now work) size) × (row < shape .height) ⌝ }
+    ensures { λ r. ⌜ ((lo : ℕ) → (v : Work) → lo ≤ row * shape .width
+        → Woken shape (now (slow .entry)) (now (times .entry)) lo (row * shape .width) v (at (now (work .entry)) size)
+        → Woken shape (now (slow .entry)) (now (times .entry)) lo (suc row * shape .width) v (at (now (work .exit)) r)) ⌝ }
 {
+    let n = shape.cells;
     let w = shape.width;
     let first = row * w;
+    let mut pending = size;
     let mut col = 0;
     while col < w {
-        super::spread::relax(slow, times, work, cols, rows, shape, first + col, row, col);
+        if !super::spread::inner(cols, rows, row, col) {
+            pending = super::spread::relax(
+                slow,
+                times,
+                work,
+                pending,
+                cols,
+                rows,
+                shape,
+                n,
+                w,
+                first + col,
+                row,
+                col,
+            );
+        }
         col += 1;
     }
+    pending
 }
 
-// Every cell in turn.
+// The rows from `from` up to `end`, one after the other.
 pub fn wake(
     slow: &[u32],
     times: &[u32],
     work: &mut [u32],
+    size: usize,
     cols: &[u8; 257],
     rows: &[u8; 257],
     shape: Shape,
-)
-    requires { ⌜ Ground shape (now slow) (now times) (now cols) (now rows) × Held (shape .cells) (now work) ⌝ }
-    ensures { λ r. ⌜ Told (shape .cells) (rule-at shape (now (slow .entry)) (now (times .entry))) 0 (cells-below (shape .cells))
-        (now (work .entry)) (now (work .exit)) ⌝ }
+    from: usize,
+    end: usize,
+) -> usize
+    requires { ⌜ Ground shape (now slow) (now times) (now cols) (now rows) × Held (shape .cells) (at (now work) size)
+        × (from ≤ end) × (end ≤ shape .height) ⌝ }
+    ensures { λ r. ⌜ Woken shape (now (slow .entry)) (now (times .entry)) (from * shape .width) (end * shape .width) (at (now (work .entry)) size)
+        (at (now (work .exit)) r) ⌝ }
 {
-    let h = shape.height;
-    let mut row = 0;
-    while row < h {
-        wake_row(slow, times, work, cols, rows, shape, row);
+    let mut pending = size;
+    let mut row = from;
+    while row < end {
+        pending = wake_row(slow, times, work, pending, cols, rows, shape, row);
         row += 1;
     }
+    pending
 }

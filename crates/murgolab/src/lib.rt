@@ -171,8 +171,8 @@ pub extern "C" fn murgolab_march(
         x (lent (now (times .entry)) (now (work .entry))) (lent (now (times .exit)) (now (work .exit))) ⌝ }
 {
     // a march has no order of tiles, and reads none
-    let job = records::calls::march_job(horizon);
-    records::calls::play_records(width, height, slow, starts, job, slow, times, work)
+    let job = record_calls::calls::march_job(horizon);
+    record_calls::calls::play_records(width, height, slow, starts, job, slow, times, work)
 }
 
 #[no_mangle]
@@ -192,8 +192,8 @@ pub extern "C" fn murgolab_one_round(
         (Round across down bound) (now (order .entry)) (length (now (work .entry))))
         x (lent (now (times .entry)) (now (work .entry))) (lent (now (times .exit)) (now (work .exit))) ⌝ }
 {
-    let job = records::calls::round_job(across, down, bound);
-    records::calls::play_records(width, height, slow, starts, job, order, times, work)
+    let job = record_calls::calls::round_job(across, down, bound);
+    record_calls::calls::play_records(width, height, slow, starts, job, order, times, work)
 }
 
 #[no_mangle]
@@ -214,8 +214,8 @@ pub extern "C" fn murgolab_tile_run(
         (Run across down stride horizon) (now (order .entry)) (length (now (work .entry))))
         x (lent (now (times .entry)) (now (work .entry))) (lent (now (times .exit)) (now (work .exit))) ⌝ }
 {
-    let job = records::calls::run_job(across, down, stride, horizon);
-    records::calls::play_records(width, height, slow, starts, job, order, times, work)
+    let job = record_calls::calls::run_job(across, down, stride, horizon);
+    record_calls::calls::play_records(width, height, slow, starts, job, order, times, work)
 }
 
 #[no_mangle]
@@ -228,7 +228,7 @@ pub extern "C" fn murgolab_read_scenario(
         (cells-of (now (starts .entry))) (cells-of (now (starts .exit))) (begins-of (now (starts .entry))) (begins-of (now (starts .exit))) x ⌝ }
 {
     let answer = scenario_read::read_ground(file, slow, starts.len());
-    records::read::read_records(file, records::read::count_of(answer), starts);
+    record_files::read::read_records(file, record_files::read::count_of(answer), starts);
     answer
 }
 
@@ -245,7 +245,7 @@ pub extern "C" fn murgolab_write_scenario(
     ensures { λ x. ⌜ Writes (by-records width height (now (slow .entry)) (now (starts .entry))) ticks ground
         (now (out .entry)) (now (out .exit)) x ⌝ }
 {
-    let judged = records::judge::judge_records(slow, starts);
+    let judged = record_calls::judge::judge_records(slow, starts);
     let reply = scenario_write::begin_file(
         width,
         height,
@@ -257,9 +257,9 @@ pub extern "C" fn murgolab_write_scenario(
         judged,
         out,
     );
-    let at = records::write::place_of(reply, starts.len());
-    let count = records::write::count_of(reply, starts.len());
-    records::write::write_records(out, at, count, starts);
+    let at = record_files::write::place_of(reply, starts.len());
+    let count = record_files::write::count_of(reply, starts.len());
+    record_files::write::write_records(out, at, count, starts);
     reply
 }
 

@@ -1,11 +1,9 @@
 -- Where one tile covers the board a round is a march, whatever times are stored, and so is what a tile run holds after each round.
 use mathlib.Core.Path.{_≡_, sym, ap, _∙_}
-use mathlib.Core.Bool.{true}
 use mathlib.Core.List.{List}
 use Prim.Native.Nat.{ℕ, suc, _*_, _/_, _%_, _≤_, _<_, min}
 use native.Mathlib.Omega.{arith}
 use native.Mathlib.Nat.{div-eq-of-lt, mod-lt}
-use lib.Dec.{eqb}
 use borrow.Author.Tests.{eq-eqb}
 use Rattle.eikonal.specs.Board.{Board, never, largest, size, start-time, met, time, marched}
 use Rattle.eikonal.specs.Tiles.{tile-of, tiled, round, after-rounds}
@@ -25,8 +23,8 @@ module _ (b : Board) (g : Good b) (tw th : ℕ) (wide : b .wide ≤ tw) (high : 
       let col : c % b .wide / tw ≡ 0 = div-eq-of-lt (omega (arith, mod-lt c (g .wide-low))) in
       rw (row, col) (omega arith)
 
-  pub same-tile : (c e : ℕ) → c < size b → e < size b → eqb (tile-of b tw th c) (tile-of b tw th e) ≡ true
-  same-tile c e l m = eq-eqb _ _ (one-tile c l ∙ sym (one-tile e m))
+  pub same-tile : (c e : ℕ) → c < size b → e < size b → tile-of b tw th c ≡ tile-of b tw th e
+  same-tile c e l m = one-tile c l ∙ sym (one-tile e m)
 
   pub round-is-march : (m : ℕ) → m ≤ largest → (stored : List ℕ) → round b tw th m stored ≡ marched b m
   unfolding marched
@@ -41,7 +39,7 @@ module _ (b : Board) (g : Good b) (tw th : ℕ) (wide : b .wide ≤ tw) (high : 
           fixed c n
           ∙ ap (clip m)
           (met-capped g c _
-          ∙ ap (λ (u : ℕ). min (start-time c (b .starts)) (min never u)) (arrival-same g c n _ _ (λ e k q. rw (same-tile c e n k)))
+          ∙ ap (λ (u : ℕ). min (start-time c (b .starts)) (min never u)) (arrival-same g c n _ _ (λ e k q. rw (eq-eqb _ _ (same-tile c e n k))))
           ∙ sym (met-capped g c _))
 
   pub after-is : (s h : ℕ) → h ≤ largest → (j : ℕ) → after-rounds (suc j) b tw th s h ≡ marched b (min (suc j * s) h)

@@ -1,3 +1,7 @@
+pub mod Children
 pub mod Filling
+pub mod Heap
 pub mod Mending
-pub mod Tree
+pub mod Pigeons
+pub mod Putting
+pub mod Seating

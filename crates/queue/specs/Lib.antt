@@ -1,3 +1,3 @@
+pub mod Heap
 pub mod Lists
-pub mod Tree
 pub mod Mending

@@ -1,110 +1,223 @@
-// A tournament tree in the first 2n entries of a lent list: entry n + c is cell c's key, NEVER where c is not pending; node v, 1 <= v < n, is the cell
-// whose key is the least below it, its children being the nodes 2v and 2v + 1. So node 1 is the cell that is next. Entry 0 is not used.
+// A heap of pending cells, each slot with four below it, in the first 2n entries of a lent list: entry 2i is the key in the slot i, and entry 2i + 1 is
+// the cell in the slot i plus 65,536 times the slot of the cell i. A cell is pending if its slot is below the size and holds it: nothing is ever cleared.
+// The size is a number handed along. Only contracts read n.
 ghost use mathlib.Core.Path.{_≡_};
 ghost use mathlib.Core.Logic.{_⊎_};
-ghost use Prim.Native.Nat.{_+_, _*_, _/_, _≤_, _<_};
+ghost use Prim.Native.Nat.{ℕ, _+_, _*_, _-_, _≤_, _<_, min};
 ghost use lib.ListN.{length};
-ghost use Rattle.queue.specs.Tree.{never, keys, owner, winner, Tree, Put, Least, Cleared};
-ghost use Rattle.queue.specs.Mending.{Apart, Cells, rekeyed, Mended};
+ghost use Rattle.queue.specs.Heap.{never, key, cell, place, keys, Heap, Put, Least};
+ghost use Rattle.queue.specs.Mending.{Room, Seated, Found, Hole, Below, Moved, Rested, Chosen};
+use lists::lesser;
+use lists::nearer;
 
 pub mod lists;
 
 const NEVER: u32 = 4294967295;
 
-// Of two cells the one with the lesser key.
-fn better(a: u32, x: u32, b: u32, y: u32) -> u32
-    ensures { λ r. ⌜ ((r ≡ a) × (x < y)) ⊎ ((r ≡ b) × (y ≤ x)) ⌝ }
+fn cell_in(work: &[u32], n: usize, slot: usize) -> usize
+    requires { ⌜ (slot < n) × Room n (now work) ⌝ }
+    ensures { λ r. ⌜ r ≡ cell (now (work .entry)) slot ⌝ }
 {
-    if x < y { a } else { b }
+    (work[2 * slot + 1] % 65536) as usize
 }
 
-// The cell of a node whose entry is x.
-fn cell_of(x: u32, n: usize, v: usize) -> u32
-    requires { ⌜ (v < 2 * n) × (n ≤ never) ⌝ }
-    ensures { λ r. ⌜ r ≡ owner x n v ⌝ }
+fn place_of(work: &[u32], n: usize, c: usize) -> usize
+    requires { ⌜ (c < n) × Room n (now work) ⌝ }
+    ensures { λ r. ⌜ r ≡ place (now (work .entry)) c ⌝ }
 {
-    if v < n { x } else { (v - n) as u32 }
+    (work[2 * c + 1] / 65536) as usize
 }
 
-// The entry is read of a leaf too: with the choice in a function of its own no branch is compiled.
-fn winner_of(work: &[u32], n: usize, v: usize) -> u32
-    requires { ⌜ (v < 2 * n) × (2 * n ≤ length (now work)) × (n ≤ never) ⌝ }
-    ensures { λ r. ⌜ r ≡ winner (now (work .entry)) n v ⌝ }
+// Puts the cell c with its key x into a slot.
+fn seat(work: &mut [u32], n: usize, slot: usize, c: usize, x: u32)
+    requires { ⌜ (slot < n) × (c < n) × Room n (now work) ⌝ }
+    ensures { λ r. ⌜ Seated (now (work .entry)) n slot c x (now (work .exit)) ⌝ }
 {
-    cell_of(work[v], n, v)
+    let top = 2 * slot;
+    work[top] = x;
+    let at = 2 * slot + 1;
+    work[at] = work[at] / 65536 * 65536 + c as u32;
+    let by = 2 * c + 1;
+    work[by] = work[by] % 65536 + 65536 * slot as u32;
 }
 
-// Plays the matches from a cell's leaf up again.
-fn replay(work: &mut [u32], n: usize, cell: usize)
-    requires { ⌜ (cell < n) × (2 * n ≤ length (now work)) × (n ≤ never) × Cells (now work) n
-        × Apart n (winner (now work) n) (keys (now work) n) ((n + cell) / 2) ⌝ }
-    ensures { λ r. ⌜ Mended (now (work .entry)) n (keys (now (work .entry)) n) (now (work .exit)) ⌝ }
+// The slot of the cell c, or the size where it is not pending.
+fn slot_of(work: &[u32], size: usize, n: usize, c: usize) -> usize
+    requires { ⌜ (c < n) × (size ≤ n) × Room n (now work) ⌝ }
+    ensures { λ r. ⌜ Found (now (work .entry)) size c r ⌝ }
 {
-    let mut v = n + cell;
-    let mut best = cell as u32;
-    let mut key = work[v];
-    while v > 1 {
-        let p = v / 2;
-        let rival = winner_of(work, n, 4 * p + 1 - v);
-        let low = work[n + rival as usize];
-        best = better(rival, low, best, key);
-        key = lists::lesser(low, key);
-        work[p] = best;
-        v = p;
-    }
-}
-
-// Lets a cell win, from its leaf up, until a key is not above its new one.
-fn climb(work: &mut [u32], n: usize, cell: usize, key: u32)
-    requires { ⌜ (cell < n) × (2 * n ≤ length (now work)) × Tree (now work) n × (key < keys (now work) n cell) ⌝ }
-    ensures { λ r. ⌜ Mended (now (work .entry)) n (rekeyed (keys (now (work .entry)) n) cell key) (now (work .exit)) ⌝ }
-{
-    let mut won = n + cell;
-    while won > 1 {
-        let p = won / 2;
-        if work[n + work[p] as usize] <= key {
-            return;
+    let at = place_of(work, n, c);
+    if at < size {
+        if cell_in(work, n, at) == c {
+            return at;
         }
-        work[p] = cell as u32;
-        won = p;
+    }
+    size
+}
+
+// Lets the hole rise until the key above it is not above x. The hole's slot is the answer. Only the contract reads c, the cell that is to be seated there.
+fn rise(work: &mut [u32], size: usize, n: usize, hole: usize, c: usize, x: u32) -> usize
+    requires { ⌜ Room n (now work) × Hole (now work) size n hole c × Below (now work) size hole x ⌝ }
+    ensures { λ r. ⌜ Rested (now (work .entry)) size n hole c x (now (work .exit)) r ⌝ }
+{
+    let mut i = hole;
+    while i > 0 {
+        let p = (i - 1) / 4;
+        let y = work[2 * p];
+        if y <= x {
+            return i;
+        }
+        let e = cell_in(work, n, p);
+        seat(work, n, i, e, y);
+        i = p;
+    }
+    i
+}
+
+// Of two slots the one with the lesser key.
+fn better(a: usize, x: u32, b: usize, y: u32) -> usize
+    ensures { λ r. ⌜ ((r ≡ a) × (x ≤ y)) ⊎ ((r ≡ b) × (y < x)) ⌝ }
+{
+    if y < x { b } else { a }
+}
+
+// 1 where x is less than y, else 0: a sum in the place of a choice, of which a branch might be compiled.
+fn less(x: u32, y: u32) -> usize
+    ensures { λ r. ⌜ ((r ≡ 0) × (y ≤ x)) ⊎ ((r ≡ 1) × (x < y)) ⌝ }
+{
+    if x < y { 1 } else { 0 }
+}
+
+// A slot and its key.
+struct Child {
+    slot: usize,
+    x: u32,
+}
+
+// Of four slots in a row one with the least key.
+fn least_of_row(work: &[u32], f: usize) -> Child
+    requires { ⌜ 2 * (f + 4) ≤ length (now work) ⌝ }
+    ensures { λ r. ⌜ (r .x ≡ key (now (work .entry)) (r .slot)) × Chosen (now (work .entry)) f (f + 3) (r .slot) ⌝ }
+{
+    let p = work[2 * f];
+    let q = work[2 * f + 2];
+    let u = work[2 * f + 4];
+    let v = work[2 * f + 6];
+    let x = lesser(p, q);
+    let y = lesser(u, v);
+    let a = f + less(q, p);
+    let b = f + 2 + less(v, u);
+    Child {
+        slot: better(a, x, b, y),
+        x: lesser(x, y),
     }
 }
 
-// All keys are never. Every node is won by its first child's winner, from the last node to the first.
-pub fn clear(work: &mut [u32], n: usize)
-    requires { ⌜ (1 ≤ n) × (n ≤ never) × (2 * n ≤ length (now work)) ⌝ }
-    ensures { λ r. ⌜ Cleared (now (work .entry)) n (now (work .exit)) ⌝ }
+// Of the slots from f on one with the least key, where there are at most three: the last stands for those that are missing.
+fn least_of_few(work: &[u32], f: usize, last: usize) -> Child
+    requires { ⌜ (f ≤ last) × (last < f + 3) × (2 * (last + 1) ≤ length (now work)) ⌝ }
+    ensures { λ r. ⌜ (r .x ≡ key (now (work .entry)) (r .slot)) × Chosen (now (work .entry)) f last (r .slot) ⌝ }
 {
-    lists::fill(work, n, 2 * n, NEVER);
-    let mut seated = n;
-    while seated > 1 {
-        let p = seated - 1;
-        let first = winner_of(work, n, 2 * p);
-        work[p] = first;
-        seated = p;
+    let m = nearer(f + 1, last);
+    let p = work[2 * f];
+    let q = work[2 * m];
+    let y = work[2 * last];
+    let x = lesser(p, q);
+    let a = better(f, p, m, q);
+    Child {
+        slot: better(a, x, last, y),
+        x: lesser(x, y),
     }
 }
 
-// A cell whose key is the least.
-pub fn first(work: &[u32], n: usize) -> usize
-    requires { ⌜ (1 ≤ n) × (2 * n ≤ length (now work)) × Tree (now work) n ⌝ }
-    ensures { λ r. ⌜ Least (now (work .entry)) n r ⌝ }
+// The slot with the least key below slot i.
+fn least_child(work: &[u32], size: usize, i: usize) -> Child
+    requires { ⌜ (4 * i + 1 < size) × (2 * size ≤ length (now work)) ⌝ }
+    ensures { λ r. ⌜ (r .x ≡ key (now (work .entry)) (r .slot)) × Chosen (now (work .entry)) (4 * i + 1) (min (4 * i + 4) (size - 1)) (r .slot) ⌝ }
 {
-    winner_of(work, n, 1) as usize
+    let f = 4 * i + 1;
+    if f + 4 <= size {
+        return least_of_row(work, f);
+    }
+    least_of_few(work, f, size - 1)
 }
 
-pub fn lower(work: &mut [u32], n: usize, cell: usize, key: u32)
-    requires { ⌜ (cell < n) × (2 * n ≤ length (now work)) × Tree (now work) n × (key < keys (now work) n cell) ⌝ }
-    ensures { λ r. ⌜ Put (now (work .entry)) n cell key (now (work .exit)) ⌝ }
+// Lets the hole sink from the first slot to one with none below it, the least key below it moving up each time. The hole's slot is the answer.
+// To the end whatever the key is that comes there: as it comes from the last slot, it seldom stays higher, and the test would often be guessed wrong.
+fn sink(work: &mut [u32], size: usize, n: usize, c: usize) -> usize
+    requires { ⌜ Room n (now work) × Hole (now work) size n 0 c ⌝ }
+    ensures { λ r. ⌜ Moved (now (work .entry)) size n 0 c (now (work .exit)) r × (size ≤ 4 * r + 1) ⌝ }
 {
-    climb(work, n, cell, key);
-    work[n + cell] = key;
+    let mut i = 0;
+    while 4 * i + 1 < size {
+        let below = least_child(work, size, i);
+        let b = below.slot;
+        let y = below.x;
+        let e = cell_in(work, n, b);
+        seat(work, n, i, e, y);
+        i = b;
+    }
+    i
 }
 
-pub fn remove(work: &mut [u32], n: usize, cell: usize)
-    requires { ⌜ (cell < n) × (2 * n ≤ length (now work)) × Tree (now work) n ⌝ }
-    ensures { λ r. ⌜ Put (now (work .entry)) n cell never (now (work .exit)) ⌝ }
+// The least of the keys, never where no cell is pending.
+pub fn least_key(work: &[u32], size: usize, n: usize) -> u32
+    requires { ⌜ (2 * n ≤ length (now work)) × Heap (now work) size n ⌝ }
+    ensures { λ r. ⌜ ((c : ℕ) → r ≤ keys (now (work .entry)) size c) × (r < never → (0 < size) × (r ≡ key (now (work .entry)) 0)) ⌝ }
 {
-    work[n + cell] = NEVER;
-    replay(work, n, cell);
+    if size > 0 { work[0] } else { NEVER }
+}
+
+// A pending cell whose key is the least: where there is one, it is in the first slot.
+pub fn first(work: &[u32], size: usize, n: usize) -> usize
+    requires { ⌜ (0 < size) × (2 * n ≤ length (now work)) × Heap (now work) size n ⌝ }
+    ensures { λ r. ⌜ Least (now (work .entry)) size n r ⌝ }
+{
+    cell_in(work, n, 0)
+}
+
+// The cell c, which is not pending, becomes so with the key x. The new size is the answer.
+pub fn insert(work: &mut [u32], size: usize, n: usize, c: usize, x: u32) -> usize
+    requires { ⌜ (c < n) × (2 * n ≤ length (now work)) × Heap (now work) size n × (keys (now work) size c ≡ never) × (x < never) ⌝ }
+    ensures { λ r. ⌜ Put (now (work .entry)) size n c x (now (work .exit)) r ⌝ }
+{
+    let to = rise(work, size + 1, n, size, c, x);
+    seat(work, n, to, c, x);
+    size + 1
+}
+
+// The size once a slot is in use.
+fn size_with(size: usize, slot: usize) -> usize
+    requires { ⌜ size ≤ 65536 ⌝ }
+    ensures { λ r. ⌜ ((slot < size) × (r ≡ size)) ⊎ ((size ≤ slot) × (r ≡ size + 1)) ⌝ }
+{
+    if slot < size { size } else { size + 1 }
+}
+
+// Lowers the key of the cell c, which need not be pending, to x. The new size is the answer.
+pub fn lower(work: &mut [u32], size: usize, n: usize, c: usize, x: u32) -> usize
+    requires { ⌜ (c < n) × (2 * n ≤ length (now work)) × Heap (now work) size n × (x < keys (now work) size c) ⌝ }
+    ensures { λ r. ⌜ Put (now (work .entry)) size n c x (now (work .exit)) r ⌝ }
+{
+    let at = slot_of(work, size, n, c);
+    let next = size_with(size, at);
+    let to = rise(work, next, n, at, c, x);
+    seat(work, n, to, c, x);
+    next
+}
+
+// Removes the cell in the first slot. The new size is the answer.
+pub fn remove_first(work: &mut [u32], size: usize, n: usize) -> usize
+    requires { ⌜ (0 < size) × (2 * n ≤ length (now work)) × Heap (now work) size n ⌝ }
+    ensures { λ r. ⌜ Put (now (work .entry)) size n (cell (now (work .entry)) 0) never (now (work .exit)) r ⌝ }
+{
+    let last = size - 1;
+    if last > 0 {
+        let c = cell_in(work, n, last);
+        let x = work[2 * last];
+        let hole = sink(work, last, n, c);
+        let to = rise(work, last, n, hole, c, x);
+        seat(work, n, to, c, x);
+    }
+    last
 }

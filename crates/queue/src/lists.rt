@@ -10,6 +10,13 @@ pub fn lesser(a: u32, b: u32) -> u32
     if a < b { a } else { b }
 }
 
+// Of two places the first.
+pub fn nearer(a: usize, b: usize) -> usize
+    ensures { λ r. ⌜ r ≡ min a b ⌝ }
+{
+    if a < b { a } else { b }
+}
+
 // An entry as an index or a count: a cast in a function of its own asks for no proof that it fits.
 pub fn wide(x: u32) -> usize
     ensures { λ r. ⌜ r ≡ x ⌝ }

@@ -263,8 +263,8 @@ module _ {M : Type 1} (𝓤 : URA M) (H : Heap 𝓤) (A : Atoms 𝓤) (W : Given
 
   -- what is had of the parameters at exit, one after the other
   module _ {n : ℕ} (κs : Lfts n) where
-    abbrev pub hads : (ss : List (Slot n)) (ks : Kepts ss) (hs : Stays ss ks) (a : Denots (typesAt ss κs)) → Fins κs ss ks a → Valss (typesAt ss κs) → List
-        (Item 𝓤)
+    abbrev pub hads : (ss : List (Slot n)) (ks : Kepts ss) (hs : Stays ss ks) (a : Denots (typesAt ss κs)) → Fins κs ss ks a → Valss (typesAt ss κs)
+        → List (Item 𝓤)
     hads [] ks hs a ws vs = []
     hads (s ∷ ss) ks hs a ws vs = ‵ (hs .0 .has κs (a .0) (ws .0) (vs .0)) ∷ hads ss (ks .1) (hs .1) (a .1) (ws .1) (vs .1)
 
@@ -290,13 +290,14 @@ module _ {M : Type 1} (𝓤 : URA M) (H : Heap 𝓤) (A : Atoms 𝓤) (W : Given
         let h : SProp 𝓤 = sem 𝓤 H A (hasOf (y .0 .0) (T .signature .params) (T .kept) hs (y .0 .3) ws (y .0 .4)) in
         let e : SProp 𝓤 = c (y .0 .0) (y .0 .3) .ensures (y .1) r (atExit T (y .0 .0) (y .0 .3) ws) in
         let ts : List (Item 𝓤) = tokens 𝓤 H A (T .signature .lifetimes) (y .0 .0) (y .0 .1) in
-        via 𝓤 (sep 𝓤 o (sep 𝓤 l h)) (via 𝓤 _ (pop 𝓤 H A (‵ (typeAt (T .signature .result) (y .0 .0) .own r (u ∷ []))) (ts ++ had)) (monoR 𝓤 o (via 𝓤 _
-        (⊢++ 𝓤 H A ts had)
-        (mono∗ 𝓤 (tokens-in 𝓤 H A (T .signature .lifetimes) (y .0 .0) (y .0 .1)) (hads-in (y .0 .0) (T .signature .params) (T .kept) hs (y .0 .3) ws
-        (y .0 .4))))))
+        via 𝓤 (sep 𝓤 o (sep 𝓤 l h))
+        (via 𝓤 _ (pop 𝓤 H A (‵ (typeAt (T .signature .result) (y .0 .0) .own r (u ∷ []))) (ts ++ had))
+        (monoR 𝓤 o (via 𝓤 _ (⊢++ 𝓤 H A ts had)
+        (mono∗ 𝓤 (tokens-in 𝓤 H A (T .signature .lifetimes) (y .0 .0) (y .0 .1))
+        (hads-in (y .0 .0) (T .signature .params) (T .kept) hs (y .0 .3) ws (y .0 .4))))))
         (via 𝓤 (sep 𝓤 l (sep 𝓤 h o)) (via 𝓤 _ (comm∗ 𝓤 o (sep 𝓤 l h)) (assoc∗ 𝓤 l h o))
-        (via 𝓤 (sep 𝓤 (sep 𝓤 l (sep 𝓤 h o)) e) (via 𝓤 _ (emp∗ 𝓤 (sep 𝓤 l (sep 𝓤 h o))) (via 𝓤 _ (monoL 𝓤 (sep 𝓤 l (sep 𝓤 h o)) ensures)
-        (comm∗ 𝓤 e (sep 𝓤 l (sep 𝓤 h o)))))
+        (via 𝓤 (sep 𝓤 (sep 𝓤 l (sep 𝓤 h o)) e)
+        (via 𝓤 _ (emp∗ 𝓤 (sep 𝓤 l (sep 𝓤 h o))) (via 𝓤 _ (monoL 𝓤 (sep 𝓤 l (sep 𝓤 h o)) ensures) (comm∗ 𝓤 e (sep 𝓤 l (sep 𝓤 h o)))))
         (ends-at 𝓤 H A T hs c W y u r ws fits)))
 
   module _ (T : Ended) (hs : Stays (T .signature .params) (T .kept)) (c : Clauses 𝓤 T) (𝓣 : Tables 𝓤 H) (fn : Fn) where

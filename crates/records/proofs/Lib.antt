@@ -1,15 +1,8 @@
 pub mod Walk
 pub mod Filled
 pub mod Split
-pub mod Judging
-pub mod Placing
-pub mod Playing
-pub mod Reading
-pub mod Writing
 pub mod Again
 pub mod Parameters
 pub mod Locals
 pub mod Loops
 pub mod Calling
-pub mod Elements
-pub mod Promises

@@ -91,8 +91,8 @@ module _ {M : Type 1} {𝓤 : URA M} {H : Heap 𝓤} {A : Atoms 𝓤} {K : Type 
     slice-of t o d n e is = agg t (and-reads t o d (and-then t (length-of t n e is) (no-more t)))
 
   -- an assignment that ends a turn of a loop
-  pub resets-last : K → {C : Calls 𝓤 H} {Λ : Loops 𝓤 H} {Q : Post 𝓤 H} {i : ℕ} {rv : RValue} {v v₀ : Val} → Rv K W Γ E rv v → (n : ℕ) → nth 𝓤 H A n Γ ≡ holds 𝓤
-      H E i fullShare v₀ → Holds (hasTy (spotOf 𝓤 H E i .0) v) × WT v
+  pub resets-last : K → {C : Calls 𝓤 H} {Λ : Loops 𝓤 H} {Q : Post 𝓤 H} {i : ℕ} {rv : RValue} {v v₀ : Val} → Rv K W Γ E rv v → (n : ℕ)
+      → nth 𝓤 H A n Γ ≡ holds 𝓤 H E i fullShare v₀ → Holds (hasTy (spotOf 𝓤 H E i .0) v) × WT v
       → Step K W (put 𝓤 H A n (holds 𝓤 H E i fullShare v) Γ) (prop (post 𝓤 H Q next)) Γ (runs C Λ E (assign (place i []) rv) Q)
   resets-last t rv n e wt = assigns-last t rv (from t (stop t)) (store t n e wt)
 
@@ -101,21 +101,21 @@ module _ {M : Type 1} {𝓤 : URA M} {H : Heap 𝓤} {A : Atoms 𝓤} {K : Type 
         → Step K W (put 𝓤 H A n (holds 𝓤 H E i fullShare v) Γ) (runs C Λ E rest Q) Γ (runs C Λ E (seq (assign (place i []) rv) rest) Q)
     sets t rv n e wt = assigns t rv (from t (stop t)) (init t n e wt)
 
-    pub resets : K → {i : ℕ} {rv : RValue} {v v₀ : Val} → Rv K W Γ E rv v → (n : ℕ) → nth 𝓤 H A n Γ ≡ holds 𝓤 H E i fullShare v₀ → Holds
-        (hasTy (spotOf 𝓤 H E i .0) v) × WT v
+    pub resets : K → {i : ℕ} {rv : RValue} {v v₀ : Val} → Rv K W Γ E rv v → (n : ℕ) → nth 𝓤 H A n Γ ≡ holds 𝓤 H E i fullShare v₀
+        → Holds (hasTy (spotOf 𝓤 H E i .0) v) × WT v
         → Step K W (put 𝓤 H A n (holds 𝓤 H E i fullShare v) Γ) (runs C Λ E rest Q) Γ (runs C Λ E (seq (assign (place i []) rv) rest) Q)
     resets t rv n e wt = assigns t rv (from t (stop t)) (store t n e wt)
 
     -- the result r of a call, of the type R, is put into a local; what it owns stays
-    pub lands-value : K → {i : ℕ} {u : Val} (R : RattleType) (L : Lawful 𝓤 H A R) (r : R .Denot) → R .mir ≡ spotOf 𝓤 H E i .0 ∷ [] → (n : ℕ) → nth 𝓤 H A n Γ ≡
-        vacant 𝓤 H E i
+    pub lands-value : K → {i : ℕ} {u : Val} (R : RattleType) (L : Lawful 𝓤 H A R) (r : R .Denot) → R .mir ≡ spotOf 𝓤 H E i .0 ∷ [] → (n : ℕ)
+        → nth 𝓤 H A n Γ ≡ vacant 𝓤 H E i
         → (Is R r (u ∷ []) → Seq K W (‵ (R .own r (u ∷ [])) ∷ put 𝓤 H A n (holds 𝓤 H E i fullShare u) Γ) (runs C Λ E rest Q))
         → Seq K W (‵ (R .own r (u ∷ [])) ∷ Γ) (lands C Λ E (place i []) u rest Q)
     lands-value t {i} {u} R L r of-ty n e k =
         peeks t R (Is R) (shows 𝓤 H A R) r (u ∷ []) (λ is. land t (from t (stop t)) (init t (suc n) e (typed-as R L r u of-ty is)) $ k is)
 
-    pub lands-again : K → {i : ℕ} {u : Val} (R : RattleType) (L : Lawful 𝓤 H A R) (r : R .Denot) → R .mir ≡ spotOf 𝓤 H E i .0 ∷ [] → (n : ℕ) {v₀ : Val} → nth 𝓤
-        H A n Γ ≡ holds 𝓤 H E i fullShare v₀
+    pub lands-again : K → {i : ℕ} {u : Val} (R : RattleType) (L : Lawful 𝓤 H A R) (r : R .Denot) → R .mir ≡ spotOf 𝓤 H E i .0 ∷ [] → (n : ℕ) {v₀ : Val}
+        → nth 𝓤 H A n Γ ≡ holds 𝓤 H E i fullShare v₀
         → (Is R r (u ∷ []) → Seq K W (‵ (R .own r (u ∷ [])) ∷ put 𝓤 H A n (holds 𝓤 H E i fullShare u) Γ) (runs C Λ E rest Q))
         → Seq K W (‵ (R .own r (u ∷ [])) ∷ Γ) (lands C Λ E (place i []) u rest Q)
     lands-again t {i} {u} R L r of-ty n e k =

@@ -44,23 +44,25 @@ module _ (f : Start → ℕ) (ys : List Start) (from : ℕ) where
 
   pub copied-next : (i : ℕ) → i < min (length ys - from) 256 → set (copied i) i (f (getD ys (from + i) no-start)) ≡ copied (i + 1)
   copied-next i l =
-      ap (λ (v : ℕ). set (copied i) i v) (sym (List·getD-map f (part-at ys from) i no-start
-      ∙ ap f (getD-take 256 (drop from ys) i no-start (omega arith) ∙ getD-drop
-      from ys i no-start)))
+      ap (λ (v : ℕ). set (copied i) i v)
+      (sym (List·getD-map f (part-at ys from) i no-start
+      ∙ ap f (getD-take 256 (drop from ys) i no-start (omega arith) ∙ getD-drop from ys i no-start)))
       ∙ one-more (f no-start) (map f (part-at ys from)) zeros i (simp (length-map, part-long) l) (simp zeros-long (omega arith))
 
   pub copied-all : (i : ℕ) → min (length ys - from) 256 ≤ i → copied i ≡ padded (map f (part-at ys from))
   unfolding padded
-  copied-all i h = all-filled (map f (part-at ys from)) zeros i (simp (length-map, part-long) h) ∙ ap (λ (t : List ℕ). map f (part-at ys from) ++ t) (ap
-      (drop (length (map f (part-at ys from)))) zeros-are ∙ less (length (map f (part-at ys from))) 256)
+  copied-all i h =
+      all-filled (map f (part-at ys from)) zeros i (simp (length-map, part-long) h)
+      ∙ ap (λ (t : List ℕ). map f (part-at ys from) ++ t)
+      (ap (drop (length (map f (part-at ys from)))) zeros-are ∙ less (length (map f (part-at ys from))) 256)
     where
       less : (k m : ℕ) → drop {A = ℕ} k (replicate m 0) ≡ replicate (m - k) 0
       less zero m = simp sub-zero
       less (suc k) zero = simp zero-sub
       less (suc k) (suc m) = simp unary-clauses (less k m)
 
-pub part-is : (p : Part) (ys : List Start) (i : ℕ) → p .count ≡ min (length ys - i) 256 → p .cells ≡ padded (map (λ s. s .cell) (part-at ys i)) → p .begins ≡
-    padded (map (λ s. s .time) (part-at ys i)) → p ≡ part-of (part-at ys i)
+pub part-is : (p : Part) (ys : List Start) (i : ℕ) → p .count ≡ min (length ys - i) 256 → p .cells ≡ padded (map (λ s. s .cell) (part-at ys i))
+    → p .begins ≡ padded (map (λ s. s .time) (part-at ys i)) → p ≡ part-of (part-at ys i)
 unfolding part-of cells-of begins-of
 part-is p ys i e f g = λ j. record { count = (e ∙ sym (part-long ys i)) j; cells = f j; begins = g j }
 

@@ -1,7 +1,2 @@
-// Start records: the calls whose starts are a lent slice of structs.
-pub mod calls;
-pub mod judge;
+// Start records, a lent slice of structs: parts of them as plain lists.
 pub mod parts;
-pub mod read;
-pub mod seed;
-pub mod write;

@@ -1,5 +1,4 @@
 -- WHAT `rings` PRINTS, byte for byte: "The scenario file" and "Turned down" of document 01, turns as Card 3 of document 02 has them.
---
 use mathlib.Core.Path.{_≡_}
 use mathlib.Core.Bool.{cond}
 use mathlib.Core.List.{List, [], _∷_, _++_}

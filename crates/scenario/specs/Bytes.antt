@@ -1,5 +1,4 @@
 -- Numbers and records as bytes, little-endian ("The scenario file" of document 01). A byte is a number.
---
 use mathlib.Core.List.{List, [], _∷_, _++_}
 use Prim.Native.Nat.{ℕ, zero, suc, _+_, _*_, _/_, _%_, _<_}
 use lib.ListN.{getD, drop}

@@ -1,5 +1,4 @@
 -- Runs of cells, and the slownesses that they and the ground come to ("The scenario file" of document 01).
---
 use mathlib.Core.Bool.{Bool, true, _&&_, not, cond}
 use mathlib.Core.List.{List, [], _∷_, _++_}
 use Prim.Native.Nat.{ℕ, suc, _+_, _-_}

@@ -1,5 +1,4 @@
 -- A walk over the starts of a file, and over starts and runs together: what the start in hand says of all from there on.
---
 use mathlib.Core.Path.{_≡_, refl, sym, ap, ap₂, _∙_}
 use mathlib.Core.Bool.{true, false, _&&_, _||_}
 use mathlib.Core.List.{List, [], _∷_, _++_, map}

@@ -1,5 +1,4 @@
 -- What is promised of the tablet's call where one tile covers the board. Each statement is a type; proofs/Promises.antt has their proofs.
---
 use mathlib.Core.Path.{_≡_}
 use mathlib.Core.List.{List}
 use Prim.Native.Nat.{ℕ, _*_, _≤_}

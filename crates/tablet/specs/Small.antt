@@ -1,5 +1,4 @@
 -- Scenario files with sides to 32, which the tablet and `rings` take ("The scenario file" and "Turned down" of document 01).
---
 use mathlib.Core.Path.{_≡_}
 use mathlib.Core.Bool.{Bool, true, _&&_, _||_, cond}
 use mathlib.Core.List.{List}

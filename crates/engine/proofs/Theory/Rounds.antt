@@ -1,7 +1,6 @@
 -- From the front to rounds: what a drained front writes is the round, a round that takes cells alters some, and rounds before the least key alter nothing.
---
-use mathlib.Core.Path.{_≡_, refl, sym, ap, subst, _∙_}
-use mathlib.Core.Bool.{Bool, true, false, cond}
+use mathlib.Core.Path.{_≡_, sym, ap, subst, _∙_}
+use mathlib.Core.Bool.{cond}
 use mathlib.Core.Logic.{_⊎_, inl, inr, ⊎-elim, _≢_}
 use mathlib.Core.List.{List}
 use Prim.Native.Nat.{ℕ, zero, suc, _+_, _*_, _-_, _≤_, _<_, min}
@@ -20,33 +19,34 @@ use Rattle.eikonal.proofs.Passes.{never-time}
 use Rattle.eikonal.proofs.Altered.{altered-same}
 use Rattle.eikonal.proofs.Rounds.{round-time, after-length}
 use Rattle.eikonal.proofs.CutRule.{round-by-rule}
-use Rattle.front.specs.Front.{ghosted, Tied, Settled, Upheld, total, fallen, Drift, Written}
+use Rattle.front.specs.Front.{ghosted, Tied, Settled, Upheld, Drift, Written}
 use Rattle.front.specs.Board.{rule-by}
 use Rattle.engine.specs.Run.{starts, Between, Leapt}
 use Rattle.front.proofs.Theory.Front.{ended}
-use Rattle.front.proofs.Theory.Drift.{unwritten}
+use Rattle.front.proofs.Theory.Drift.{total-none, unwritten}
 use Rattle.front.proofs.Theory.Sight.{gives-lawful}
 
-pick-own : (p : Bool) (x y z : ℕ) → x ≡ y → cond p x z ≡ cond p y z
-pick-own true x y z e = e
-pick-own false x y z e = refl
-
--- A DRAINED FRONT, cut at the bound, is the round
-pub drained-round : {b : Board} → Good b → (tw th m : ℕ) (ts : List ℕ) (y k : ℕ → ℕ) → m ≤ largest
-    → Tied (size b) y k → Settled (size b) (rule-by b tw th ts) y k → Upheld (size b) (rule-by b tw th ts) (starts b) y
-    → ((c : ℕ) → c < size b → m < k c)
+-- TIMES THAT MEET THE RULE in tiles up to the bound, cut there, are the round
+pub met-round : {b : Board} → Good b → (tw th m : ℕ) (ts : List ℕ) (y : ℕ → ℕ) → m ≤ largest
+    → ((c : ℕ) → c < size b → clip m (y c) ≡ clip m (min (starts b c) (rule-by b tw th ts c (λ e. clip m (y e)))))
     → (us : List ℕ) → length us ≡ size b → ((c : ℕ) → c < size b → time us c ≡ clip m (y c)) → us ≡ round b tw th m ts
-drained-round {b} good tw th m ts y k i ti se up past us l at =
-    round-by-rule b good tw th m i ts us l
-    (λ c h. at c h ∙ ended (gives-lawful good tw th (λ d e. counts-as b ts e)) ti se up (omega arith) past c h
-    ∙ ap (clip m) (sym (meets c h)))
+met-round {b} good tw th m ts y i meets us l at =
+    round-by-rule b good tw th m i ts us l (λ c h. at c h ∙ meets c h ∙ ap (clip m) (sym (seen c h)))
   where
-    meets : (c : ℕ) → c < size b → met b c (tiled b tw th ts (time us) c) ≡ min (starts b c) (rule-by b tw th ts c (λ e. clip m (y e)))
-    meets c h =
+    seen : (c : ℕ) → c < size b → met b c (tiled b tw th ts (time us) c) ≡ min (starts b c) (rule-by b tw th ts c (λ e. clip m (y e)))
+    seen c h =
         met-capped good c (tiled b tw th ts (time us) c)
         ∙ ap (λ u. min (starts b c) (min never u))
         (arrival-same good c h (tiled b tw th ts (time us) c) (ghosted b tw th (λ d e. counts-as b ts e) (λ e. clip m (y e)) c)
-        (λ e on n. pick-own (eqb (tile-of b tw th c) (tile-of b tw th e)) (time us e) (clip m (y e)) (counts-as b ts e) (at e on)))
+        (λ e on n. ap (λ u. cond (eqb (tile-of b tw th c) (tile-of b tw th e)) u (counts-as b ts e)) (at e on)))
+
+-- so is a drained front
+drained-round : {b : Board} → Good b → (tw th m : ℕ) (ts : List ℕ) (y k : ℕ → ℕ) → m ≤ largest
+    → Tied (size b) y k → Settled (size b) (rule-by b tw th ts) y k → Upheld (size b) (rule-by b tw th ts) (starts b) y
+    → ((c : ℕ) → c < size b → m < k c)
+    → (us : List ℕ) → length us ≡ size b → ((c : ℕ) → c < size b → time us c ≡ clip m (y c)) → us ≡ round b tw th m ts
+drained-round {b} good tw th m ts y k i ti se up past =
+    met-round good tw th m ts y i (ended (gives-lawful good tw th (λ d e. counts-as b ts e)) ti se up (omega arith) past)
 
 -- a cell is noted, or it is none of those noted
 data Listed (m : ℕ) (note : ℕ → ℕ) (c : ℕ) : Type 0 where
@@ -67,7 +67,7 @@ listed (suc m) note c = go (listed m note c)
 module _ {n : ℕ} {stored y k now : ℕ → ℕ} {t m : ℕ} {note : ℕ → ℕ} (ti : Tied n y k) (dr : Drift n stored y k t m note) (wr : Written n stored y now m note)
   where
     -- what is written is the tentative times up to the bound
-    pub written-clip : (m₀ bound : ℕ) → ((c : ℕ) → c < n → (stored c ≡ never) ⊎ (stored c ≤ m₀)) → m₀ ≤ bound → t ≤ bound → ((c : ℕ) → c < n → bound < k c)
+    written-clip : (m₀ bound : ℕ) → ((c : ℕ) → c < n → (stored c ≡ never) ⊎ (stored c ≤ m₀)) → m₀ ≤ bound → t ≤ bound → ((c : ℕ) → c < n → bound < k c)
         → (c : ℕ) → c < n → now c ≡ clip bound (y c)
     written-clip m₀ bound low i j past c l = go (listed m note c)
       where
@@ -101,14 +101,13 @@ module _ {n : ℕ} {stored y k now : ℕ → ℕ} {t m : ℕ} {note : ℕ → �
 
     -- a new round has nothing taken yet
     pub written-drift : (note' : ℕ → ℕ) → Drift n now y k 0 0 note'
-    unfolding total
     written-drift note' = record {
       low = λ c l. go-low c l (listed m note c);
       waits = λ c l p. go-waits c l p (listed m note c);
       floor = λ c l. omega arith;
       noted = λ i l. absurd (omega arith);
       others = λ c l o e. go-others c l e (listed m note c);
-      count = sym (none n (λ c l. zero-at c l));
+      count = sym (total-none n _ zero-at);
     }
       where
         go-low : (c : ℕ) → c < n → Listed m note c → y c ≤ now c
@@ -129,10 +128,6 @@ module _ {n : ℕ} {stored y k now : ℕ → ℕ} {t m : ℕ} {note : ℕ → �
           | no q ↦ ⊎-elim (λ z. absurd (q z)) (λ z. omega (arith, ti .small c l)) (ti .tied c l)
         ]
 
-        none : (n' : ℕ) → ((c : ℕ) → c < n' → min 1 (now c - y c) - min 1 (never - k c) ≡ 0) → fallen n' now y k ≡ 0
-        none zero h = refl
-        none (suc n') h = omega (arith, h n' (omega arith), none n' (λ c l. h c (omega arith)))
-
 -- a shorter leap is one too
 pub leap-short : {least done s h far r : ℕ} → Leapt least done s h far → done ≤ r → r ≤ far → Leapt least done s h r
 leap-short {s = s} lp up less = record { up = up; short = λ l. omega (arith, lp .short (omega arith), mul-le-mul-right s less) }
@@ -142,7 +137,7 @@ module _ {b : Board} (good : Good b) (tw th s h : ℕ) (stride : 1 ≤ s) (horiz
   bound-of j = min (j * s) h
 
   -- times after rounds are within the bound
-  pub after-low : (j c : ℕ) → (time (after-rounds j b tw th s h) c ≡ never) ⊎ (time (after-rounds j b tw th s h) c ≤ bound-of j)
+  after-low : (j c : ℕ) → (time (after-rounds j b tw th s h) c ≡ never) ⊎ (time (after-rounds j b tw th s h) c ≤ bound-of j)
   unfolding after-rounds
   after-low zero c = inl (never-time b c)
   after-low (suc j) c =
@@ -173,7 +168,7 @@ module _ {b : Board} (good : Good b) (tw th s h : ℕ) (stride : 1 ≤ s) (horiz
         omega (arith, one .fell, wr .new 0 some, ap (λ (xs : List ℕ). time xs (note 0)) (round-written ∙ sym same ∙ sym is))
 
   -- A ROUND BEFORE THE LEAST KEY alters nothing
-  pub idle-round : (j : ℕ) (ts : List ℕ) (y k : ℕ → ℕ) → Between b tw th s h j ts y k → ((c : ℕ) → c < size b → bound-of (suc j) < k c)
+  idle-round : (j : ℕ) (ts : List ℕ) (y k : ℕ → ℕ) → Between b tw th s h j ts y k → ((c : ℕ) → c < size b → bound-of (suc j) < k c)
       → after-rounds (suc j) b tw th s h ≡ after-rounds j b tw th s h
   idle-round j ts y k be past =
       sym (round-written j ts ts y k 0 0 (λ _. 0) (be .is) (be .tied) (be .settled) (be .upheld) (be .drift (λ _. 0)) (omega arith) past long
@@ -183,7 +178,7 @@ module _ {b : Board} (good : Good b) (tw th s h : ℕ) (stride : 1 ≤ s) (horiz
       long : length ts ≡ size b
       long = ap length (be .is) ∙ after-length b good tw th s h stride horizon j
 
-  pub leap-one : (j : ℕ) (ts : List ℕ) (y k : ℕ → ℕ) → Between b tw th s h j ts y k → ((c : ℕ) → c < size b → bound-of (suc j) < k c)
+  leap-one : (j : ℕ) (ts : List ℕ) (y k : ℕ → ℕ) → Between b tw th s h j ts y k → ((c : ℕ) → c < size b → bound-of (suc j) < k c)
       → Between b tw th s h (suc j) ts y k
   leap-one j ts y k be past = record {
     is = be .is ∙ sym (idle-round j ts y k be past);

@@ -2,7 +2,7 @@
 use mathlib.Core.Path.{_≡_, refl, sym, ap, subst, _∙_}
 use mathlib.Core.Bool.{true}
 use mathlib.Core.Logic.{_≢_}
-use mathlib.Core.List.{List, [], _++_}
+use mathlib.Core.List.{List, _++_}
 use native.Mathlib.Decide.{ℕ-discrete}
 use native.Mathlib.Nat.{mul-le-mul}
 use native.Mathlib.Omega.{arith}
@@ -62,12 +62,12 @@ module _ (c : Call) (t : ℕ) (r : Refusal) (e : r ≡ refusal c t) (z : r .numb
   pub board-sides : (call-board c .wide ≤ 256) × (call-board c .high ≤ 256)
   board-sides = let g = fine .given .good in (g .wide-high, g .high-high)
 
-  pub board-room : (s : Shape) → s ≡ shaped (call-board c .wide) (call-board c .high) (c .job) → (1 ≤ s .cells) × (s .cells ≤ 65536) × (4 * s .cells ≤ c .work)
+  pub board-room : (s : Shape) → s ≡ shaped (call-board c .wide) (call-board c .high) (c .job) → (s .cells ≤ 65536) × (4 * s .cells ≤ c .work)
   unfolding size
   board-room s is =
       let g = fine .given .good in
       rw (in-shape (call-board c) (c .job) s is .2)
-      (omega (arith, mul-le-mul (g .wide-low) (g .high-low)), omega (arith, mul-le-mul (g .wide-high) (g .high-high)), fine .work-fits)
+      (omega (arith, mul-le-mul (g .wide-high) (g .high-high)), fine .work-fits)
 
 -- what is kept of the work list is kept from before the starts were placed
 through-from : {n k : ℕ} {xs : List Start} {us : List ℕ} {r : ℕ} {ts v v' w : List ℕ} → Begun n xs v v' → Through n k us r ts v' w → Through n k us r ts v w

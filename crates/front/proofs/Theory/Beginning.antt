@@ -1,8 +1,9 @@
--- A round's beginning: every cell has its start's time.
+-- A round's beginning: every cell has its start's time, is pending with it once it is gathered, and is not heard yet.
 use mathlib.Core.Path.{_≡_, refl, sym, _∙_}
 use mathlib.Core.Bool.{Bool, true, false}
+use mathlib.Core.Logic.{inl, inr, ⊎-elim}
 use mathlib.Core.List.{List}
-use Prim.Native.Nat.{ℕ, zero, suc, _-_, _≤_, _<_, min}
+use Prim.Native.Nat.{ℕ, _+_, _*_, _≤_, _<_}
 use native.Mathlib.Omega.{arith}
 use Rattle.eikonal.specs.Board.{Board, never, size, slowness, start-time, arrival}
 use Rattle.eikonal.specs.declared.Start.{Start}
@@ -12,11 +13,12 @@ use Rattle.eikonal.specs.Inner.Good.{Good}
 use Rattle.eikonal.proofs.Local.{local-of, earlier-min, Answers, stays, comes, local-answers}
 use Rattle.eikonal.proofs.Rule.{earlier-seen}
 use Rattle.eikonal.proofs.Neighbours.{arrival-is, arrival-same}
-use Rattle.queue.specs.Tree.{keys}
-use Rattle.front.specs.Front.{heard, Upheld, total, fallen, Drift}
-use Rattle.front.specs.Board.{tentative, noted}
-use Rattle.front.specs.State.{Held, Seeded, Empty, Standing, Begun}
-use Rattle.front.proofs.Theory.Seeding.{placed-held, soonest-is, seeded-soonest}
+use Rattle.front.specs.Front.{Among, heard, Upheld, Drift}
+use Rattle.front.specs.Board.{tentative, Work, keys}
+use Rattle.front.specs.State.{Held, Placed, Seeded, Empty, Standing, Begun, Gathered}
+use Rattle.front.proofs.Theory.Drift.{total-none}
+use Rattle.front.proofs.Theory.Among.{which}
+use Rattle.front.proofs.Theory.Seeding.{soonest-is, seeded-soonest}
 
 -- emptied and seeded, the work list is begun
 pub begun : (n : ℕ) (xs : List Start) (v u v' : List ℕ) → starts-rise n 0 xs ≡ true → late xs ≡ false → Empty n v u → Seeded n xs u v' → Begun n xs v v'
@@ -26,35 +28,57 @@ begun n xs v u v' ri ea em se = record {
   rest = λ j l. se .rest j l ∙ em .rest j l;
 }
 
-module _ {n : ℕ} {xs : List Start} {v' : List ℕ} (be : Standing n xs v') where
-  pub standing-held : Held n v'
-  standing-held = placed-held (be .placed)
+-- ---- cells from lo on and below hi are gathered: they alone are pending, and nothing of them is heard yet
+module _ {n lo hi : ℕ} {v : List ℕ} {v' : Work} (pl : Placed n v) (ga : Gathered n lo hi v v') where
+  same-times : (c : ℕ) → tentative (v' .list) n c ≡ tentative v n c
+  same-times c = ga .rest (2 * n + c) (omega arith)
 
-  -- nothing is heard yet
-  pub standing-silent : (c : ℕ) → c < n → heard (tentative v' n) (keys v' n) c ≡ never
-  standing-silent c l = omega (arith, be .placed .even c l, be .placed .small c l)
+  pub times-small : (c : ℕ) → c < n → tentative (v' .list) n c ≤ never
+  times-small c l = omega (arith, same-times c, pl .small c l)
 
-  pub standing-upheld : (L : ℕ → (ℕ → ℕ) → ℕ) → Upheld n L (λ c. start-time c xs) (tentative v' n)
-  standing-upheld L = record { started = λ c l. omega (arith, be .times c l); upper = λ c l. omega (arith, be .times c l) }
+  even : (c : ℕ) → Among lo hi c → keys v' c ≡ tentative (v' .list) n c
+  even c i = ga .even c i ∙ sym (same-times c)
 
-  none-fallen : (stored : ℕ → ℕ) → ((c : ℕ) → c < n → stored c ≡ never) → (m : ℕ) → m ≤ n → fallen m stored (tentative v' n) (keys v' n) ≡ 0
-  unfolding total
-  none-fallen stored nv zero l = refl
-  none-fallen stored nv (suc m) l =
-      let here : min 1 (stored m - tentative v' n m) - min 1 (never - keys v' n m) ≡ 0 =
-      rw (nv m (omega arith), be .placed .even m (omega arith)) (omega arith) in
-      omega (arith, none-fallen stored nv m (omega arith))
+  pub gathered-held : Held n v'
+  gathered-held = record {
+    room = omega (arith, ga .long, pl .room);
+    heap = ga .heap;
+    tied = record {
+      small = times-small;
+      tied = λ c l. ⊎-elim (λ i. inr (even c i)) (λ o. inl (ga .others c o)) (which lo hi c);
+    };
+  }
+
+  pub gathered-silent : (c : ℕ) → c < n → Among lo hi c → heard (tentative (v' .list) n) (keys v') c ≡ never
+  gathered-silent c l i = omega (arith, even c i, times-small c l)
+
+  pub gathered-within : (c : ℕ) → keys v' c < never → Among lo hi c
+  gathered-within c h = ⊎-elim (λ i. i) (λ o. absurd (omega (arith, ga .others c o))) (which lo hi c)
+
+  pub gathered-upheld : (L : ℕ → (ℕ → ℕ) → ℕ) → Upheld n L (tentative v n) (tentative (v' .list) n)
+  gathered-upheld L = record { started = λ c l. omega (arith, same-times c); upper = λ c l. omega (arith, same-times c) }
+
+-- ---- all starts stand and are gathered
+module _ {n : ℕ} {xs : List Start} {v : List ℕ} {v' : Work} (be : Standing n xs v) (ga : Gathered n 0 n v v') where
+  pub standing-upheld : (L : ℕ → (ℕ → ℕ) → ℕ) → Upheld n L (λ c. start-time c xs) (tentative (v' .list) n)
+  standing-upheld L =
+      let up = gathered-upheld (be .placed) ga L in
+      record { started = λ c l. omega (arith, up .started c l, be .times c l); upper = λ c l. omega (arith, up .upper c l, be .times c l) }
 
   -- with stored times that are all never, nothing is taken yet
-  pub standing-drift : (stored : ℕ → ℕ) → ((c : ℕ) → c < n → stored c ≡ never) → (note : ℕ → ℕ) → Drift n stored (tentative v' n) (keys v' n) 0 0 note
+  pub standing-drift : (stored : ℕ → ℕ) → ((c : ℕ) → c < n → stored c ≡ never) → (note : ℕ → ℕ)
+      → Drift n stored (tentative (v' .list) n) (keys v') 0 0 note
   standing-drift stored nv note = record {
-    low = λ c l. omega (arith, nv c l, be .placed .small c l);
-    waits = λ c l h. omega (arith, nv c l, be .placed .even c l);
+    low = λ c l. omega (arith, nv c l, times-small (be .placed) ga c l);
+    waits = λ c l h. omega (arith, nv c l, all c l);
     floor = λ c l. omega arith;
     noted = λ i l. absurd (omega arith);
-    others = λ c l o e. omega (arith, nv c l, be .placed .even c l);
-    count = sym (none-fallen stored nv n (omega arith));
+    others = λ c l o e. omega (arith, nv c l, all c l);
+    count = sym (total-none n _ (λ c l. rw (nv c l, all c l) (omega arith)));
   }
+    where
+      all : (c : ℕ) → c < n → keys v' c ≡ tentative (v' .list) n c
+      all c l = even (be .placed) ga c (omega arith, l)
 
 -- ---- a cell that sees no time is given none
 sides-quiet : (p q : Bool) (i j : ℕ) → earlier-seen p q i j (λ e. never) ≡ never
@@ -64,7 +88,8 @@ sides-quiet true false i j = earlier-min never never
 sides-quiet false true i j = earlier-min never never
 sides-quiet false false i j = earlier-min never never
 
-pub arrival-quiet : {b : Board} → Good b → (c : ℕ) → c < size b → (f : ℕ → ℕ) → ((e : ℕ) → e < size b → Neighbour b c e → f e ≡ never) → arrival b c f ≡ never
+pub arrival-quiet : {b : Board} → Good b → (c : ℕ) → c < size b → (f : ℕ → ℕ) → ((e : ℕ) → e < size b → Neighbour b c e → f e ≡ never)
+    → arrival b c f ≡ never
 arrival-quiet {b} good c on f h =
     arrival-same good c on f (λ e. never) h ∙ arrival-is b c (λ e. never)
     ∙ rw (sides-quiet _ _ _ _, sides-quiet _ _ _ _) (go (local-answers (slowness b c) never never))

@@ -74,7 +74,7 @@ module _ (b : Board) (ts us : List ℕ) (note : ℕ → ℕ) where
 
 module _ {b : Board} (good : Good b) (tw th : ℕ) where
   -- ONE NOTED CELL: its ghost falls to t. Cells that are apart from it keep what they have, the others keep it up to t
-  pub announced : (g g' : ℕ → ℕ → ℕ) (c t : ℕ) (y k : ℕ → ℕ) → t < never → ((d e : ℕ) → e ≢ c → g' d e ≡ g d e)
+  announced : (g g' : ℕ → ℕ → ℕ) (c t : ℕ) (y k : ℕ → ℕ) → t < never → ((d e : ℕ) → e ≢ c → g' d e ≡ g d e)
       → ((d : ℕ) → min t (g d c) ≡ min t (g' d c)) → Settled (size b) (gives b tw th g) y k → Midway (size b) (gives b tw th g') t (No-ghost b tw th c) y k
   announced g g' c t y k i same low se = record {
     weak = λ d l. omega (arith, se d l, gives-causal good tw th g g' t d i l (heard y k) (heard y k) (λ e m. refl) (λ e m. agree d e));
@@ -90,14 +90,10 @@ module _ {b : Board} (good : Good b) (tw th : ℕ) where
       own : (d e : ℕ) → tile-of b tw th d ≡ tile-of b tw th e → ghosted b tw th g (heard y k) d e ≡ ghosted b tw th g' (heard y k) d e
       own d e q = rw (eq-eqb (tile-of b tw th d) (tile-of b tw th e) q)
 
-      pick : (p : Bool) (x u v : ℕ) → u ≡ v → cond p x u ≡ cond p x v
-      pick true x u v e = refl
-      pick false x u v e = e
-
       alike : (d e : ℕ) → Neighbour b d e → No-ghost b tw th c d → ghosted b tw th g (heard y k) d e ≡ ghosted b tw th g' (heard y k) d e
       alike d e n a = elim (ℕ-discrete e c) [
         | yes q ↦ own d e (a (subst (λ u. Neighbour b d u) q n) ∙ ap (tile-of b tw th) (sym q))
-        | no q ↦ pick (eqb (tile-of b tw th d) (tile-of b tw th e)) (heard y k e) (g d e) (g' d e) (sym (same d e q))
+        | no q ↦ ap (cond (eqb (tile-of b tw th d) (tile-of b tw th e)) (heard y k e)) (sym (same d e q))
       ]
 
   -- ---- all noted cells in turn
@@ -143,17 +139,12 @@ module _ {b : Board} (good : Good b) (tw th : ℕ) where
     all-new y k se c l =
         subst (λ u. y c ≤ u)
         (gives-same good tw th (part-new b ts us note m) (λ d e. counts-as b us e) c l (heard y k) (heard y k)
-        (λ e on n. pick (eqb (tile-of b tw th c) (tile-of b tw th e)) e on (part b ts us note m c e)))
+        (λ e on n. ap (cond (eqb (tile-of b tw th c) (tile-of b tw th e)) (heard y k e)) (same e on (part b ts us note m c e))))
         (se c l)
       where
         same : (e : ℕ) → e < size b → Part b ts us note m c e → part-new b ts us note m c e ≡ counts-as b us e
         same e on (fresh p) = p
         same e on (stale p f) = p ∙ ghost-is b ts e ∙ ap (ghost-of b e) (sym (old e on f)) ∙ sym (ghost-is b us e)
-
-        pick : (p : Bool) (e : ℕ) → e < size b → Part b ts us note m c e
-            → cond p (heard y k e) (part-new b ts us note m c e) ≡ cond p (heard y k e) (counts-as b us e)
-        pick true e on q = refl
-        pick false e on q = same e on q
 
     -- at the beginning none is
     pub none-new : (y k : ℕ → ℕ) → Settled (size b) (rule-by b tw th ts) y k → Settled (size b) (gives b tw th (part-new b ts us note 0)) y k

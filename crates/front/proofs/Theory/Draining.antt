@@ -1,6 +1,6 @@
 -- One cell taken, and a whole drain: what they leave of the front and of the round so far.
 use mathlib.Core.Path.{_≡_, refl, sym, ap, subst, fun-ext, _∙_}
-use mathlib.Core.Logic.{_⊎_, inl, ⊎-elim, _≢_}
+use mathlib.Core.Logic.{inl, ⊎-elim, _≢_}
 use mathlib.Core.List.{List}
 use Prim.Native.Nat.{ℕ, suc, _+_, _*_, _-_, _≤_, _<_, min}
 use native.Mathlib.Omega.{arith}
@@ -10,14 +10,17 @@ use lib.Seq.{getD-set-same, getD-set-other}
 use Rattle.eikonal.specs.Board.{never, size}
 use Rattle.eikonal.specs.Tiles.{tile-of, counts-as}
 use Rattle.eikonal.specs.Promise.{Neighbour}
-use Rattle.queue.specs.Tree.{keys, Put, Least}
-use Rattle.front.specs.Front.{ghosted, Out, Settled, Midway, Upheld, Drift, weight}
+use Rattle.queue.specs.Heap as queue
+use Rattle.queue.specs.Heap.{key, cell, Put, Least}
+use Rattle.queue.proofs.Heap.{heap-past, keys-past, keys-small, first-least}
+use Rattle.front.specs.Front.{Among, Not-among, among, ghosted, Out, Settled, Midway, Upheld, Drift, weight}
 use Rattle.front.specs.Seams.{inside, near}
-use Rattle.front.specs.Board.{land, rule-at, tentative, noted, Ground}
-use Rattle.front.specs.State.{Held, Popped, Took, Drifting, Drifted, Ready, Drained}
+use Rattle.front.specs.Board.{land, rule-at, tentative, noted, Work, at, keys, Ground}
+use Rattle.front.specs.State.{Held, Popped, Took, Drifting, Drifted, Ready, Ready-among, Drained}
 use Rattle.front.specs.declared.Shape.{Shape}
 use Rattle.front.proofs.Theory.Front.{Lawful, popped, total-lt}
-use Rattle.front.proofs.Theory.Drift.{drift-taken, room-left}
+use Rattle.front.proofs.Theory.Among.{which, among-lawful, among-same, told-among, told-within}
+use Rattle.front.proofs.Theory.Drift.{drift-taken, room-left, fresh}
 use Rattle.front.proofs.Theory.Sight.{gives-same, gives-lawful}
 use Rattle.front.proofs.Theory.Seams.{untold-inside}
 use Rattle.front.proofs.Theory.Same.{midway-same, upheld-same, drift-same}
@@ -25,143 +28,149 @@ use Rattle.front.proofs.Theory.Reading.{cells-size}
 use Rattle.front.proofs.Theory.Telling.{told-held, told-long, told-rest, told-weight, told-upheld, told-midway, told-drift}
 use borrow.Author.Tests.{ne-eqb}
 
--- the note is stored, then the cell is removed from the queue
-pub is-popped : {n m c : ℕ} {v u : List ℕ} → Held n v → Least v n c → keys v n c < never → m < n → Put (set v (3 * n + m) c) n c never u → Popped n m c v u
-is-popped {n} {m} {c} {v} he le p l put = record {
-  on = le .cell;
-  pending = p;
-  least = le .least;
-  long = put .long ∙ length-set v (3 * n + m) c;
-  tree = put .tree;
-  gone = put .leaf;
-  keep = λ d i q. put .others (n + d) (omega arith) (omega arith) ∙ getD-set-other v (3 * n + m) (n + d) c 0 (omega arith);
-  times = λ d i. put .others (2 * n + d) (omega arith) (omega (arith, le .cell)) ∙ getD-set-other v (3 * n + m) (2 * n + d) c 0 (omega arith);
-  note = put .others (3 * n + m) (omega arith) (omega (arith, le .cell)) ∙ getD-set-same v (3 * n + m) c 0 (omega (arith, he .room));
-  notes = λ i j. put .others (3 * n + i) (omega arith) (omega (arith, le .cell)) ∙ getD-set-other v (3 * n + m) (3 * n + i) c 0 (omega arith);
-  past = λ j i. put .others j (omega arith) (omega (arith, le .cell)) ∙ getD-set-other v (3 * n + m) j c 0 (omega arith);
+-- the cell in the first slot is removed from the queue, and then noted
+pub is-popped : {n m c r : ℕ} {v : Work} {u : List ℕ} → Held n v → Least (v .list) (v .size) n c → m < n
+    → Put (v .list) (v .size) n (cell (v .list) 0) never u r → Popped n m c v (at (set u (3 * n + m) c) r)
+is-popped {n} {m} {c} {r} {v} {u} he le l put = record {
+  on = le .on;
+  pending = le .pending;
+  least = λ d i. le .least d;
+  long = length-set u (3 * n + m) c ∙ put .long;
+  heap = heap-past u r n (3 * n + m) c (omega arith) (put .heap);
+  gone = kept c ∙ ap (queue.keys u r) (le .first) ∙ put .new;
+  keep = λ d i q. kept d ∙ put .others d (λ e. q (e ∙ sym (le .first)));
+  times = λ d i. other (2 * n + d) (omega arith) (omega arith);
+  note = getD-set-same u (3 * n + m) c 0 (omega (arith, he .room, put .long));
+  notes = λ i j. other (3 * n + i) (omega arith) (omega arith);
+  past = λ j i. other j (omega arith) (omega arith);
 }
+  where
+    kept : (d : ℕ) → queue.keys (set u (3 * n + m) c) r d ≡ queue.keys u r d
+    kept = keys-past u r n (3 * n + m) c (omega arith) (put .heap)
 
-module _ {n m c : ℕ} {v u : List ℕ} (he : Held n v) (po : Popped n m c v u) where
-  key-is : keys v n c ≡ tentative v n c
+    other : (j : ℕ) → 2 * n ≤ j → j ≢ 3 * n + m → getD (set u (3 * n + m) c) j 0 ≡ getD (v .list) j 0
+    other j i q = getD-set-other u (3 * n + m) j c 0 q ∙ put .past j i
+
+module _ {n m c : ℕ} {v u : Work} (he : Held n v) (po : Popped n m c v u) where
+  key-is : keys v c ≡ tentative (v .list) n c
   key-is = ⊎-elim (λ q. absurd (omega (arith, po .pending))) (λ q. q) (he .tied .tied c (po .on))
 
   pub popped-held : Held n u
   popped-held = record {
     room = rw (po .long) (he .room);
-    tree = po .tree;
+    heap = po .heap;
     tied = record {
       small = λ d l. rw (po .times d l) (he .tied .small d l);
       tied = λ d l. elim (ℕ-discrete d c) [
-        | yes q ↦ inl (ap (keys u n) q ∙ po .gone)
+        | yes q ↦ inl (ap (keys u) q ∙ po .gone)
         | no q ↦ rw (po .times d l, po .keep d l q) (he .tied .tied d l)
       ];
     };
   }
 
   -- one pending cell less
-  pub popped-weight : weight n (tentative u n) (keys u n) < weight n (tentative v n) (keys v n)
+  popped-weight : weight n (tentative (u .list) n) (keys u) < weight n (tentative (v .list) n) (keys v)
   popped-weight =
       total-lt n c _ _ (po .on) (omega (arith, po .times c (po .on), po .gone, po .pending))
       (λ d l. elim (ℕ-discrete d c) [
-        | yes q ↦ subst (λ e. 2 * tentative u n e + min 1 (never - keys u n e) ≤ 2 * tentative v n e + min 1 (never - keys v n e)) (sym q)
+        | yes q ↦ subst (λ e. 2 * tentative (u .list) n e + min 1 (never - keys u e) ≤ 2 * tentative (v .list) n e + min 1 (never - keys v e)) (sym q)
             (omega (arith, po .times c (po .on), po .gone))
         | no q ↦ omega (arith, po .times d l, po .keep d l q)
       ])
 
   module _ {L : ℕ → (ℕ → ℕ) → ℕ} (law : Lawful n L) where
-    popped-midway : {Clear : ℕ → Type 0} → Settled n L (tentative v n) (keys v n)
+    popped-midway : {Clear : ℕ → Type 0} → Settled n L (tentative (v .list) n) (keys v)
         → ((d : ℕ) → d < n → Clear d → (f g : ℕ → ℕ) → ((e : ℕ) → e < n → e ≢ c → f e ≡ g e) → L d f ≡ L d g)
-        → Midway n L (keys v n c) Clear (tentative u n) (keys u n)
+        → Midway n L (keys v c) Clear (tentative (u .list) n) (keys u)
     popped-midway {Clear} se far =
         midway-same law (po .times)
-        (subst (λ t. Midway n L t Clear (tentative v n) (keys u n)) (sym key-is)
+        (subst (λ t. Midway n L t Clear (tentative (v .list) n) (keys u)) (sym key-is)
         (popped law (he .tied) se (po .on) (po .pending) (po .gone) (po .keep) far))
 
-    popped-upheld : {start : ℕ → ℕ} → Upheld n L start (tentative v n) → Upheld n L start (tentative u n)
+    popped-upheld : {start : ℕ → ℕ} → Upheld n L start (tentative (v .list) n) → Upheld n L start (tentative (u .list) n)
     popped-upheld = upheld-same law (po .times)
 
-  popped-drift : {stored : ℕ → ℕ} {t : ℕ} → Drift n stored (tentative v n) (keys v n) t m (noted v n)
-      → Drift n stored (tentative u n) (keys u n) (keys v n c) (suc m) (noted u n)
+  popped-drift : {stored : ℕ → ℕ} {t : ℕ} → Drift n stored (tentative (v .list) n) (keys v) t m (noted (v .list) n)
+      → Drift n stored (tentative (u .list) n) (keys u) (keys v c) (suc m) (noted (u .list) n)
   popped-drift {stored} dr =
       drift-same (po .times)
-      (subst (λ s. Drift n stored (tentative v n) (keys u n) s (suc m) (noted u n)) (sym key-is)
-      (drift-taken (he .tied) dr c (keys u n) (noted u n) (po .on) (po .pending) (po .least) (po .gone) (po .keep) (po .note) (po .notes)))
+      (subst (λ s. Drift n stored (tentative (v .list) n) (keys u) s (suc m) (noted (u .list) n)) (sym key-is)
+      (drift-taken (he .tied) dr c (keys u) (noted (u .list) n) (po .on) (po .pending) (po .least) (po .gone) (po .keep) (po .note) (po .notes)))
 
 -- ---- ONE CELL TAKEN, by a rule L, and the cells es hear of it. Those that do not, do not see it
 abbrev Blind : (n : ℕ) → (L : ℕ → (ℕ → ℕ) → ℕ) → (c : ℕ) → List ℕ → Type 0
 Blind n L c es = (d : ℕ) → d < n → Out d es → (f g : ℕ → ℕ) → ((e : ℕ) → e < n → e ≢ c → f e ≡ g e) → L d f ≡ L d g
 
-module _ {n m c : ℕ} {L : ℕ → (ℕ → ℕ) → ℕ} {es v v' : List ℕ} (he : Held n v) (tk : Took n m c L es v v') where
+module _ {n m : ℕ} {L : ℕ → (ℕ → ℕ) → ℕ} {es : ℕ → List ℕ} {v v' : Work} (he : Held n v) (tk : Took n m L es v v') where
   middle-held : Held n (tk .middle)
   middle-held = popped-held he (tk .popped)
 
-  pub took-held : Held n v'
+  took-held : Held n v'
   took-held = told-held middle-held (tk .told)
 
-  took-long : length v' ≡ length v
+  took-long : length (v' .list) ≡ length (v .list)
   took-long = told-long (tk .told) ∙ tk .popped .long
 
-  took-past : (j : ℕ) → 4 * n ≤ j → getD v' j 0 ≡ getD v j 0
+  took-past : (j : ℕ) → 4 * n ≤ j → getD (v' .list) j 0 ≡ getD (v .list) j 0
   took-past j l = told-rest (tk .told) j (omega arith) ∙ tk .popped .past j l
 
-  pub took-weight : weight n (tentative v' n) (keys v' n) < weight n (tentative v n) (keys v n)
+  pub took-weight : weight n (tentative (v' .list) n) (keys v') < weight n (tentative (v .list) n) (keys v)
   took-weight = omega (arith, told-weight (tk .told), popped-weight he (tk .popped))
 
   module _ (law : Lawful n L) where
-    took-upheld : (start : ℕ → ℕ) → Upheld n L start (tentative v n) → Upheld n L start (tentative v' n)
+    took-upheld : (start : ℕ → ℕ) → Upheld n L start (tentative (v .list) n) → Upheld n L start (tentative (v' .list) n)
     took-upheld start up = told-upheld law start (tk .told) (popped-upheld he (tk .popped) law up)
 
-    module _ (far : Blind n L c es) (se : Settled n L (tentative v n) (keys v n)) where
-      midway : Midway n L (keys v n c) (λ d. Out d es × Unit {0}) (tentative (tk .middle) n) (keys (tk .middle) n)
+    module _ (far : Blind n L (tk .cell) (es (tk .cell))) (se : Settled n L (tentative (v .list) n) (keys v)) where
+      midway : Midway n L (keys v (tk .cell)) (λ d. Out d (es (tk .cell)) × Unit {0}) (tentative (tk .middle .list) n) (keys (tk .middle))
       midway = popped-midway he (tk .popped) law se (λ d l o. far d l (o .0))
 
-      took-settled : Settled n L (tentative v' n) (keys v' n)
+      took-settled : Settled n L (tentative (v' .list) n) (keys v')
       took-settled c l = told-midway law (λ e k f. omega arith) (λ d. Unit {0}) middle-held (tk .told) midway .settled c l tt
 
-      took-drift : {stored : ℕ → ℕ} {t : ℕ} → Drift n stored (tentative v n) (keys v n) t m (noted v n)
-          → Drift n stored (tentative v' n) (keys v' n) (keys v n c) (suc m) (noted v' n)
+      took-drift : {stored : ℕ → ℕ} {t : ℕ} → Drift n stored (tentative (v .list) n) (keys v) t m (noted (v .list) n)
+          → Drift n stored (tentative (v' .list) n) (keys v') (keys v (tk .cell)) (suc m) (noted (v' .list) n)
       took-drift {stored} dr =
-          subst (λ w. Drift n stored (tentative v' n) (keys v' n) (keys v n c) (suc m) w) notes
-          (told-drift law (tk .popped .pending) stored (suc m) (noted (tk .middle) n) (λ d. Unit {0}) middle-held (tk .told) midway
+          subst (λ w. Drift n stored (tentative (v' .list) n) (keys v') (keys v (tk .cell)) (suc m) w) notes
+          (told-drift law (tk .popped .pending) stored (suc m) (noted (tk .middle .list) n) (λ d. Unit {0}) middle-held (tk .told) midway
           (popped-drift he (tk .popped) dr))
         where
-          notes : noted (tk .middle) n ≡ noted v' n
+          notes : noted (tk .middle .list) n ≡ noted (v' .list) n
           notes = fun-ext (λ i. sym (told-rest (tk .told) (3 * n + i) (omega arith)))
 
--- ---- A DRAIN after m cells, the next being c
-pub record Mid-drain (n : ℕ) (L : ℕ → (ℕ → ℕ) → ℕ) (bound m c : ℕ) (v₀ v : List ℕ) : Type 0 where
+-- ---- A DRAIN after m cells
+pub record Mid-drain (n : ℕ) (L : ℕ → (ℕ → ℕ) → ℕ) (bound m : ℕ) (v₀ v : Work) : Type 0 where
   pub held : Held n v
-  pub least : Least v n c
-  pub long : length v ≡ length v₀
-  pub past : (j : ℕ) → 4 * n ≤ j → getD v j 0 ≡ getD v₀ j 0
-  pub settled : Settled n L (tentative v n) (keys v n)
-  pub upheld : (start : ℕ → ℕ) → Upheld n L start (tentative v₀ n) → Upheld n L start (tentative v n)
-  pub drifting : Drifting n (tentative v n) (keys v n) m (noted v n)
-  pub drift : (stored : ℕ → ℕ) → Drift n stored (tentative v₀ n) (keys v₀ n) 0 0 (noted v₀ n)
-      → Drifted n bound stored (tentative v n) (keys v n) m (noted v n)
+  pub long : length (v .list) ≡ length (v₀ .list)
+  pub past : (j : ℕ) → 4 * n ≤ j → getD (v .list) j 0 ≡ getD (v₀ .list) j 0
+  pub settled : Settled n L (tentative (v .list) n) (keys v)
+  pub upheld : (start : ℕ → ℕ) → Upheld n L start (tentative (v₀ .list) n) → Upheld n L start (tentative (v .list) n)
+  pub drifting : Drifting n (tentative (v .list) n) (keys v) m (noted (v .list) n)
+  pub drift : (stored : ℕ → ℕ) → Drift n stored (tentative (v₀ .list) n) (keys v₀) 0 0 (noted (v₀ .list) n)
+      → Drifted n bound stored (tentative (v .list) n) (keys v) m (noted (v .list) n)
 
 module _ {n bound : ℕ} {L : ℕ → (ℕ → ℕ) → ℕ} where
-  pub drain-begins : {c : ℕ} {v : List ℕ} → Ready n L v → Least v n c → Mid-drain n L bound 0 c v v
-  drain-begins re le = record {
+  drain-begins : {v : Work} → Ready n L v → Mid-drain n L bound 0 v v
+  drain-begins {v} re = record {
     held = re .held;
-    least = le;
     long = refl;
     past = λ j l. refl;
     settled = re .settled;
     upheld = λ start up. up;
-    drifting = re .drifting;
+    drifting = record { stored = _; last = 0; drift = fresh (tentative (v .list) n) (keys v) (noted (v .list) n) };
     drift = λ stored dr. record { last = 0; low = omega arith; drift = dr };
   }
 
   -- there is room for the next note
-  pub drain-room : {m c : ℕ} {v₀ v : List ℕ} → Mid-drain n L bound m c v₀ v → keys v n c < never → m < n
-  drain-room {m} {c} md p = room-left (md .held .tied) (md .drifting .drift) c (md .least .cell) p (md .least .least)
+  pub drain-room : {m : ℕ} {v₀ v : Work} → Mid-drain n L bound m v₀ v → 0 < v .size → m < n
+  drain-room md l =
+      let le = first-least (md .held .heap) l in
+      room-left (md .held .tied) (md .drifting .drift) _ (le .on) (le .pending) (λ d i. le .least d)
 
-  pub drain-goes-on : {m c d : ℕ} {es v₀ v v' : List ℕ} → Lawful n L → Blind n L c es → Mid-drain n L bound m c v₀ v → keys v n c ≤ bound
-      → Took n m c L es v v' → Least v' n d → Mid-drain n L bound (suc m) d v₀ v'
-  drain-goes-on law far md low tk le = record {
+  drain-goes-on : {m : ℕ} {es : ℕ → List ℕ} {v₀ v v' : Work} → Lawful n L → ((c : ℕ) → c < n → Blind n L c (es c)) → Mid-drain n L bound m v₀ v
+      → 0 < v .size → key (v .list) 0 ≤ bound → Took n m L es v v' → Mid-drain n L bound (suc m) v₀ v'
+  drain-goes-on {es = es} {v = v} law blinds md some low tk = record {
     held = took-held (md .held) tk;
-    least = le;
     long = took-long (md .held) tk ∙ md .long;
     past = λ j l. took-past (md .held) tk j l ∙ md .past j l;
     settled = took-settled (md .held) tk law far (md .settled);
@@ -171,19 +180,32 @@ module _ {n bound : ℕ} {L : ℕ → (ℕ → ℕ) → ℕ} where
       last = _;
       drift = took-drift (md .held) tk law far (md .settled) (md .drifting .drift);
     };
-    drift = λ stored dr. record { last = _; low = low; drift = took-drift (md .held) tk law far (md .settled) (md .drift stored dr .drift) };
+    drift = λ stored dr. record { last = _; low = early; drift = took-drift (md .held) tk law far (md .settled) (md .drift stored dr .drift) };
   }
+    where
+      far : Blind n L (tk .cell) (es (tk .cell))
+      far = blinds (tk .cell) (tk .popped .on)
 
-  pub drain-ends : {m c : ℕ} {v₀ v : List ℕ} → Mid-drain n L bound m c v₀ v → bound < keys v n c → Drained n bound m L v₀ v
+      early : keys v (tk .cell) ≤ bound
+      early =
+          let le = first-least (md .held .heap) some in
+          omega (arith, tk .popped .least (cell (v .list) 0) (le .on), le .top)
+
+  pub drain-ends : {m : ℕ} {v₀ v : Work} → Mid-drain n L bound m v₀ v → ((c : ℕ) → bound < keys v c) → Drained n bound m L v₀ v
   drain-ends md high = record {
     held = md .held;
     long = md .long;
     past = md .past;
     settled = md .settled;
-    keys-past = λ d l. omega (arith, md .least .least d l);
+    keys-past = λ d l. high d;
     upheld = md .upheld;
     drift = md .drift;
   }
+
+-- the same of the cells from lo on and below hi: they alone are pending
+pub record Mid-among (s : Shape) (slow ts : List ℕ) (lo hi bound m : ℕ) (v₀ v : Work) : Type 0 where
+  pub mid : Mid-drain (s .cells) (among lo hi (rule-at s slow ts)) bound m v₀ v
+  pub within : (c : ℕ) → c < s .cells → keys v c < never → Among lo hi c
 
 -- ---- on a board: a cell that does not hear of c within the tile does not see c as it is
 module _ {s : Shape} {slow ts cols rows : List ℕ} (gr : Ground s slow ts cols rows) where
@@ -197,7 +219,7 @@ module _ {s : Shape} {slow ts cols rows : List ℕ} (gr : Ground s slow ts cols 
   abbrev ghost : (d e : ℕ) → ℕ
   ghost d e = counts-as (land s slow) ts e
 
-  pub blind : {c : ℕ} → c < s .cells → Blind (s .cells) (rule-at s slow ts) c (near (land s slow) (s .across) (s .down) inside c)
+  blind : {c : ℕ} → c < s .cells → Blind (s .cells) (rule-at s slow ts) c (near (land s slow) (s .across) (s .down) inside c)
   blind {c} l d m o f g same = gives-same (gr .good) (s .across) (s .down) ghost ghost d (rw (← cells-size gr) m) f g alike
     where
       other : (e : ℕ) → Neighbour (land s slow) d e → e ≡ c → tile d ≢ tile e
@@ -211,3 +233,33 @@ module _ {s : Shape} {slow ts cols rows : List ℕ} (gr : Ground s slow ts cols 
         | yes q ↦ rw (ne-eqb (tile d) (tile e) (other e n q))
         | no q ↦ rw (same e (rw (cells-size gr) on) q)
       ]
+
+  module _ {lo hi bound : ℕ} {v₀ : Work} (re : Ready-among s slow ts lo hi v₀) where
+    pub among-begins : Mid-among s slow ts lo hi bound 0 v₀ v₀
+    among-begins = record { mid = drain-begins (re .ready); within = re .within }
+
+    module _ {m : ℕ} {v v' : Work} (ma : Mid-among s slow ts lo hi bound m v₀ v)
+        (tk : Took (s .cells) m (rule-at s slow ts) (near (land s slow) (s .across) (s .down) inside) v v') where
+      -- none but them hears of the cell that is taken
+      hear : (d : ℕ) → d < s .cells → Not-among lo hi d → Out d (near (land s slow) (s .across) (s .down) inside (tk .cell))
+      hear d = re .apart (tk .cell) d (ma .within (tk .cell) (tk .popped .on) (tk .popped .pending))
+
+      pub among-goes-on : 0 < v .size → key (v .list) 0 ≤ bound → Mid-among s slow ts lo hi bound (suc m) v₀ v'
+      among-goes-on some low = record {
+        mid = drain-goes-on {es = near (land s slow) (s .across) (s .down) inside} (among-lawful lo hi (rule-at s slow ts) lawful)
+            (λ c l d m o f g same. among-same lo hi (rule-at s slow ts) d f g (blind l d m o f g same)) (ma .mid) some low
+            (record { cell = tk .cell; middle = tk .middle; popped = tk .popped; told = told-among lo hi (rule-at s slow ts) hear (tk .told) });
+        within = λ d l h. ⊎-elim (λ i. i) (λ o. absurd (omega (arith, still d l o, h))) (which lo hi d);
+      }
+        where
+          taken : Among lo hi (tk .cell)
+          taken = ma .within (tk .cell) (tk .popped .on) (tk .popped .pending)
+
+          still : (d : ℕ) → d < s .cells → Not-among lo hi d → keys v' d ≡ never
+          still d l o =
+              let kept = told-within lo hi (rule-at s slow ts) (tk .told) d l (hear d l o)
+              ∙ tk .popped .keep d l (λ q. o (omega (arith, q, taken), omega (arith, q, taken))) in
+              elim (ℕ-discrete (keys v d) never) [
+                | yes q ↦ kept ∙ q
+                | no q ↦ absurd (o (ma .within d l (omega (arith, q, keys-small (ma .mid .held .heap) d))))
+              ]

@@ -1,6 +1,6 @@
 -- The round so far: what taking a cell and lowering another leave of it.
 use mathlib.Core.Path.{_≡_, refl, sym, ap, subst, _∙_}
-use mathlib.Core.Logic.{_⊎_, ⊎-elim, _≢_}
+use mathlib.Core.Logic.{⊎-elim, _≢_}
 use Prim.Native.Nat.{ℕ, zero, suc, _-_, _≤_, _<_, min}
 use native.Mathlib.Omega.{arith}
 use native.Mathlib.Decide.{ℕ-discrete}
@@ -8,7 +8,7 @@ use mathlib.Core.Bool.{cond}
 use lib.Dec.{eqb}
 use borrow.Author.Tests.{eq-eqb, ne-eqb}
 use Rattle.eikonal.specs.Board.{never}
-use Rattle.front.specs.Front.{Tied, Drop, total, Taken, Drift, Written}
+use Rattle.front.specs.Front.{heard, Tied, Drop, total, Taken, Drift, Written}
 use Rattle.front.proofs.Theory.Front.{times-fall}
 
 -- ---- sums that differ at one cell, or nowhere
@@ -37,6 +37,22 @@ one-more s y k k' a b e =
     let q : min 1 (never - k) ≡ 1 = omega arith in
     let r : min 1 (never - k') ≡ 0 = omega arith in
     rw (p, q, r)
+
+pub total-none : (n : ℕ) (g : ℕ → ℕ) → ((c : ℕ) → c < n → g c ≡ 0) → total n g ≡ 0
+unfolding total
+total-none zero g h = refl
+total-none (suc n) g h = omega (arith, h n (omega arith), total-none n g (λ c l. h c (omega arith)))
+
+-- NOTHING IS TAKEN YET, by stored times that are what is heard
+pub fresh : {n : ℕ} (y k note : ℕ → ℕ) → Drift n (heard y k) y k 0 0 note
+fresh {n} y k note = record {
+  low = λ c l. omega arith;
+  waits = λ c l h. omega arith;
+  floor = λ c l. omega arith;
+  noted = λ i l. absurd (omega arith);
+  others = λ c l o e. omega arith;
+  count = sym (total-none n _ (λ c l. omega arith));
+}
 
 -- THE NOTES FIT: no more cells are noted than there are
 pub notes-fit : {n : ℕ} {stored y k : ℕ → ℕ} {t m : ℕ} {note : ℕ → ℕ} → Drift n stored y k t m note → m ≤ n

@@ -16,7 +16,7 @@ pub record Lawful (n : ℕ) (L : ℕ → (ℕ → ℕ) → ℕ) : Type 0 where
   pub causal : (t c : ℕ) → t < never → c < n → (f g : ℕ → ℕ) → ((e : ℕ) → e < n → min t (f e) ≡ min t (g e)) → min (suc t) (L c f) ≡ min (suc t) (L c g)
 
 -- ---- sums
-pub total-le : (n : ℕ) (f g : ℕ → ℕ) → ((c : ℕ) → c < n → f c ≤ g c) → total n f ≤ total n g
+total-le : (n : ℕ) (f g : ℕ → ℕ) → ((c : ℕ) → c < n → f c ≤ g c) → total n f ≤ total n g
 unfolding total
 total-le zero f g h = omega arith
 total-le (suc n) f g h = omega (arith, h n (omega arith), total-le n f g (λ c l. h c (omega arith)))

@@ -1,12 +1,12 @@
 -- What code reads of a cell's neighbours is what the rule sees of them.
-use mathlib.Core.Path.{_≡_, refl, sym, ap, _∙_}
+use mathlib.Core.Path.{_≡_, refl, sym, ap, subst, _∙_}
 use mathlib.Core.Bool.{cond}
 use mathlib.Core.Logic.{inl, inr, _≢_}
 use mathlib.Core.List.{List, [], _∷_}
 use Prim.Native.Nat.{ℕ, zero, suc, _+_, _*_, _-_, _/_, _%_, _≤_, _<_, min}
 use native.Mathlib.Omega.{arith}
 use native.Mathlib.Decide.{ℕ-discrete}
-use native.Mathlib.Nat.{mul-le-mul-right, div-eq-of-lt-le, div-add-mod'}
+use native.Mathlib.Nat.{mul-le-mul-right, mul-comm, div-eq-of-lt-le, div-add-mod', mod-lt}
 use native.Mathlib.Numerals.{add-one}
 use lib.Dec.{eqb}
 use lib.ListN.{length, getD}
@@ -14,14 +14,15 @@ use borrow.Author.Tests.{eq-eqb, ne-eqb, lt-ltb, le-ltb}
 use Rattle.eikonal.specs.Board.{Board, never, largest, size, slowness, time, local, arrival}
 use Rattle.eikonal.specs.Tiles.{counts-as}
 use Rattle.eikonal.proofs.Good.{size-most}
+use Rattle.eikonal.proofs.Grid.{row-low}
 use Rattle.front.specs.Front.{ghosted}
 use Rattle.front.specs.Seams.{Axis, edge, across}
-use Rattle.front.specs.Board.{land, rule-at, Marked, Ground, Site, Sees}
+use Rattle.front.specs.Board.{land, rule-at, Marked, Ground, Measures, Site, Sees}
 use Rattle.front.specs.declared.Shape.{Shape}
 use Rattle.front.proofs.Theory.Seams.{seam-edge, Straight, columns-straight, rows-straight, sees-back, sees-on}
 
 -- an entry of a list is the same by any default
-pub getD-any : (l : List ℕ) (i d e : ℕ) → i < length l → getD l i d ≡ getD l i e
+getD-any : (l : List ℕ) (i d e : ℕ) → i < length l → getD l i d ≡ getD l i e
 getD-any [] i d e h = absurd (omega arith)
 getD-any (x ∷ xs) zero d e h = refl
 getD-any (x ∷ xs) (suc i) d e h = getD-any xs i d e (omega arith)
@@ -73,24 +74,34 @@ module _ {n s i : ℕ} {js : List ℕ} (la : Marked n s js) (l : i < n) where
   ]
 
 -- ---- a cell's site, and those of its neighbours
-module _ {s : Shape} {c row col : ℕ} (si : Site s c row col) where
-  pub row-is : c / s .width ≡ row
-  row-is = div-eq-of-lt-le (s .width) (omega (arith, si .cell)) (omega (arith, si .cell, si .column))
+pub site : {n w c row : ℕ} → 1 ≤ w → c < n → row ≡ c / w → Site n w c row (c - row * w)
+site {n} {w} {c} {row} l on q =
+    let whole = div-add-mod' c w in
+    let same : row * w ≡ c / w * w = ap (λ (u : ℕ). u * w) q in
+    record { on = on; cell = omega (arith, whole, same); column = omega (arith, whole, same, mod-lt c l) }
 
-  pub col-is : c % s .width ≡ col
-  col-is = omega (arith, si .cell, div-add-mod' c (s .width), ap (λ (u : ℕ). u * s .width) row-is)
+module _ {n w c row col : ℕ} (si : Site n w c row col) where
+  pub row-is : c / w ≡ row
+  row-is = div-eq-of-lt-le w (omega (arith, si .cell)) (omega (arith, si .cell, si .column))
 
-  pub left-site : {e k : ℕ} → c ≡ e + 1 → col ≡ k + 1 → Site s e row k
-  left-site p q = record { cell = omega (arith, si .cell); column = omega (arith, si .column); line = si .line }
+  pub col-is : c % w ≡ col
+  col-is = omega (arith, si .cell, div-add-mod' c w, ap (λ (u : ℕ). u * w) row-is)
 
-  pub right-site : col + 1 < s .width → Site s (c + 1) row (col + 1)
-  right-site h = record { cell = omega (arith, si .cell); column = h; line = si .line }
+  pub left-site : {e k : ℕ} → c ≡ e + 1 → col ≡ k + 1 → Site n w e row k
+  left-site p q = record { on = omega (arith, si .on); cell = omega (arith, si .cell); column = omega (arith, si .column) }
 
-  pub above-site : {e k : ℕ} → c ≡ e + s .width → row ≡ k + 1 → Site s e k col
-  above-site p q = record { cell = omega (arith, si .cell, ap (λ (u : ℕ). u * s .width) q); column = si .column; line = omega (arith, si .line) }
+  pub right-site : c + 1 < n → col + 1 < w → Site n w (c + 1) row (col + 1)
+  right-site l h = record { on = l; cell = omega (arith, si .cell); column = h }
 
-  pub below-site : row + 1 < s .height → Site s (c + s .width) (row + 1) col
-  below-site h = record { cell = omega (arith, si .cell); column = si .column; line = h }
+  pub above-site : {e k : ℕ} → c ≡ e + w → row ≡ k + 1 → Site n w e k col
+  above-site p q = record { on = omega (arith, si .on); cell = omega (arith, si .cell, ap (λ (u : ℕ). u * w) q); column = si .column }
+
+  pub below-site : c + w < n → Site n w (c + w) (row + 1) col
+  below-site l = record { on = l; cell = omega (arith, si .cell); column = si .column }
+
+-- a shape's own numbers are its measures
+pub measured : {s : Shape} → Measures s (s .cells) (s .width)
+measured = record { cells = refl; width = refl }
 
 module _ {s : Shape} {slow ts cols rows : List ℕ} (gr : Ground s slow ts cols rows) where
   pub cells-size : s .cells ≡ size (land s slow)
@@ -103,78 +114,94 @@ module _ {s : Shape} {slow ts cols rows : List ℕ} (gr : Ground s slow ts cols 
   pub slow-long : length slow ≡ s .cells
   slow-long = gr .good .slow-length ∙ sym cells-size
 
-  pub site-on : {c row col : ℕ} → Site s c row col → c < s .cells
-  site-on si = omega (arith, si .cell, si .column, gr .cells, mul-le-mul-right (s .width) (si .line))
+  module _ {n w : ℕ} (me : Measures s n w) where
+    pub width-low : 1 ≤ w
+    width-low = omega (arith, me .width, gr .good .wide-low)
 
-  module _ {c row col : ℕ} (si : Site s c row col) where
-    on : c < size (land s slow)
-    on = omega (arith, cells-size, site-on si)
+    pub width-high : w ≤ 256
+    width-high = omega (arith, me .width, gr .good .wide-high)
 
-    -- ---- the neighbours are on the board where the seams are not the edge
-    pub left-some : getD cols col 0 ≢ edge → 1 ≤ c
-    left-some q = omega (arith, si .cell, place-behind (gr .columns) (si .column) q)
+    area : n ≡ s .height * w
+    area = me .cells ∙ gr .cells ∙ mul-comm (s .width) (s .height) ∙ ap (λ (u : ℕ). s .height * u) (sym (me .width))
 
-    pub right-some : getD cols (col + 1) 0 ≢ edge → c + 1 < s .cells
-    right-some q = site-on (right-site si (place-ahead (gr .columns) (si .column) q))
+    module _ {c row col : ℕ} (si : Site n w c row col) where
+      on : c < size (land s slow)
+      on = omega (arith, me .cells, cells-size, si .on)
 
-    pub above-some : getD rows row 0 ≢ edge → s .width ≤ c
-    above-some q = omega (arith, si .cell, mul-le-mul-right (s .width) (place-behind (gr .lines) (si .line) q))
+      pub line : row < s .height
+      line = omega (arith, row-is si, row-low w (s .height) c width-low (omega (arith, si .on, area, mul-comm (s .height) w)))
 
-    pub below-some : getD rows (row + 1) 0 ≢ edge → c + s .width < s .cells
-    below-some q = site-on (below-site si (place-ahead (gr .lines) (si .line) q))
+      pub column : col < s .width
+      column = omega (arith, me .width, si .column)
 
-    module _ {work : List ℕ} (room : 4 * s .cells ≤ length work) (u : ℕ) {mark : ℕ} where
-      fits : (less more : ℕ) → (mark ≢ edge → (more ≤ s .cells) × (less ≤ c + more) × (c + more - less < s .cells))
-          → Sees (s .cells) slow ts work c less more mark
-      fits less more h = record {
-        slows = omega (arith, slow-long);
-        times = omega (arith, gr .many);
-        room = room;
-        cell = site-on si;
-        far = λ q. h q .0;
-        low = λ q. h q .1;
-        high = λ q. h q .2;
-      }
+      -- ---- the neighbours are on the board where the seams are not the edge
+      pub left-some : getD cols col 0 ≢ edge → 1 ≤ c
+      left-some q = omega (arith, si .cell, place-behind (gr .columns) column q)
 
-      pub fits-back : (mark ≢ edge → u ≤ c) → Sees (s .cells) slow ts work c u 0 mark
-      fits-back h = fits u 0 (λ q. (omega arith, omega (arith, h q), omega (arith, site-on si)))
+      pub right-some : getD cols (col + 1) 0 ≢ edge → c + 1 < n
+      right-some q = omega (arith, si .cell, me .width, place-ahead (gr .columns) column q, area, mul-le-mul-right w line)
 
-      pub fits-on : (mark ≢ edge → c + u < s .cells) → Sees (s .cells) slow ts work c 0 u mark
-      fits-on h = fits 0 u (λ q. (omega (arith, h q), omega arith, omega (arith, h q)))
+      pub above-some : getD rows row 0 ≢ edge → w ≤ c
+      above-some q = omega (arith, si .cell, mul-le-mul-right w (place-behind (gr .lines) line q))
 
-    -- ---- what code reads across the seams of an axis is what the rule sees there
-    abbrev ghost : (d e : ℕ) → ℕ
-    ghost d e = counts-as (land s slow) ts e
+      pub below-some : getD rows (row + 1) 0 ≢ edge → c + w < n
+      below-some q = omega (arith, si .cell, si .column, area, mul-le-mul-right w (place-ahead (gr .lines) line q))
 
-    module _ {a : Axis} (st : Straight (land s slow) (s .across) (s .down) a) {js : List ℕ} (la : Marked (a .count) (a .side) js)
-        {i x : ℕ} (at : a .place c ≡ i) (l : i < a .count) (f : ℕ → ℕ) where
-      read-back : x ≡ across (getD js i 0) (f (c + 0 - a .unit)) (ghost c (c + 0 - a .unit))
-          → x ≡ cond (eqb (a .place c) 0) never (ghosted (land s slow) (s .across) (s .down) ghost f c (c - a .unit))
-      read-back e =
-          let here : c + 0 ≡ c = omega arith in
-          e ∙ rw (here, la .at i (omega arith), ← at) (sees-back st c on ghost f)
+      module _ {work : List ℕ} (room : 4 * n ≤ length work) (u : ℕ) {mark : ℕ} where
+        fits : (less more : ℕ) → (mark ≢ edge → (more ≤ n) × (less ≤ c + more) × (c + more - less < n)) → Sees n slow ts work c less more mark
+        fits less more h = record {
+          slows = omega (arith, slow-long, me .cells);
+          times = omega (arith, gr .many, me .cells);
+          room = room;
+          cell = si .on;
+          far = λ q. h q .0;
+          low = λ q. h q .1;
+          high = λ q. h q .2;
+        }
 
-      read-on : x ≡ across (getD js (i + 1) 0) (f (c + a .unit - 0)) (ghost c (c + a .unit - 0))
-          → x ≡ cond (eqb (suc (a .place c)) (a .count)) never (ghosted (land s slow) (s .across) (s .down) ghost f c (c + a .unit))
-      read-on e =
-          let here : c + a .unit - 0 ≡ c + a .unit = omega arith in
-          e ∙ rw (here, la .at (i + 1) (omega arith), add-one i, ← at) (sees-on st c on ghost f)
+        pub fits-back : (mark ≢ edge → u ≤ c) → Sees n slow ts work c u 0 mark
+        fits-back h = fits u 0 (λ q. (omega arith, omega (arith, h q), omega (arith, si .on)))
 
-    -- THE RULE from what code reads of the four neighbours
-    pub rule-read : (f : ℕ → ℕ) {l r u d x : ℕ}
-        → l ≡ across (getD cols col 0) (f (c + 0 - 1)) (ghost c (c + 0 - 1))
-        → r ≡ across (getD cols (col + 1) 0) (f (c + 1 - 0)) (ghost c (c + 1 - 0))
-        → u ≡ across (getD rows row 0) (f (c + 0 - s .width)) (ghost c (c + 0 - s .width))
-        → d ≡ across (getD rows (row + 1) 0) (f (c + s .width - 0)) (ghost c (c + s .width - 0))
-        → x ≡ min never (local (getD slow c 0) l r u d) → x ≡ rule-at s slow ts c f
-    unfolding arrival slowness
-    rule-read f el er eu ed ex =
-        let cs = columns-straight (gr .good) (s .across) (s .down) (gr .across) (gr .down) in
-        let rs = rows-straight (gr .good) (s .across) (s .down) (gr .across) (gr .down) in
-        ex ∙ rw (
-          read-back cs (gr .columns) (col-is si) (si .column) f el,
-          read-on cs (gr .columns) (col-is si) (si .column) f er,
-          read-back rs (gr .lines) (row-is si) (si .line) f eu,
-          read-on rs (gr .lines) (row-is si) (si .line) f ed,
-          add-one c,
-        )
+        pub fits-on : (mark ≢ edge → c + u < n) → Sees n slow ts work c 0 u mark
+        fits-on h = fits 0 u (λ q. (omega (arith, h q), omega arith, omega (arith, h q)))
+
+      -- ---- what code reads across the seams of an axis is what the rule sees there
+      abbrev ghost : (d e : ℕ) → ℕ
+      ghost d e = counts-as (land s slow) ts e
+
+      module _ {a : Axis} (st : Straight (land s slow) (s .across) (s .down) a) {js : List ℕ} (la : Marked (a .count) (a .side) js)
+          {i x : ℕ} (at : a .place c ≡ i) (l : i < a .count) (f : ℕ → ℕ) where
+        read-back : x ≡ across (getD js i 0) (f (c + 0 - a .unit)) (ghost c (c + 0 - a .unit))
+            → x ≡ cond (eqb (a .place c) 0) never (ghosted (land s slow) (s .across) (s .down) ghost f c (c - a .unit))
+        read-back e =
+            let here : c + 0 ≡ c = omega arith in
+            e ∙ rw (here, la .at i (omega arith), ← at) (sees-back st c on ghost f)
+
+        read-on : x ≡ across (getD js (i + 1) 0) (f (c + a .unit - 0)) (ghost c (c + a .unit - 0))
+            → x ≡ cond (eqb (suc (a .place c)) (a .count)) never (ghosted (land s slow) (s .across) (s .down) ghost f c (c + a .unit))
+        read-on e =
+            let here : c + a .unit - 0 ≡ c + a .unit = omega arith in
+            e ∙ rw (here, la .at (i + 1) (omega arith), add-one i, ← at) (sees-on st c on ghost f)
+
+      -- THE RULE from what code reads of the four neighbours
+      pub rule-read : (f : ℕ → ℕ) {l r u d : ℕ}
+          → l ≡ across (getD cols col 0) (f (c + 0 - 1)) (ghost c (c + 0 - 1))
+          → r ≡ across (getD cols (col + 1) 0) (f (c + 1 - 0)) (ghost c (c + 1 - 0))
+          → u ≡ across (getD rows row 0) (f (c + 0 - w)) (ghost c (c + 0 - w))
+          → d ≡ across (getD rows (row + 1) 0) (f (c + w - 0)) (ghost c (c + w - 0))
+          → min never (local (getD slow c 0) l r u d) ≡ rule-at s slow ts c f
+      unfolding arrival slowness
+      rule-read f {l} {r} {u} {d} el er eu ed =
+          let cs = columns-straight (gr .good) (s .across) (s .down) (gr .across) (gr .down) in
+          let rs = rows-straight (gr .good) (s .across) (s .down) (gr .across) (gr .down) in
+          let col-at = ap (λ (k : ℕ). c % k) (sym (me .width)) ∙ col-is si in
+          let row-at = ap (λ (k : ℕ). c / k) (sym (me .width)) ∙ row-is si in
+          let eu' = subst (λ k. u ≡ across (getD rows row 0) (f (c + 0 - k)) (ghost c (c + 0 - k))) (me .width) eu in
+          let ed' = subst (λ k. d ≡ across (getD rows (row + 1) 0) (f (c + k - 0)) (ghost c (c + k - 0))) (me .width) ed in
+          rw (
+            read-back cs (gr .columns) col-at column f el,
+            read-on cs (gr .columns) col-at column f er,
+            read-back rs (gr .lines) row-at line f eu',
+            read-on rs (gr .lines) row-at line f ed',
+            add-one c,
+          ) refl

@@ -1,64 +1,77 @@
--- From stores and the queue's calls to what a touch and a take leave of the work list.
+-- From a store and the queue's call to what a touch leaves of the work list; and a cell's neighbours, who hear in turn.
 use mathlib.Core.Path.{_≡_, refl, sym, ap, subst, _∙_}
 use mathlib.Core.Logic.{_⊎_, inr, ⊎-elim, _≢_}
 use mathlib.Core.List.{List, []}
-use Prim.Native.Nat.{ℕ, _+_, _*_, _-_, _/_, _≤_, _<_, min}
+use Prim.Native.Nat.{ℕ, suc, _+_, _*_, _-_, _/_, _%_, _≤_, _<_}
 use native.Mathlib.Omega.{arith}
 use native.Mathlib.Decide.{ℕ-discrete}
-use native.Mathlib.Nat.{div-add-mod', mod-lt}
 use native.Mathlib.Numerals.{add-one}
 use lib.ListN.{length, getD, set, length-set}
 use lib.Seq.{getD-set-same, getD-set-other}
 use borrow.Author.Tests.{eq-eqb, ne-eqb}
-use Rattle.eikonal.specs.Board.{slowness}
+use Rattle.eikonal.specs.Board.{never, size, slowness}
 use Rattle.eikonal.specs.Tiles.{counts-as}
-use Rattle.eikonal.proofs.Grid.{row-low}
-use Rattle.queue.specs.Tree.{Tree, keys, Put}
-use Rattle.queue.proofs.Tree.{tree-past}
-use Rattle.front.specs.Front.{Drop}
-use Rattle.front.specs.Seams.{Axis, column-axis, row-axis, seam-back, seam-on, near-on, border, inside, hearer, near}
-use Rattle.front.specs.Board.{land, rule-at, tentative, Marked, Ground, Site}
+use Rattle.queue.specs.Heap as queue
+use Rattle.queue.specs.Heap.{Heap, Put}
+use Rattle.queue.proofs.Heap.{heap-past, keys-past}
+use Rattle.front.specs.Front.{Drop, Out}
+use Rattle.front.specs.Seams.{seam, least-seam, Axis, column-axis, row-axis, seam-back, seam-on, near-on, border, inside, hearer, near}
+use Rattle.front.specs.Board.{land, rule-at, tentative, Marked, Work, at, keys, Ground, Measures, Site}
 use Rattle.front.specs.State.{Held, Touched, stays, drops, Told, all, next}
 use Rattle.front.specs.declared.Shape.{Shape}
 use Rattle.front.proofs.Theory.Sight.{gives-wall}
-use Rattle.front.proofs.Theory.Reading.{cells-size, row-is, col-is}
+use Rattle.front.proofs.Theory.Reading.{cells-size, row-is, col-is, column, line}
 
-module _ {n : ℕ} {v : List ℕ} (he : Held n v) {e : ℕ} (x : ℕ) (l : e < n) where
-  -- the tree stands while a time is stored
-  pub stored-tree : Tree (set v (2 * n + e) x) n
-  stored-tree = tree-past v n (2 * n + e) x (omega arith) (he .tree)
+-- a time is stored for the cell e, and the queue takes it up
+module _ {n : ℕ} {v : Work} (he : Held n v) {e : ℕ} (x : ℕ) (l : e < n) where
+  abbrev stored : List ℕ
+  stored = set (v .list) (2 * n + e) x
 
-  pub stored-room : 2 * n ≤ length (set v (2 * n + e) x)
+  -- the queue stands meanwhile
+  pub stored-heap : Heap stored (v .size) n
+  stored-heap = heap-past (v .list) (v .size) n (2 * n + e) x (omega arith) (he .heap)
+
+  stored-keys : (d : ℕ) → queue.keys stored (v .size) d ≡ keys v d
+  stored-keys = keys-past (v .list) (v .size) n (2 * n + e) x (omega arith) (he .heap)
+
+  pub stored-room : 2 * n ≤ length stored
   stored-room = rw length-set (omega (arith, he .room))
 
-  -- the queue may lower the cell's key
-  pub stored-key : x < tentative v n e → x < keys (set v (2 * n + e) x) n e
-  stored-key h =
-      rw (getD-set-other v (2 * n + e) (n + e) x 0 (omega arith)) (⊎-elim (λ q. omega (arith, he .tied .small e l)) (λ q. omega arith) (he .tied .tied e l))
+  -- it may lower the cell's key
+  pub stored-key : x < tentative (v .list) n e → x < queue.keys stored (v .size) e
+  stored-key h = rw (stored-keys e) (⊎-elim (λ q. omega (arith, he .tied .small e l)) (λ q. omega arith) (he .tied .tied e l))
 
-  module _ {L : ℕ → (ℕ → ℕ) → ℕ} (is : x ≡ L e (tentative v n)) (low : x < tentative v n e) {v' : List ℕ} (put : Put (set v (2 * n + e) x) n e x v') where
-    pub lowers : (t : ℕ) → (t ≡ 0) ⊎ (t < tentative v n e) → Touched n L t e v v'
-    lowers t h = drops (record {
+  -- and where the cell had no time, it is new to the queue
+  pub stored-new : tentative (v .list) n e ≡ never → queue.keys stored (v .size) e ≡ never
+  stored-new h = stored-keys e ∙ ⊎-elim (λ q. q) (λ q. q ∙ h) (he .tied .tied e l)
+
+  module _ {u : List ℕ} {r : ℕ} (put : Put stored (v .size) n e x u r) where
+    other : (j : ℕ) → 2 * n ≤ j → j ≢ 2 * n + e → getD u j 0 ≡ getD (v .list) j 0
+    other j i q = put .past j i ∙ getD-set-other (v .list) (2 * n + e) j x 0 q
+
+    pub lowers : {L : ℕ → (ℕ → ℕ) → ℕ} → x ≡ L e (tentative (v .list) n) → x < tentative (v .list) n e
+        → (t : ℕ) → (t ≡ 0) ⊎ (t < tentative (v .list) n e) → Touched n L t e v (at u r)
+    lowers is low t h = drops (record {
       late = ⊎-elim (λ z. omega arith) (λ m. m) h;
-      drop = subst (λ u. Drop n e u (tentative v n) (keys v n) (tentative v' n) (keys v' n)) is (record {
+      drop = subst (λ z. Drop n e z (tentative (v .list) n) (keys v) (tentative u n) (keys (at u r))) is (record {
         cell = l;
         low = low;
-        time = put .others (2 * n + e) (omega arith) (omega arith) ∙ getD-set-same v (2 * n + e) x 0 (omega (arith, he .room));
-        key = put .leaf;
-        times = λ d m q. put .others (2 * n + d) (omega arith) (omega arith) ∙ getD-set-other v (2 * n + e) (2 * n + d) x 0 (omega arith);
-        keys = λ d m q. put .others (n + d) (omega arith) (omega arith) ∙ getD-set-other v (2 * n + e) (n + d) x 0 (omega arith);
+        time = put .past (2 * n + e) (omega arith) ∙ getD-set-same (v .list) (2 * n + e) x 0 (omega (arith, he .room));
+        key = put .new;
+        times = λ d m q. other (2 * n + d) (omega arith) (omega arith);
+        keys = λ d m q. put .others d q ∙ stored-keys d;
       });
-      long = put .long ∙ length-set v (2 * n + e) x;
-      tree = put .tree;
-      rest = λ j m. put .others j (omega arith) (omega arith) ∙ getD-set-other v (2 * n + e) j x 0 (omega arith);
+      long = put .long ∙ length-set (v .list) (2 * n + e) x;
+      heap = put .heap;
+      rest = λ j m. other j (omega arith) (omega arith);
     })
 
 -- a wall stays
-pub stays-wall : {s : Shape} {slow ts cols rows : List ℕ} → Ground s slow ts cols rows → {t e : ℕ} {v : List ℕ} → Held (s .cells) v → getD slow e 0 ≡ 0
-    → Touched (s .cells) (rule-at s slow ts) t e v v
+pub stays-wall : {s : Shape} {slow ts cols rows : List ℕ} → Ground s slow ts cols rows → {n t e : ℕ} {v : Work} → Held n v → getD slow e 0 ≡ 0
+    → Touched n (rule-at s slow ts) t e v v
 unfolding slowness
-stays-wall {s} {slow} {ts} gr {e = e} {v} he w =
-    let wall = gives-wall (gr .good) (s .across) (s .down) (λ d e. counts-as (land s slow) ts e) e (tentative v (s .cells)) w in
+stays-wall {s} {slow} {ts} gr {n} {e = e} {v} he w =
+    let wall = gives-wall (gr .good) (s .across) (s .down) (λ d e. counts-as (land s slow) ts e) e (tentative (v .list) n) w in
     stays refl (λ l. inr (omega (arith, wall, he .tied .small e l)))
 
 -- ---- neighbours across a seam of a kind
@@ -66,7 +79,7 @@ pub hearer-some : (n k s e : ℕ) → s ≡ k → hearer n k s e ≡ e
 unfolding hearer
 hearer-some n k s e q = rw (eq-eqb s k q)
 
-hearer-none : (n k s e : ℕ) → s ≢ k → hearer n k s e ≡ n
+pub hearer-none : (n k s e : ℕ) → s ≢ k → hearer n k s e ≡ n
 unfolding hearer
 hearer-none n k s e q = rw (ne-eqb s k q)
 
@@ -76,23 +89,11 @@ hearer-same n k s e d h = elim (ℕ-discrete s k) [
   | no q ↦ hearer-none n k s e q ∙ sym (hearer-none n k s d q)
 ]
 
-pub not-across : {n : ℕ} {L : ℕ → (ℕ → ℕ) → ℕ} {t : ℕ} {v : List ℕ} (k s e : ℕ) → s ≢ k → Touched n L t (hearer n k s e) v v
+pub not-across : {n : ℕ} {L : ℕ → (ℕ → ℕ) → ℕ} {t : ℕ} {v : Work} (k s e : ℕ) → s ≢ k → Touched n L t (hearer n k s e) v v
 not-across {n} k s e q = stays refl (λ l. absurd (omega (arith, hearer-none n k s e q)))
 
--- ---- the cell's own site
-pub site : {s : Shape} {slow ts cols rows : List ℕ} → Ground s slow ts cols rows → {c row : ℕ} → c < s .cells → row ≡ c / s .width
-    → Site s c row (c - row * s .width)
-site {s} gr {c} {row} l q =
-    let whole = div-add-mod' c (s .width) in
-    let same : row * s .width ≡ c / s .width * s .width = ap (λ (u : ℕ). u * s .width) q in
-    record {
-      cell = omega (arith, whole, same);
-      column = omega (arith, whole, same, mod-lt c (gr .good .wide-low));
-      line = omega (arith, q, row-low (s .width) (s .height) c (gr .good .wide-low) (omega (arith, gr .cells)));
-    }
-
 -- ---- the neighbours on an axis hear of it in turn, the one behind, whose number is d, and the one ahead; and then further ones
-module _ (a : Axis) {n t k c i : ℕ} {L : ℕ → (ℕ → ℕ) → ℕ} {es js v0 v1 v2 v3 : List ℕ}
+module _ (a : Axis) {n t k c i : ℕ} {L : ℕ → (ℕ → ℕ) → ℕ} {es js : List ℕ} {v0 v1 v2 v3 : Work}
     (la : Marked (a .count) (a .side) js) (at : a .place c ≡ i) (l : i < a .count) where
   told-on : (d : ℕ) → (getD js i 0 ≡ k → c ≡ d + a .unit) → Touched n L t (hearer n k (getD js i 0) d) v0 v1
       → Touched n L t (hearer n k (getD js (i + 1) 0) (c + a .unit)) v1 v2 → Told n L t es v2 v3 → Told n L t (near-on a n k c es) v0 v3
@@ -104,25 +105,63 @@ module _ (a : Axis) {n t k c i : ℕ} {L : ℕ → (ℕ → ℕ) → ℕ} {es js
       ahead : hearer n k (getD js (i + 1) 0) (c + a .unit) ≡ hearer n k (seam-on a c) (c + a .unit)
       ahead = rw (la .at (i + 1) (omega arith), add-one i, at)
 
-module _ {s : Shape} {slow ts cols rows : List ℕ} (gr : Ground s slow ts cols rows) {c row col : ℕ} (si : Site s c row col) where
-  pub near-told : {L : ℕ → (ℕ → ℕ) → ℕ} {t k : ℕ} (l u : ℕ) {v0 v1 v2 v3 v4 : List ℕ} → (getD cols col 0 ≡ k → c ≡ l + 1)
-      → (getD rows row 0 ≡ k → c ≡ u + s .width)
-      → Touched (s .cells) L t (hearer (s .cells) k (getD cols col 0) l) v0 v1
-      → Touched (s .cells) L t (hearer (s .cells) k (getD cols (col + 1) 0) (c + 1)) v1 v2
-      → Touched (s .cells) L t (hearer (s .cells) k (getD rows row 0) u) v2 v3
-      → Touched (s .cells) L t (hearer (s .cells) k (getD rows (row + 1) 0) (c + s .width)) v3 v4
-      → Told (s .cells) L t (near (land s slow) (s .across) (s .down) k c) v0 v4
-  unfolding near
-  near-told {L} {t} {k} l u {v0} {v4 = v4} hl hu pl pr pu pd =
-      let ca = column-axis (land s slow) (s .across) in
-      let ra = row-axis (land s slow) (s .down) in
-      subst (λ n. Told (s .cells) L t (near-on ca n k c (near-on ra n k c [])) v0 v4) (cells-size gr)
-      (told-on ca (gr .columns) (col-is si) (si .column) l hl pl pr (told-on ra (gr .lines) (row-is si) (si .line) u hu pu pd (all v4)))
+module _ {s : Shape} {slow ts cols rows : List ℕ} (gr : Ground s slow ts cols rows) {n w : ℕ} (me : Measures s n w)
+    {c row col : ℕ} (si : Site n w c row col) where
+  abbrev columns : Axis
+  columns = column-axis (land s slow) (s .across)
 
-  -- behind inside seams there is nobody to tell in other tiles
-  pub near-none : {L : ℕ → (ℕ → ℕ) → ℕ} {t : ℕ} (v : List ℕ)
-      → min (min (getD cols col 0) (getD cols (col + 1) 0)) (min (getD rows row 0) (getD rows (row + 1) 0)) ≡ inside
-      → Told (s .cells) L t (near (land s slow) (s .across) (s .down) border c) v v
-  near-none v q =
-      near-told 0 0 (λ z. absurd (omega arith)) (λ z. absurd (omega arith))
-      (not-across _ _ _ (λ z. omega arith)) (not-across _ _ _ (λ z. omega arith)) (not-across _ _ _ (λ z. omega arith)) (not-across _ _ _ (λ z. omega arith))
+  abbrev lines : Axis
+  lines = row-axis (land s slow) (s .down)
+
+  column-at : columns .place c ≡ col
+  column-at = ap (λ (k : ℕ). c % k) (sym (me .width)) ∙ col-is si
+
+  line-at : lines .place c ≡ row
+  line-at = ap (λ (k : ℕ). c / k) (sym (me .width)) ∙ row-is si
+
+  pub near-told : {L : ℕ → (ℕ → ℕ) → ℕ} {t k : ℕ} (l u : ℕ) {v0 v1 v2 v3 v4 : Work} → (getD cols col 0 ≡ k → c ≡ l + 1)
+      → (getD rows row 0 ≡ k → c ≡ u + w)
+      → Touched n L t (hearer n k (getD cols col 0) l) v0 v1
+      → Touched n L t (hearer n k (getD cols (col + 1) 0) (c + 1)) v1 v2
+      → Touched n L t (hearer n k (getD rows row 0) u) v2 v3
+      → Touched n L t (hearer n k (getD rows (row + 1) 0) (c + w)) v3 v4
+      → Told n L t (near (land s slow) (s .across) (s .down) k c) v0 v4
+  unfolding near
+  near-told {L} {t} {k} l u {v0} {v3 = v3} {v4} hl hu pl pr pu pd =
+      subst (λ m. Told n L t (near-on columns m k c (near-on lines m k c [])) v0 v4) (me .cells ∙ cells-size gr)
+      (told-on columns (gr .columns) column-at (column gr me si) l hl pl pr
+      (told-on lines (gr .lines) line-at (line gr me si) u (λ z. hu z ∙ ap (λ (k : ℕ). u + k) (me .width)) pu
+      (subst (λ m. Touched n L t (hearer n k (getD rows (row + 1) 0) (c + m)) v3 v4) (me .width) pd) (all v4)))
+
+  -- where all seams are inside, nobody in another tile is to be told
+  module _ (q : least-seam cols rows row col ≡ inside) where
+    pub near-none : {L : ℕ → (ℕ → ℕ) → ℕ} {t : ℕ} (v : Work) → Told n L t (near (land s slow) (s .across) (s .down) border c) v v
+    near-none v =
+        near-told 0 0 (λ z. absurd (omega arith)) (λ z. absurd (omega arith))
+        (not-across _ _ _ (λ z. omega arith)) (not-across _ _ _ (λ z. omega arith)) (not-across _ _ _ (λ z. omega arith)) (not-across _ _ _ (λ z. omega arith))
+
+    -- each of the four is no cell
+    pub near-out : (e : ℕ) → e < size (land s slow) → Out e (near (land s slow) (s .across) (s .down) border c)
+    unfolding near
+    near-out e l = (
+      back columns (gr .columns) column-at (column gr me si) (omega arith),
+      (
+        ahead columns (gr .columns) column-at (column gr me si) (omega arith),
+        (
+          back lines (gr .lines) line-at (line gr me si) (omega arith),
+          (ahead lines (gr .lines) line-at (line gr me si) (omega arith), tt),
+        ),
+      ),
+    )
+      where
+        none : (mark d : ℕ) → mark ≢ border → e ≢ hearer (size (land s slow)) border mark d
+        none mark d h z = omega (arith, l, z, hearer-none (size (land s slow)) border mark d h)
+
+        back : (a : Axis) {i : ℕ} {js : List ℕ} → Marked (a .count) (a .side) js → a .place c ≡ i → i < a .count → getD js i 0 ≢ border
+            → e ≢ hearer (size (land s slow)) border (seam-back a c) (c - a .unit)
+        back a {i} la at k h = none _ _ (λ z. h (la .at i (omega arith) ∙ ap (λ (p : ℕ). seam (a .count) (a .side) p) (sym at) ∙ z))
+
+        ahead : (a : Axis) {i : ℕ} {js : List ℕ} → Marked (a .count) (a .side) js → a .place c ≡ i → i < a .count → getD js (i + 1) 0 ≢ border
+            → e ≢ hearer (size (land s slow)) border (seam-on a c) (c + a .unit)
+        ahead a {i} la at k h =
+            none _ _ (λ z. h (la .at (i + 1) (omega arith) ∙ ap (λ (p : ℕ). seam (a .count) (a .side) p) (add-one i ∙ ap suc (sym at)) ∙ z))

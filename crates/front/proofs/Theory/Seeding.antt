@@ -1,9 +1,9 @@
--- The beginning of a round: the work list emptied, and starts placed in it one after the other or part by part.
+-- The beginning of a round: the work list emptied, starts placed in it one after the other or part by part, and then gathered in the queue.
 use mathlib.Core.Path.{_≡_, refl, sym, subst, _∙_}
 use mathlib.Core.Bool.{Bool, true, false, cond, _&&_}
-use mathlib.Core.Logic.{inl, inr, _≢_}
+use mathlib.Core.Logic.{inr, _≢_}
 use mathlib.Core.List.{List, [], _∷_, _++_}
-use Prim.Native.Nat.{ℕ, zero, suc, _+_, _*_, _-_, _≤_, _<_, min}
+use Prim.Native.Nat.{ℕ, zero, suc, _+_, _*_, _≤_, _<_, min}
 use native.Mathlib.Omega.{arith}
 use native.Mathlib.Decide.{ℕ-discrete}
 use lib.Dec.{ltb, leb, eqb}
@@ -16,18 +16,18 @@ use Rattle.eikonal.specs.Refusals.{starts-rise, late, starts-of}
 use Rattle.eikonal.proofs.Good.{and-true, or-false}
 use Rattle.eikonal.proofs.Judging.{starts-of-append, starts-of-take}
 use Rattle.queue.specs.Lists.{Filled}
-use Rattle.queue.specs.Tree.{keys, Put, Cleared}
-use Rattle.queue.proofs.Tree.{tree-keeps}
-use Rattle.front.specs.Board.{tentative}
-use Rattle.front.specs.State.{Held, soonest, Placed, Seeded, Empty}
+use Rattle.queue.specs.Heap.{Put}
+use Rattle.queue.proofs.Heap.{heap-empty, keys-empty}
+use Rattle.front.specs.Board.{tentative, Work, at}
+use Rattle.front.specs.State.{soonest, Placed, Seeded, Empty, Gathered}
 
 -- ---- the soonest of a list of starts
-pub soonest-small : (c : ℕ) (xs : List Start) → soonest c xs ≤ never
+soonest-small : (c : ℕ) (xs : List Start) → soonest c xs ≤ never
 unfolding soonest
 soonest-small c [] = omega arith
 soonest-small c (x ∷ xs) = omega (arith, soonest-small c xs)
 
-pub soonest-append : (c : ℕ) (xs ys : List Start) → soonest c (xs ++ ys) ≡ min (soonest c xs) (soonest c ys)
+soonest-append : (c : ℕ) (xs ys : List Start) → soonest c (xs ++ ys) ≡ min (soonest c xs) (soonest c ys)
 unfolding soonest
 soonest-append c [] ys = omega (arith, soonest-small c ys)
 soonest-append c (x ∷ xs) ys = omega (arith, soonest-append c xs ys)
@@ -68,16 +68,11 @@ starts-on n l (c ∷ cs) (t ∷ ts) q e (suc i) h =
     starts-on n (suc c) cs ts (omega arith) (r .1) i (omega arith)
 
 -- ---- the work list emptied
-pub emptied : {n : ℕ} {v u v' : List ℕ} → 4 * n ≤ length v → Cleared v n u → Filled (2 * n) (3 * n) never u v' → Empty n v v'
-emptied {n} {v} {u} {v'} h a b = record {
-  placed = record {
-    room = omega (arith, a .long, b .long);
-    tree = tree-keeps u v' n (λ j l. b .outside j (inl l)) (a .tree);
-    small = λ c l. omega (arith, never-now c l);
-    even = λ c l. b .outside (n + c) (inl (omega arith)) ∙ a .empty c l ∙ sym (never-now c l);
-  };
-  long = b .long ∙ a .long;
-  rest = λ j l. b .outside j (inr l) ∙ a .others j (omega arith);
+pub emptied : {n : ℕ} {v v' : List ℕ} → 4 * n ≤ length v → Filled (2 * n) (3 * n) never v v' → Empty n v v'
+emptied {n} {v} {v'} h b = record {
+  placed = record { room = omega (arith, b .long); small = λ c l. omega (arith, never-now c l) };
+  long = b .long;
+  rest = λ j l. b .outside j (inr l);
   times = never-now;
 }
   where
@@ -85,44 +80,27 @@ emptied {n} {v} {u} {v'} h a b = record {
     never-now c l = b .inside (2 * n + c) (omega arith) (omega arith)
 
 -- ---- one start placed
-pub placed-held : {n : ℕ} {v : List ℕ} → Placed n v → Held n v
-placed-held pl = record { room = pl .room; tree = pl .tree; tied = record { small = pl .small; tied = λ c l. inr (pl .even c l) } }
-
 module _ {n : ℕ} {v : List ℕ} (pl : Placed n v) {e x : ℕ} (l : e < n) where
   -- an earlier start is placed
-  pub placed-earlier : x < tentative v n e → {v' : List ℕ} → Put (set v (2 * n + e) x) n e x v' → Seeded n (starts-of (e ∷ []) (x ∷ [])) v v'
+  pub placed-earlier : x < tentative v n e → Seeded n (starts-of (e ∷ []) (x ∷ [])) v (set v (2 * n + e) x)
   unfolding soonest starts-of
-  placed-earlier low {v'} put = record {
-    placed = record {
-      room = omega (arith, pl .room, long);
-      tree = put .tree;
-      small = λ d m. omega (arith, now d m, pl .small d m);
-      even = even;
-    };
-    long = long;
-    rest = λ j m. put .others j (omega arith) (omega arith) ∙ getD-set-other v (2 * n + e) j x 0 (omega arith);
+  placed-earlier low = record {
+    placed = record { room = rw length-set (pl .room); small = λ d m. omega (arith, now d m, pl .small d m) };
+    long = length-set v (2 * n + e) x;
+    rest = λ j m. getD-set-other v (2 * n + e) j x 0 (omega arith);
     times = now;
   }
     where
-      long : length v' ≡ length v
-      long = put .long ∙ length-set v (2 * n + e) x
+      here : tentative (set v (2 * n + e) x) n e ≡ x
+      here = getD-set-same v (2 * n + e) x 0 (omega (arith, pl .room))
 
-      here : tentative v' n e ≡ x
-      here = put .others (2 * n + e) (omega arith) (omega arith) ∙ getD-set-same v (2 * n + e) x 0 (omega (arith, pl .room))
+      there : (d : ℕ) → d < n → d ≢ e → tentative (set v (2 * n + e) x) n d ≡ tentative v n d
+      there d m q = getD-set-other v (2 * n + e) (2 * n + d) x 0 (omega arith)
 
-      there : (d : ℕ) → d < n → d ≢ e → tentative v' n d ≡ tentative v n d
-      there d m q = put .others (2 * n + d) (omega arith) (omega arith) ∙ getD-set-other v (2 * n + e) (2 * n + d) x 0 (omega arith)
-
-      now : (d : ℕ) → d < n → tentative v' n d ≡ min (tentative v n d) (min (cond (eqb e d) x never) never)
+      now : (d : ℕ) → d < n → tentative (set v (2 * n + e) x) n d ≡ min (tentative v n d) (min (cond (eqb e d) x never) never)
       now d m = elim (ℕ-discrete d e) [
         | yes q ↦ rw (q, here, eq-eqb e e refl) (omega (arith, pl .small e l))
         | no q ↦ rw (there d m q, ne-eqb e d (omega arith)) (omega (arith, pl .small d m))
-      ]
-
-      even : (d : ℕ) → d < n → keys v' n d ≡ tentative v' n d
-      even d m = elim (ℕ-discrete d e) [
-        | yes q ↦ rw (q, here) (put .leaf)
-        | no q ↦ put .others (n + d) (omega arith) (omega arith) ∙ getD-set-other v (2 * n + e) (n + d) x 0 (omega arith) ∙ pl .even d m ∙ sym (there d m q)
       ]
 
   -- one that is no earlier leaves all as it is
@@ -166,3 +144,41 @@ seeded-all {n} {v} {v'} cs ts i h a = subst (λ xs. Seeded n xs v v') (starts-of
 -- FROM NOTHING a cell's tentative time is its soonest start
 pub seeded-soonest : {n : ℕ} {xs : List Start} {w v v' : List ℕ} → Empty n w v → Seeded n xs v v' → (c : ℕ) → c < n → tentative v' n c ≡ soonest c xs
 seeded-soonest {n} {xs} a b c l = omega (arith, b .times c l, a .times c l, soonest-small c xs)
+
+-- ---- STARTS ARE GATHERED in the queue: those of the cells from lo on and below c, and no other cell is pending
+module _ {n : ℕ} (lo : ℕ) {v : List ℕ} where
+  pub gather-begins : n ≤ 65536 → Gathered n lo lo v (at v 0)
+  gather-begins few = record {
+    long = refl;
+    heap = heap-empty v n few;
+    even = λ d i. absurd (omega arith);
+    others = λ d o. keys-empty v d;
+    rest = λ j l. refl;
+  }
+
+  module _ {c : ℕ} {v' : Work} (ga : Gathered n lo c v v') where
+    -- a cell with a time becomes pending
+    pub gather-goes-on : {t r : ℕ} {u : List ℕ} → t ≡ tentative v n c → Put (v' .list) (v' .size) n c t u r → lo ≤ c → Gathered n lo (suc c) v (at u r)
+    gather-goes-on q put k = record {
+      long = put .long ∙ ga .long;
+      heap = put .heap;
+      even = λ d i. elim (ℕ-discrete d c) [
+        | yes z ↦ rw z (put .new ∙ q)
+        | no z ↦ put .others d z ∙ ga .even d (i .0, omega arith)
+      ];
+      others = λ d o. put .others d (λ z. o (omega arith, omega arith)) ∙ ga .others d (λ i. o (i .0, omega arith));
+      rest = λ j l. put .past j l ∙ ga .rest j l;
+    }
+
+    -- one without a time does not
+    pub gather-passes : tentative v n c ≡ never → Gathered n lo (suc c) v v'
+    gather-passes q = record {
+      long = ga .long;
+      heap = ga .heap;
+      even = λ d i. elim (ℕ-discrete d c) [
+        | yes z ↦ rw z (ga .others c (λ i. omega arith) ∙ sym q)
+        | no z ↦ ga .even d (i .0, omega arith)
+      ];
+      others = λ d o. ga .others d (λ i. o (i .0, omega arith));
+      rest = ga .rest;
+    }

@@ -1,39 +1,28 @@
--- Every cell hears the stored times, one after the other.
-use mathlib.Core.Path.{_≡_, sym, ap, subst, _∙_}
+-- Cells hear the stored times, one after the other: all but those whose neighbours are all of their own tile.
+use mathlib.Core.Path.{_≡_, sym, subst}
+use mathlib.Core.Logic.{inl, inr}
 use mathlib.Core.List.{List, [], _∷_, _++_}
-use Prim.Native.Nat.{ℕ, zero, suc, _+_, _*_, _≤_, _<_}
+use Prim.Native.Nat.{ℕ, suc, _*_, _≤_, _<_}
 use native.Mathlib.Omega.{arith}
 use native.Mathlib.Decide.{ℕ-discrete}
-use native.Mathlib.Nat.{mul-le-mul-right, mul-comm}
+use native.Mathlib.Nat.{mul-le-mul-right}
+use Rattle.eikonal.specs.Board.{Board}
+use Rattle.eikonal.specs.Promise.{Neighbour}
 use Rattle.front.specs.Front.{Out}
-use Rattle.front.specs.Board.{Ground}
-use Rattle.front.specs.State.{Touched, Told, all, next, cells-below}
+use Rattle.front.specs.Seams.{inside, least-seam}
+use Rattle.front.specs.Board.{land, rule-at, Work, Ground, Measures, Site}
+use Rattle.front.specs.State.{Touched, Told, all, next, Inner, Woken}
 use Rattle.front.specs.declared.Shape.{Shape}
-use Rattle.front.proofs.Theory.Reading.{cells-most}
+use Rattle.front.proofs.Theory.Seams.{untold-border}
+use Rattle.front.proofs.Theory.Reading.{cells-size, cells-most}
+use Rattle.front.proofs.Theory.Relaxing.{near-out}
 
 -- ---- one cell more hears of it
-module _ {n : ℕ} {L : ℕ → (ℕ → ℕ) → ℕ} {t : ℕ} where
-  pub told-then : {e : ℕ} {w es v u : List ℕ} → Told n L t es v u → Touched n L t e u w → Told n L t (es ++ (e ∷ [])) v w
-  told-then {e} {w} (all v) k = next e [] v w w k (all w)
-  told-then {e} {w} (next d es v a u h ts) k = next d (es ++ (e ∷ [])) v a w h (told-then ts k)
+told-then : {n : ℕ} {L : ℕ → (ℕ → ℕ) → ℕ} {t e : ℕ} {es : List ℕ} {v u w : Work} → Told n L t es v u → Touched n L t e u w
+    → Told n L t (es ++ (e ∷ [])) v w
+told-then {e = e} {w = w} (all v) k = next e [] v w w k (all w)
+told-then {e = e} {w = w} (next d es v a u h ts) k = next d (es ++ (e ∷ [])) v a w h (told-then ts k)
 
-  -- the cells below k have heard of it, and then the cell k does
-  told-one : {k : ℕ} {v u w : List ℕ} → Told n L t (cells-below k) v u → Touched n L t k u w → Told n L t (cells-below (suc k)) v w
-  unfolding cells-below
-  told-one ts h = told-then ts h
-
-  pub told-below : {k m : ℕ} {v u w : List ℕ} → m ≡ suc k → Told n L t (cells-below k) v u → Touched n L t k u w → Told n L t (cells-below m) v w
-  told-below {v = v} {w = w} q ts h = subst (λ i. Told n L t (cells-below i) v w) (sym q) (told-one ts h)
-
-  -- no cell is below 0
-  none-told : (v : List ℕ) → Told n L t (cells-below 0) v v
-  unfolding cells-below
-  none-told v = all v
-
-  pub told-none : {k : ℕ} (v : List ℕ) → k ≡ 0 → Told n L t (cells-below k) v v
-  told-none v q = subst (λ i. Told n L t (cells-below i) v v) (sym q) (none-told v)
-
--- ---- a cell that is none of those below k is not below k
 out-front : (c : ℕ) (es fs : List ℕ) → Out c (es ++ fs) → Out c es
 out-front c [] fs o = tt
 out-front c (e ∷ es) fs o = (o .0, out-front c es fs (o .1))
@@ -42,22 +31,52 @@ out-back : (c : ℕ) (es fs : List ℕ) → Out c (es ++ fs) → Out c fs
 out-back c [] fs o = o
 out-back c (e ∷ es) fs o = out-back c es fs (o .1)
 
-pub none-below : (k c : ℕ) → c < k → Out c (cells-below k) → ⊥
-unfolding cells-below
-none-below zero c l o = absurd (omega arith)
-none-below (suc k) c l o = elim (ℕ-discrete c k) [
-  | yes q ↦ out-back c (cells-below k) (k ∷ []) o .0 q
-  | no q ↦ none-below k c (omega arith) (out-front c (cells-below k) (k ∷ []) o)
-]
+out-both : (c : ℕ) (es fs : List ℕ) → Out c es → Out c fs → Out c (es ++ fs)
+out-both c [] fs o p = p
+out-both c (e ∷ es) fs o p = (o .0, out-both c es fs (o .1) p)
 
--- ---- the cells of a row are on the board
-module _ {s : Shape} {slow stored cols rows : List ℕ} (g : Ground s slow stored cols rows) where
-  -- with all rows before it
+pub swapped : (b : Board) (c e : ℕ) → Neighbour b c e → Neighbour b e c
+unfolding Neighbour
+swapped b c e (inl p) = inr p
+swapped b c e (inr p) = inl p
+
+module _ {s : Shape} {slow ts cols rows : List ℕ} (gr : Ground s slow ts cols rows) where
+  -- where all seams are inside, all neighbours are of the same tile
+  pub seams-inside : {n w : ℕ} (me : Measures s n w) {c row col : ℕ} (si : Site n w c row col)
+      → least-seam cols rows row col ≡ inside
+      → Inner (land s slow) (s .across) (s .down) c
+  seams-inside me {c} si q e l nb =
+      sym (untold-border (gr .good) (s .across) (s .down) (gr .across) (gr .down) c e (omega (arith, si .on, me .cells, cells-size gr)) l
+      (swapped (land s slow) c e nb) (near-out gr me si q e l))
+
+  -- ---- all but inner cells from lo on and below k have heard, and then the cell k is seen to
+  module _ {lo k m : ℕ} {v u : Work} (q : m ≡ suc k) (low : lo ≤ k) (wo : Woken s slow ts lo k v u) where
+    pub woken-touched : {w : Work} → Touched (s .cells) (rule-at s slow ts) 0 k u w → Woken s slow ts lo m v w
+    woken-touched h = record {
+      cells = wo .cells ++ (k ∷ []);
+      told = told-then (wo .told) h;
+      within = λ c o. out-both c (wo .cells) (k ∷ []) (wo .within c (λ i. o (i .0, omega arith))) ((λ z. o (omega arith, omega arith)), tt);
+      inner = λ c i o. elim (ℕ-discrete c k) [
+        | yes z ↦ absurd (out-back c (wo .cells) (k ∷ []) o .0 z)
+        | no z ↦ wo .inner c (i .0, omega arith) (out-front c (wo .cells) (k ∷ []) o)
+      ];
+    }
+
+    pub woken-inner : Inner (land s slow) (s .across) (s .down) k → Woken s slow ts lo m v u
+    woken-inner h = record {
+      cells = wo .cells;
+      told = wo .told;
+      within = λ c o. wo .within c (λ i. o (i .0, omega arith));
+      inner = λ c i o. elim (ℕ-discrete c k) [
+        | yes z ↦ subst (λ d. Inner (land s slow) (s .across) (s .down) d) (sym z) h
+        | no z ↦ wo .inner c (i .0, omega arith) o
+      ];
+    }
+
+  -- before the first
+  pub woken-none : (lo : ℕ) (v : Work) → Woken s slow ts lo lo v v
+  woken-none lo v = record { cells = []; told = all v; within = λ c o. tt; inner = λ c i o. absurd (omega arith) }
+
+  -- ---- the cells of a row are on the board, with all rows before it
   pub rows-fit : {row : ℕ} → row < s .height → suc row * s .width ≤ 65536
-  rows-fit {row} l = omega (arith, mul-le-mul-right (s .width) l, g .cells, cells-most g)
-
-  -- all rows are all cells
-  pub told-all : {L : ℕ → (ℕ → ℕ) → ℕ} {t row : ℕ} {v w : List ℕ} → row ≡ s .height → Told (s .cells) L t (cells-below (row * s .width)) v w
-      → Told (s .cells) L t (cells-below (s .cells)) v w
-  told-all {L} {t} {row} {v} {w} q ts =
-      subst (λ k. Told (s .cells) L t (cells-below k) v w) (ap (λ h. h * s .width) q ∙ mul-comm (s .height) (s .width) ∙ sym (g .cells)) ts
+  rows-fit {row} l = omega (arith, mul-le-mul-right (s .width) l, gr .cells, cells-most gr)

@@ -12,18 +12,18 @@ use Rattle.records.proofs.Locals.{and-reads, pointer-of, slice-of, sets, lands-
 use Rattle.eikonal.specs.declared.Start.{Start}
 use Rattle.eikonal.specs.Refusals.{by-records}
 use Rattle.eikonal.specs.Entry.{lent}
-use Rattle.records.proofs.Playing.{no-order}
+use Rattle.record_calls.proofs.Playing.{no-order}
 use Rattle.eikonal.proofs.Job as Job-type
 use Rattle.eikonal.proofs.Job.Laws as Job-laws
 use Rattle.eikonal.proofs.Reply as Reply-type
 use Rattle.eikonal.proofs.Reply.Laws as Reply-laws
 use Rattle.eikonal.proofs.Start as Start-type
-use Rattle.records.proofs.calls.march_job as mj
-use Rattle.records.proofs.calls.march_job.Symbol as mj-def
-use Rattle.records.proofs.calls.march_job.Met as mj-thm
-use Rattle.records.proofs.calls.play_records as pr
-use Rattle.records.proofs.calls.play_records.Symbol as pr-def
-use Rattle.records.proofs.calls.play_records.Met as pr-thm
+use Rattle.record_calls.proofs.calls.march_job as mj
+use Rattle.record_calls.proofs.calls.march_job.Symbol as mj-def
+use Rattle.record_calls.proofs.calls.march_job.Met as mj-thm
+use Rattle.record_calls.proofs.calls.play_records as pr
+use Rattle.record_calls.proofs.calls.play_records.Symbol as pr-def
+use Rattle.record_calls.proofs.calls.play_records.Met as pr-thm
 use Rattle.murgolab.proofs.murgolab_march as f
 use Rattle.murgolab.proofs.murgolab_march.Key as key
 use Rattle.murgolab.proofs.murgolab_march.Statement as stated
@@ -105,5 +105,5 @@ murgolab-march-spec 𝓤 H 𝓜 𝓖 𝓡 =
     entered 𝓤 H (tripleOf 𝓤 H (𝓖 .A) f.signature (f.spec 𝓤 H (𝓖 .A) (𝓜 .mem) (𝓡 .run)))
     (tables 𝓤 H 𝓜 𝓡 code.env .C) (tables 𝓤 H 𝓜 𝓡 code.env .Λ) key.name code.function (code.unfolded 𝓤 H 𝓜 𝓡)
     (holds 𝓤 H (𝓖 .A) (givenOf 𝓤 H 𝓜 𝓖) (𝓜 .mem) (𝓡 .run) (tablesOf 𝓤 H 𝓜 (tables 𝓤 H 𝓜 𝓡 code.env))
-    (cited 𝓤 H _ 𝓜 𝓡 code.env mj-def.name mj-def.routine code.calls-records·calls·march-job (mj-thm.met 𝓤 H 𝓜 𝓖 𝓡))
-    (cited 𝓤 H _ 𝓜 𝓡 code.env pr-def.name pr-def.routine code.calls-records·calls·play-records (pr-thm.met 𝓤 H 𝓜 𝓖 𝓡)))
+    (cited 𝓤 H _ 𝓜 𝓡 code.env mj-def.name mj-def.routine code.calls-record-calls·calls·march-job (mj-thm.met 𝓤 H 𝓜 𝓖 𝓡))
+    (cited 𝓤 H _ 𝓜 𝓡 code.env pr-def.name pr-def.routine code.calls-record-calls·calls·play-records (pr-thm.met 𝓤 H 𝓜 𝓖 𝓡)))

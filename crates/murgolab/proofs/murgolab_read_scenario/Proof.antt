@@ -8,7 +8,7 @@ use Rattle.records.proofs.Parameters.{Param, shared, given-up, stays, go, spell
 use Rattle.records.proofs.Calling.{_&_, contract-of, number, asked, copies, shares, calls, no-last, last-of, named-so, entered-at, Walk, begins, ends, meets}
 use Rattle.records.proofs.Locals.{reads, and-reads, length-of, pointer-of, slice-of, sets, lands-value, lands-number-again, lands-unit, takes, frees-at}
 use Rattle.eikonal.specs.declared.Start.{Start}
-use Rattle.records.proofs.Reading.{to-read, reads-records}
+use Rattle.record_files.proofs.Reading.{to-read, reads-records}
 use Rattle.scenario.specs.File.{start-count, starts-in, file-refusal}
 use Rattle.eikonal.proofs.Start as Start-type
 use Rattle.scenario.proofs.Scenario as Scenario-type
@@ -16,12 +16,12 @@ use Rattle.scenario.proofs.Scenario.Laws as Scenario-laws
 use Rattle.scenario_read.proofs.read_ground as rg
 use Rattle.scenario_read.proofs.read_ground.Symbol as rg-def
 use Rattle.scenario_read.proofs.read_ground.Met as rg-thm
-use Rattle.records.proofs.read.count_of as co
-use Rattle.records.proofs.read.count_of.Symbol as co-def
-use Rattle.records.proofs.read.count_of.Met as co-thm
-use Rattle.records.proofs.read.read_records as rr
-use Rattle.records.proofs.read.read_records.Symbol as rr-def
-use Rattle.records.proofs.read.read_records.Met as rr-thm
+use Rattle.record_files.proofs.read.count_of as co
+use Rattle.record_files.proofs.read.count_of.Symbol as co-def
+use Rattle.record_files.proofs.read.count_of.Met as co-thm
+use Rattle.record_files.proofs.read.read_records as rr
+use Rattle.record_files.proofs.read.read_records.Symbol as rr-def
+use Rattle.record_files.proofs.read.read_records.Met as rr-thm
 use Rattle.murgolab.proofs.murgolab_read_scenario as f
 use Rattle.murgolab.proofs.murgolab_read_scenario.Key as key
 use Rattle.murgolab.proofs.murgolab_read_scenario.Statement as stated
@@ -98,5 +98,5 @@ murgolab-read-scenario-spec 𝓤 H 𝓜 𝓖 𝓡 =
     (tables 𝓤 H 𝓜 𝓡 code.env .C) (tables 𝓤 H 𝓜 𝓡 code.env .Λ) key.name code.function (code.unfolded 𝓤 H 𝓜 𝓡)
     (holds 𝓤 H (𝓖 .A) (givenOf 𝓤 H 𝓜 𝓖) (𝓜 .mem) (𝓡 .run) (tablesOf 𝓤 H 𝓜 (tables 𝓤 H 𝓜 𝓡 code.env))
     (cited 𝓤 H _ 𝓜 𝓡 code.env rg-def.name rg-def.routine code.calls-scenario-read·read-ground (rg-thm.met 𝓤 H 𝓜 𝓖 𝓡))
-    (cited 𝓤 H _ 𝓜 𝓡 code.env co-def.name co-def.routine code.calls-records·read·count-of (co-thm.met 𝓤 H 𝓜 𝓖 𝓡))
-    (cited 𝓤 H _ 𝓜 𝓡 code.env rr-def.name rr-def.routine code.calls-records·read·read-records (rr-thm.met 𝓤 H 𝓜 𝓖 𝓡)))
+    (cited 𝓤 H _ 𝓜 𝓡 code.env co-def.name co-def.routine code.calls-record-files·read·count-of (co-thm.met 𝓤 H 𝓜 𝓖 𝓡))
+    (cited 𝓤 H _ 𝓜 𝓡 code.env rr-def.name rr-def.routine code.calls-record-files·read·read-records (rr-thm.met 𝓤 H 𝓜 𝓖 𝓡)))

@@ -9,27 +9,27 @@ use Rattle.records.proofs.Calling.{_&_, contract-of, number, asked, copies, sha
 use Rattle.records.proofs.Calling.{begins, ends, meets}
 use Rattle.records.proofs.Locals.{reads, and-reads, length-of, pointer-of, slice-of, sets, resets, lands-value, lands-number, lands-unit, takes, frees-at}
 use Rattle.eikonal.specs.declared.Start.{Start}
-use Rattle.records.proofs.Writing.{records-judged, place-good, records-fit, writes-records}
+use Rattle.record_files.proofs.Writing.{records-judged, place-good, records-fit, writes-records}
 use Rattle.eikonal.proofs.Reply as Reply-type
 use Rattle.eikonal.proofs.Reply.Laws as Reply-laws
 use Rattle.eikonal.proofs.Start as Start-type
 use Rattle.eikonal.proofs.refusals.Judged as Judged-type
 use Rattle.eikonal.proofs.refusals.Judged.Laws as Judged-laws
-use Rattle.records.proofs.judge.judge_records as jr
-use Rattle.records.proofs.judge.judge_records.Symbol as jr-def
-use Rattle.records.proofs.judge.judge_records.Met as jr-thm
+use Rattle.record_calls.proofs.judge.judge_records as jr
+use Rattle.record_calls.proofs.judge.judge_records.Symbol as jr-def
+use Rattle.record_calls.proofs.judge.judge_records.Met as jr-thm
 use Rattle.scenario_write.proofs.begin_file as bf
 use Rattle.scenario_write.proofs.begin_file.Symbol as bf-def
 use Rattle.scenario_write.proofs.begin_file.Met as bf-thm
-use Rattle.records.proofs.write.place_of as po
-use Rattle.records.proofs.write.place_of.Symbol as po-def
-use Rattle.records.proofs.write.place_of.Met as po-thm
-use Rattle.records.proofs.write.count_of as co
-use Rattle.records.proofs.write.count_of.Symbol as co-def
-use Rattle.records.proofs.write.count_of.Met as co-thm
-use Rattle.records.proofs.write.write_records as wr
-use Rattle.records.proofs.write.write_records.Symbol as wr-def
-use Rattle.records.proofs.write.write_records.Met as wr-thm
+use Rattle.record_files.proofs.write.place_of as po
+use Rattle.record_files.proofs.write.place_of.Symbol as po-def
+use Rattle.record_files.proofs.write.place_of.Met as po-thm
+use Rattle.record_files.proofs.write.count_of as co
+use Rattle.record_files.proofs.write.count_of.Symbol as co-def
+use Rattle.record_files.proofs.write.count_of.Met as co-thm
+use Rattle.record_files.proofs.write.write_records as wr
+use Rattle.record_files.proofs.write.write_records.Symbol as wr-def
+use Rattle.record_files.proofs.write.write_records.Met as wr-thm
 use Rattle.murgolab.proofs.murgolab_write_scenario as f
 use Rattle.murgolab.proofs.murgolab_write_scenario.Key as key
 use Rattle.murgolab.proofs.murgolab_write_scenario.Statement as stated
@@ -140,8 +140,8 @@ murgolab-write-scenario-spec 𝓤 H 𝓜 𝓖 𝓡 =
     entered 𝓤 H (tripleOf 𝓤 H (𝓖 .A) f.signature (f.spec 𝓤 H (𝓖 .A) (𝓜 .mem) (𝓡 .run)))
     (tables 𝓤 H 𝓜 𝓡 code.env .C) (tables 𝓤 H 𝓜 𝓡 code.env .Λ) key.name code.function (code.unfolded 𝓤 H 𝓜 𝓡)
     (holds 𝓤 H (𝓖 .A) (givenOf 𝓤 H 𝓜 𝓖) (𝓜 .mem) (𝓡 .run) (tablesOf 𝓤 H 𝓜 (tables 𝓤 H 𝓜 𝓡 code.env))
-    (cited 𝓤 H _ 𝓜 𝓡 code.env jr-def.name jr-def.routine code.calls-records·judge·judge-records (jr-thm.met 𝓤 H 𝓜 𝓖 𝓡))
+    (cited 𝓤 H _ 𝓜 𝓡 code.env jr-def.name jr-def.routine code.calls-record-calls·judge·judge-records (jr-thm.met 𝓤 H 𝓜 𝓖 𝓡))
     (cited 𝓤 H _ 𝓜 𝓡 code.env bf-def.name bf-def.routine code.calls-scenario-write·begin-file (bf-thm.met 𝓤 H 𝓜 𝓖 𝓡))
-    (cited 𝓤 H _ 𝓜 𝓡 code.env po-def.name po-def.routine code.calls-records·write·place-of (po-thm.met 𝓤 H 𝓜 𝓖 𝓡))
-    (cited 𝓤 H _ 𝓜 𝓡 code.env co-def.name co-def.routine code.calls-records·write·count-of (co-thm.met 𝓤 H 𝓜 𝓖 𝓡))
-    (cited 𝓤 H _ 𝓜 𝓡 code.env wr-def.name wr-def.routine code.calls-records·write·write-records (wr-thm.met 𝓤 H 𝓜 𝓖 𝓡)))
+    (cited 𝓤 H _ 𝓜 𝓡 code.env po-def.name po-def.routine code.calls-record-files·write·place-of (po-thm.met 𝓤 H 𝓜 𝓖 𝓡))
+    (cited 𝓤 H _ 𝓜 𝓡 code.env co-def.name co-def.routine code.calls-record-files·write·count-of (co-thm.met 𝓤 H 𝓜 𝓖 𝓡))
+    (cited 𝓤 H _ 𝓜 𝓡 code.env wr-def.name wr-def.routine code.calls-record-files·write·write-records (wr-thm.met 𝓤 H 𝓜 𝓖 𝓡)))

@@ -56,7 +56,7 @@ tick-most t h = go (order h t)
     go (inr l) = rw (le-leb t h l) (omega arith)
 
 -- a clipped time is reached just if the time is
-pub tick-clip : (h t : ℕ) → h < never → tick (clip h t) h ≡ tick t h
+tick-clip : (h t : ℕ) → h < never → tick (clip h t) h ≡ tick t h
 tick-clip h t b = go (clipped h t)
   where
     go : Clipped h t → tick (clip h t) h ≡ tick t h

@@ -144,7 +144,7 @@ module _ (b : Board) (tw th : ℕ) (wide : 1 ≤ b .wide) (tw1 : 1 ≤ tw) (th1 
       left : tile % up (b .wide) tw * tw ≡ c % b .wide / tw * tw
       left = ap (λ (u : ℕ). u * tw) (ap (λ (u : ℕ). u % up (b .wide) tw) (sym e) ∙ tile-across)
 
-  pub tile-low : c < b .wide * b .high → tile-of b tw th c < tile-count b tw th
+  tile-low : c < b .wide * b .high → tile-of b tw th c < tile-count b tw th
   unfolding tile-of tile-count
   tile-low on =
       let row : suc (c / b .wide / th) ≤ up (b .high) th = up-past (b .high) th th1 (c / b .wide) (row-low (b .wide) (b .high) c wide on) in

@@ -1,9 +1,9 @@
 -- `eikonal::arrival::least_past` meets its contract. The loop's invariant: the ticks at hand are enough.
-use Prim.Native.Nat.{ℕ, _+_, _*_, _≤_, _<_}
+use Prim.Native.Nat.{_+_, _*_, _≤_}
 use native.Mathlib.Omega.{arith}
 use native.Mathlib.Nat.{mul-le-mul}
 use borrow.Author.Needs.{needs}
-use Rattle.eikonal.proofs.Root.{Enough, some-past, Nearer, step, no-step}
+use Rattle.eikonal.proofs.Root.{Enough, squares-fit, some-past, Nearer, step, no-step}
 use Rattle.eikonal.proofs.arrival.least_past.Statement.{statement}
 use Rattle.eikonal.proofs.arrival.least_past.Tie as tie
 
@@ -17,13 +17,9 @@ abbrev μ-loop : tie.MeasureT-loop
 mul-due : tie.Need-mul-due Inv-loop μ-loop
 mul-due c = omega (arith, mul-le-mul (c .pre .1) (c .pre .1))
 
--- numbers below 8192 have squares that fit
-small : (x : ℕ) → x < 8192 → x * x ≤ 67092481
-small x h = let k : x ≤ 8191 = omega arith in mul-le-mul k k
-
 squares : (c : tie.At-loop Inv-loop μ-loop)
     → (c .before .before .args .apart + c .loop .past) * (c .before .before .args .apart + c .loop .past) + c .loop .past * c .loop .past ≤ 134184962
-squares c = omega (arith, small (c .before .before .args .apart + c .loop .past) (omega arith), small (c .loop .past) (omega arith))
+squares c = squares-fit _ _ (omega arith)
 
 mul-over : tie.Need-mul-over Inv-loop μ-loop
 mul-over c = omega (arith, squares c)

@@ -1,4 +1,4 @@
--- `eikonal::arrival::local_rule` meets its contract: of the times that count, none comes near never, so that the cap of `arrival_time` cuts nothing.
+-- `eikonal::arrival::local_rule` meets its contract: of the times that count, none comes near never, so that the limit never cuts nothing.
 use mathlib.Core.Path.{_≡_, refl, ap, _∙_}
 use mathlib.Core.Logic.{inl, inr}
 use mathlib.Core.Bool.{Bool, true, false, cond}
@@ -52,7 +52,7 @@ returns-2 c =
     says _ _ _ _ _ _ _ _ _ _
     (k .before .before .before .before .if1 .left)
     (k .before .before .before .known .ensures) (k .before .before .known2 .ensures) (k .before .known3 .ensures) (k .known4 .ensures)
-    (c .arrival-time .ensures)
+    (c .arrival-before .ensures)
 
 pub local-rule-spec : {M : Type 1} → statement M
 local-rule-spec = tie.close (tie.spec returns (λ c κs. tt) (λ c κs. tt) (λ c κs. tt) (λ c κs. tt) (λ c κs. search needs) returns-2)

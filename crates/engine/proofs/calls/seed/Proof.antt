@@ -1,5 +1,6 @@
 -- `engine::calls::seed` meets its contract.
-use mathlib.Core.Path.{refl}
+use mathlib.Core.Path.{_≡_, refl}
+use native.Mathlib.Omega.{arith}
 use borrow.Author.Needs.{needs}
 use Rattle.front.proofs.Theory.Seeding.{starts-on}
 use Rattle.engine.proofs.calls.seed.Statement.{statement}
@@ -9,7 +10,7 @@ seed-requires : tie.Need-seed-requires
 seed-requires c κs =
     let p = c .before .before .before .before .before .before in
     let a = p .args in
-    let z = c .before .if1 .taken in
+    let z : a .task .refusal .number ≡ 0 = omega (arith, c .before .if1 .taken) in
     let q = p .pre .0 z in
     (q .0, p .pre .1 z, q .1, starts-on (a .task .shape .cells) 0 (a .cells .now) (a .begins .now) (p .pre .1 z) (q .2))
 

@@ -1,9 +1,8 @@
 -- `engine::seeded::march` meets its contract.
 use native.Mathlib.Omega.{arith}
-use native.Mathlib.Nat.{mul-le-mul}
 use mathlib.Core.Path.{sym, _∙_}
 use Rattle.eikonal.specs.Ledger.{counted, entered}
-use Rattle.engine.proofs.Theory.Calls.{ground, march-ready, march-through}
+use Rattle.engine.proofs.Theory.Calls.{ground, cells-few, march-through}
 use Rattle.engine.proofs.seeded.march.Statement.{statement}
 use Rattle.engine.proofs.seeded.march.Tie as tie
 
@@ -11,10 +10,10 @@ use Rattle.engine.proofs.seeded.march.Tie as tie
 abbrev start : tie.After-lay2 → tie.Start
 start c = c .before .before .before .before .before
 
-abbrev laid : tie.After-drain → tie.After-lay2
+abbrev laid : tie.After-drain-tile → tie.After-lay2
 laid c = c .before .before .before .before .before
 
-abbrev drained : tie.After-finish → tie.After-drain
+abbrev drained : tie.After-finish → tie.After-drain-tile
 drained c = c .before .before .before .before .before
 
 abbrev finished : tie.After-fill-arg → tie.After-finish
@@ -26,13 +25,15 @@ lay-requires c κs = let f = c .before .before .before .pre .0 .fit in (f .acros
 lay-requires-2 : tie.Need-lay-requires-2
 lay-requires-2 c κs = let f = c .before .before .before .before .pre .0 .fit in (f .down-low, f .good .high-high)
 
-drain-requires : tie.Need-drain-requires
-drain-requires c κs =
+drain-tile-requires : tie.Need-drain-tile-requires
+drain-tile-requires c κs =
     let l = c .before .before .before .before in
     let p = start l in
     let o = p .pre .0 in (
       ground (o .fit) (p .args .times .now) _ _ (o .fit .many) (l .before .lay .ensures) (l .lay2 .ensures),
-      march-ready (o .fit) (p .pre .1) (p .pre .2) (o .stands) (p .args .times .now),
+      o .stands .placed,
+      p .pre .1,
+      p .pre .2,
       omega (arith, p .pre .3),
     )
 
@@ -42,19 +43,16 @@ finish-requires c κs =
     let p = start (laid d) in
     let f = p .pre .0 .fit in (
       f .many,
-      omega (arith, d .drain .ensures .held .room),
-      omega (arith, f .size, mul-le-mul (f .good .wide-high) (f .good .high-high)),
-      omega
-          (arith, p .pre .3),
+      omega (arith, d .drain-tile .ensures .placed .room),
+      cells-few f,
+      omega (arith, p .pre .3),
     )
 
 mul-fill : tie.Need-mul-fill
-mul-fill c =
-    let f = start (laid (drained (finished c))) .pre .0 .fit in
-    omega (arith, f .size, mul-le-mul (f .good .wide-high) (f .good .high-high))
+mul-fill c = omega (arith, cells-few (start (laid (drained (finished c))) .pre .0 .fit))
 
 fill-requires : tie.Need-fill-requires
-fill-requires c κs = (omega arith, omega (arith, drained (finished c) .drain .ensures .held .room))
+fill-requires c κs = (omega arith, omega (arith, drained (finished c) .drain-tile .ensures .placed .room))
 
 same-length : tie.Need-same-length
 same-length c =
@@ -62,7 +60,7 @@ same-length c =
     f .finish .ensures .long ∙ sym (start (laid (drained f)) .pre .0 .fit .many)
 
 same-length-2 : tie.Need-same-length-2
-same-length-2 c = c .before .before .fill .ensures .long ∙ drained (finished (c .before .before .before)) .drain .ensures .long
+same-length-2 c = c .before .before .fill .ensures .long ∙ drained (finished (c .before .before .before)) .drain-tile .ensures .long
 
 returns : tie.Need-returns
 unfolding counted entered
@@ -70,9 +68,9 @@ returns c xs fit stands =
     let f = finished (c .before .before .before) in
     let d = drained f in
     let p = start (laid d) in
-    march-through fit (p .pre .1) (p .pre .2) stands (p .args .times .now) _ _ _ _ (p .args .horizon) _ (p .pre .3)
-    (d .drain .ensures) (f .finish .ensures) (c .before .before .fill .ensures)
+    march-through fit (p .pre .1) (p .pre .2) stands (p .args .times .now) _ _ _ (p .args .horizon) _ (p .pre .3)
+    (d .drain-tile .ensures) (f .finish .ensures) (c .before .before .fill .ensures)
 
 pub march-spec : {M : Type 1} → statement M
 march-spec =
-    tie.close (tie.spec lay-requires lay-requires-2 drain-requires finish-requires mul-fill fill-requires same-length same-length-2 returns)
+    tie.close (tie.spec lay-requires lay-requires-2 drain-tile-requires finish-requires mul-fill fill-requires same-length same-length-2 returns)

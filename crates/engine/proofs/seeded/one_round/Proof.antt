@@ -1,11 +1,8 @@
 -- `engine::seeded::one_round` meets its contract.
 use native.Mathlib.Omega.{arith}
-use native.Mathlib.Nat.{mul-le-mul}
 use mathlib.Core.Path.{_∙_}
 use Rattle.eikonal.specs.Ledger.{counted, entered}
-use Rattle.front.proofs.Theory.Telling.{told-long}
-use Rattle.front.proofs.Theory.Beginning.{standing-held}
-use Rattle.engine.proofs.Theory.Calls.{ground, round-ready, round-through}
+use Rattle.engine.proofs.Theory.Calls.{ground, cells-few, round-through}
 use Rattle.engine.proofs.seeded.one_round.Statement.{statement}
 use Rattle.engine.proofs.seeded.one_round.Tie as tie
 
@@ -13,13 +10,10 @@ use Rattle.engine.proofs.seeded.one_round.Tie as tie
 abbrev start : tie.After-lay2 → tie.Start
 start c = c .before .before .before .before .before .before
 
-abbrev laid : tie.After-wake → tie.After-lay2
+abbrev laid : tie.After-drain-strips → tie.After-lay2
 laid c = c .before .before .before .before .before
 
-abbrev woken : tie.After-drain → tie.After-wake
-woken c = c .before .before .before .before .before .before .before
-
-abbrev drained : tie.After-write-tiles → tie.After-drain
+abbrev drained : tie.After-write-tiles → tie.After-drain-strips
 drained c = c .before .before .before .before .before
 
 abbrev written : tie.After-fill-arg → tie.After-write-tiles
@@ -31,26 +25,21 @@ lay-requires c κs = let f = c .before .before .before .before .pre .0 .fit in (
 lay-requires-2 : tie.Need-lay-requires-2
 lay-requires-2 c κs = let f = c .before .before .before .before .before .pre .0 .fit in (f .down-low, f .good .high-high)
 
-wake-requires : tie.Need-wake-requires
-wake-requires c κs =
+drain-strips-requires : tie.Need-drain-strips-requires
+drain-strips-requires c κs =
     let l = c .before .before .before .before in
     let p = start l in
-    let o = p .pre .0 in
-    (ground (o .fit) (p .args .times .now) _ _ (o .fit .many) (l .before .lay .ensures) (l .lay2 .ensures), standing-held (o .stands))
-
-drain-requires : tie.Need-drain-requires
-drain-requires c κs =
-    let w = c .before .before .before .before .before .before in
-    let l = laid w in
-    let p = start l in
-    let o = p .pre .0 in
-    let gr = ground (o .fit) (p .args .times .now) _ _ (o .fit .many) (l .before .lay .ensures) (l .lay2 .ensures) in
-    (gr, round-ready (o .fit) (o .stands) (p .args .times .now) _ (l .before .lay .result) (l .lay2 .result) gr (w .wake .ensures), omega (arith, p .pre .1))
+    let o = p .pre .0 in (
+      ground (o .fit) (p .args .times .now) _ _ (o .fit .many) (l .before .lay .ensures) (l .lay2 .ensures),
+      o .stands .placed,
+      o .fit .down-high,
+      omega (arith, p .pre .1),
+    )
 
 write-tiles-requires : tie.Need-write-tiles-requires
 write-tiles-requires c κs =
     let d = c .before .before .before .before in
-    let p = start (laid (woken d)) in
+    let p = start (laid d) in
     let f = p .pre .0 .fit in (
       record {
         cells = f .size;
@@ -62,41 +51,32 @@ write-tiles-requires c κs =
         down-low = f .down-low;
         down-high = f .down-high;
         many = f .many;
-        space = d .drain .ensures .held .room;
+        space = d .drain-strips .ensures .placed .room;
       },
       p .pre .2,
     )
 
 mul-fill : tie.Need-mul-fill
-mul-fill c =
-    let f = start (laid (woken (drained (written c)))) .pre .0 .fit in
-    omega (arith, f .size, mul-le-mul (f .good .wide-high) (f .good .high-high))
+mul-fill c = omega (arith, cells-few (start (laid (drained (written c))) .pre .0 .fit))
 
 fill-requires : tie.Need-fill-requires
-fill-requires c κs = (omega arith, drained (written c) .drain .ensures .held .room)
+fill-requires c κs = (omega arith, drained (written c) .drain-strips .ensures .placed .room)
 
 same-length : tie.Need-same-length
 same-length c = written (c .before .before .before) .write-tiles .ensures .long
 
 same-length-2 : tie.Need-same-length-2
-same-length-2 c =
-    let d = drained (written (c .before .before .before)) in
-    c .before .before .fill .ensures .long ∙ d .drain .ensures .long ∙ told-long (woken d .wake .ensures)
+same-length-2 c = c .before .before .fill .ensures .long ∙ drained (written (c .before .before .before)) .drain-strips .ensures .long
 
 returns : tie.Need-returns
 unfolding counted entered
 returns c xs fit stands =
     let t = written (c .before .before .before) in
     let d = drained t in
-    let w = woken d in
-    let l = laid w in
-    let p = start l in
-    let gr = ground fit (p .args .times .now) _ _ (fit .many) (l .before .lay .ensures) (l .lay2 .ensures) in
-    round-through fit stands (p .args .times .now) _ (l .before .lay .result) (l .lay2 .result) gr (w .wake .ensures) _ _ _ _ (p .args .bound) _
-    (p .pre .1) (d .drain .ensures) (fit .many) (t .write-tiles .ensures) (c .before .before .fill .ensures)
+    let p = start (laid d) in
+    round-through fit stands (p .args .times .now) _ _ _ (p .args .bound) _ (p .pre .1) (d .drain-strips .ensures) (fit .many) (t .write-tiles .ensures)
+    (c .before .before .fill .ensures)
 
 pub one-round-spec : {M : Type 1} → statement M
 one-round-spec =
-    tie.close
-    (tie.spec
-    lay-requires lay-requires-2 wake-requires drain-requires write-tiles-requires mul-fill fill-requires same-length same-length-2 returns)
+    tie.close (tie.spec lay-requires lay-requires-2 drain-strips-requires write-tiles-requires mul-fill fill-requires same-length same-length-2 returns)

@@ -1,9 +1,9 @@
 -- `engine::seeded::tile_run` meets its contract.
 use native.Mathlib.Omega.{arith}
-use native.Mathlib.Nat.{mul-le-mul}
 use mathlib.Core.Path.{_∙_}
 use Rattle.eikonal.specs.Ledger.{counted, entered}
-use Rattle.engine.proofs.Theory.Calls.{ground, never-times, run-start, run-through}
+use Rattle.engine.specs.Run.{Ran}
+use Rattle.engine.proofs.Theory.Calls.{ground, cells-few, never-times, run-start, run-through}
 use Rattle.engine.proofs.seeded.tile_run.Statement.{statement}
 use Rattle.engine.proofs.seeded.tile_run.Tie as tie
 
@@ -14,8 +14,11 @@ start c = c .before .before .before .before .before
 abbrev filled : tie.After-lay2 → tie.After-fill
 filled c = c .before .before .before .before
 
-abbrev laid : tie.After-run → tie.After-lay2
-laid c = c .before .before .before .before .before
+abbrev laid : tie.After-gather → tie.After-lay2
+laid c = c .before .before
+
+abbrev gathered : tie.After-run → tie.After-gather
+gathered c = c .before .before .before .before .before .before .before
 
 abbrev ran : tie.After-fill-arg2 → tie.After-run
 ran c = c .before .before .before .before .before
@@ -29,62 +32,62 @@ lay-requires c κs = let f = start (c .before .before) .pre .0 .fit in (f .acros
 lay-requires-2 : tie.Need-lay-requires-2
 lay-requires-2 c κs = let f = start (c .before .before .before) .pre .0 .fit in (f .down-low, f .good .high-high)
 
+gather-requires : tie.Need-gather-requires
+gather-requires c κs =
+    let o = start (filled (c .before)) .pre .0 in
+    (cells-few (o .fit), omega arith, omega arith, o .stands .placed)
+
 run-requires : tie.Need-run-requires
 run-requires c κs =
-    let l = c .before .before .before .before in
+    let g = c .before .before .before .before .before .before in
+    let l = laid g in
     let e = filled l .fill .ensures in
     let p = start (filled l) in
     let o = p .pre .0 in (
       ground (o .fit) _ _ _ (e .long ∙ o .fit .many) (l .before .lay .ensures) (l .lay2 .ensures),
-      record { starts = o .starts; good = o .fit .good; at = run-start (o .fit) (o .stands) _ (never-times (o .fit) _ e) (p .args .stride) (p .args .horizon) },
+      record { starts = o .starts; good = o .fit .good; at = run-start (o .fit) (o .stands) (g .gather .ensures) _ (never-times (o .fit) _ e) _ _ },
       p .pre .1,
       p .pre .2,
       p .pre .3,
     )
 
 mul-fill : tie.Need-mul-fill
-mul-fill c =
-    let f = start (filled (laid (ran c))) .pre .0 .fit in
-    omega (arith, f .size, mul-le-mul (f .good .wide-high) (f .good .high-high))
+mul-fill c = omega (arith, cells-few (start (filled (laid (gathered (ran c)))) .pre .0 .fit))
 
 -- what the run leaves, by the starts that the work list stands for
+leaves : (u : tie.After-run) → let g = gathered u in let f = filled (laid g) in let p = start f in let a = p .args in
+    Ran (a .shape) (a .slow .now) (p .pre .0 .starts) (a .stride) (a .horizon) 4294967296 (u .run .result)
+    (f .fill .last .0) (u .run .last .1 .0) (g .gather .last .0) (u .run .last .1 .1 .0)
+leaves u =
+    let g = gathered u in
+    let f = filled (laid g) in
+    let o = start f .pre .0 in
+    u .run .ensures (o .starts) (o .fit .good) (run-start (o .fit) (o .stands) (g .gather .ensures) _ (never-times (o .fit) _ (f .fill .ensures)) _ _)
+
 fill-requires-2 : tie.Need-fill-requires-2
 fill-requires-2 c κs =
-    let u = ran c in
-    let p = start (filled (laid u)) in
-    let o = p .pre .0 in
-    let all = never-times (o .fit) _ (filled (laid u) .fill .ensures) in
-    let r = u .run .ensures (o .starts) (o .fit .good) (run-start (o .fit) (o .stands) _ all (p .args .stride) (p .args .horizon)) in
-    (omega arith, omega (arith, r .kept, o .fit .room))
+    let g = gathered (ran c) in
+    (omega arith, omega (arith, leaves (ran c) .kept, g .gather .ensures .long, start (filled (laid g)) .pre .0 .fit .room))
 
 same-length : tie.Need-same-length
-same-length c =
-    let u = ran (c .before .before .before) in
-    let p = start (filled (laid u)) in
-    let o = p .pre .0 in
-    let all = never-times (o .fit) _ (filled (laid u) .fill .ensures) in
-    let r = u .run .ensures (o .starts) (o .fit .good) (run-start (o .fit) (o .stands) _ all (p .args .stride) (p .args .horizon)) in
-    r .long ∙ filled (laid u) .fill .ensures .long
+same-length c = let u = ran (c .before .before .before) in leaves u .long ∙ filled (laid (gathered u)) .fill .ensures .long
 
 same-length-2 : tie.Need-same-length-2
 same-length-2 c =
     let u = ran (c .before .before .before) in
-    let p = start (filled (laid u)) in
-    let o = p .pre .0 in
-    let all = never-times (o .fit) _ (filled (laid u) .fill .ensures) in
-    let r = u .run .ensures (o .starts) (o .fit .good) (run-start (o .fit) (o .stands) _ all (p .args .stride) (p .args .horizon)) in
-    c .before .before .fill2 .ensures .long ∙ r .kept
+    c .before .before .fill2 .ensures .long ∙ leaves u .kept ∙ gathered u .gather .ensures .long
 
 returns : tie.Need-returns
 unfolding counted entered
 returns c xs fit stands =
     let u = ran (c .before .before .before) in
-    let p = start (filled (laid u)) in
-    let all = never-times fit _ (filled (laid u) .fill .ensures) in
-    let begins = run-start fit stands _ all (p .args .stride) (p .args .horizon) in
-    run-through fit stands _ all (p .args .stride) (p .args .horizon) (p .pre .1) (p .pre .2) (p .pre .3)
+    let p = start (filled (laid (gathered u))) in
+    let all = never-times fit _ (filled (laid (gathered u)) .fill .ensures) in
+    let ga = gathered u .gather .ensures in
+    let begins = run-start fit stands ga _ all (p .args .stride) (p .args .horizon) in
+    run-through fit stands ga _ all (p .args .stride) (p .args .horizon) (p .pre .1) (p .pre .2) (p .pre .3)
     _ _ _ _ _ (omega arith) (u .run .ensures xs (fit .good) begins) (c .before .before .fill2 .ensures)
 
 pub tile-run-spec : {M : Type 1} → statement M
 tile-run-spec =
-    tie.close (tie.spec fill-requires lay-requires lay-requires-2 run-requires mul-fill fill-requires-2 same-length same-length-2 returns)
+    tie.close (tie.spec fill-requires lay-requires lay-requires-2 gather-requires run-requires mul-fill fill-requires-2 same-length same-length-2 returns)

@@ -4,23 +4,23 @@ use native.Mathlib.Omega.{arith}
 use mathlib.Core.Path.{_≡_, sym, _∙_}
 use Rattle.eikonal.specs.Board.{time}
 use Rattle.front.specs.Seams.{border, near}
-use Rattle.front.specs.Board.{land, rule-at, noted}
+use Rattle.front.specs.Board.{land, rule-at, noted, at}
 use Rattle.front.specs.State.{Held, Announced, nobody}
-use Rattle.front.proofs.Theory.Reading.{cells-most, time-at}
+use Rattle.front.proofs.Theory.Reading.{cells-most, time-at, measured}
 use Rattle.front.proofs.Theory.Telling.{told-held}
 use Rattle.front.proofs.Theory.Announcing.{announced-long, announced-rest, announced-more}
 use Rattle.front.proofs.commit.announce.Statement.{statement}
 use Rattle.front.proofs.commit.announce.Tie as tie
 
 abbrev Inv-loop : tie.InvT-loop
-Inv-loop slow times work₀ cols rows shape m n i₀ work i =
+Inv-loop slow times work₀ size cols rows shape m n w pending₀ i₀ work pending i =
     (i ≤ m)
-    × Held (shape .cells) work
+    × Held (shape .cells) (at work pending)
     × Announced (shape .cells) (rule-at shape slow times) (time times) (noted work₀ (shape .cells))
-    (λ c. near (land shape slow) (shape .across) (shape .down) border c) i work₀ work
+    (λ c. near (land shape slow) (shape .across) (shape .down) border c) i (at work₀ size) (at work pending)
 
 abbrev μ-loop : tie.MeasureT-loop
-μ-loop slow times work₀ cols rows shape m n i₀ work i = m - i
+μ-loop slow times work₀ size cols rows shape m n w pending₀ i₀ work pending i = m - i
 
 abbrev start : tie.In-loop Inv-loop μ-loop → tie.Start Inv-loop μ-loop
 start c = c .before .before .before .before .before
@@ -37,7 +37,7 @@ note w =
 loop-holds : tie.Need-loop-holds Inv-loop μ-loop
 loop-holds c =
     let p = c .before .before .before in
-    (omega arith, p .pre .1, nobody (p .args .work .now))
+    (omega arith, p .pre .1, nobody (at (p .args .work .now) (p .args .size)))
 
 mul-wide : tie.Need-mul-wide Inv-loop μ-loop
 mul-wide c = omega (arith, cells-most (start c .pre .0))
@@ -65,7 +65,7 @@ tell-others-requires : tie.Need-tell-others-requires Inv-loop μ-loop
 tell-others-requires c κs =
     let w = c .before .before in
     let o = w .before .before in
-    (start o .pre .0, o .before .loop .inv .1, note w .1)
+    (start o .pre .0, measured, o .before .loop .inv .1, note w .1)
 
 add-i : tie.Need-add-i Inv-loop μ-loop
 add-i c =

@@ -1,92 +1,77 @@
--- `front::drain::drain` meets its contract: what holds after m cells is Mid-drain.
-use Prim.Native.Nat.{_≤_}
+-- `front::drain::drain` meets its contract: what holds after m cells is Mid-among, whichever cells are drained.
+use Prim.Native.Nat.{ℕ, _≤_, _<_}
 use native.Mathlib.Omega.{arith}
 use native.Mathlib.Numerals.{add-one}
-use native.Mathlib.Nat.{mul-le-mul}
-use Rattle.queue.specs.Tree.{keys}
+use Rattle.queue.specs.Heap.{key}
 use Rattle.front.specs.Front.{weight}
-use Rattle.front.specs.Board.{rule-at, tentative}
+use Rattle.front.specs.Board.{tentative, at, keys}
+use Rattle.front.specs.State.{Ready-among}
 use Rattle.front.proofs.Theory.Reading.{cells-most}
-use Rattle.front.proofs.Theory.Draining.{Mid-drain, drain-begins, drain-room, drain-goes-on, drain-ends, took-held, took-weight, lawful, blind}
+use Rattle.front.proofs.Theory.Draining.{Mid-among, among-begins, among-goes-on, drain-room, drain-ends, took-weight}
 use Rattle.front.proofs.drain.drain.Statement.{statement}
 use Rattle.front.proofs.drain.drain.Tie as tie
 
 abbrev Inv-loop : tie.InvT-loop
-Inv-loop slow times work₀ cols rows shape bound n m₀ c₀ work m c = Mid-drain (shape .cells) (rule-at shape slow times) bound m c work₀ work
+Inv-loop slow times work₀ size cols rows shape bound n m₀ pending₀ work m pending =
+    (lo hi : ℕ) → Ready-among shape slow times lo hi (at work₀ size) → Mid-among shape slow times lo hi bound m (at work₀ size) (at work pending)
 
 abbrev μ-loop : tie.MeasureT-loop
-μ-loop slow times work₀ cols rows shape bound n m₀ c₀ work m c =
-    weight (shape .cells) (tentative work (shape .cells)) (keys work (shape .cells))
+μ-loop slow times work₀ size cols rows shape bound n m₀ pending₀ work m pending =
+    weight (shape .cells) (tentative work (shape .cells)) (keys (at work pending))
 
 abbrev start : tie.At-loop Inv-loop μ-loop → tie.Start Inv-loop μ-loop
-start c = c .before .before .before .before .before .before
+start c = c .before .before .before .before
 
--- the loop's place, from where a cell was taken and from where the next one is known
-abbrev taking : tie.After-take Inv-loop μ-loop → tie.At-loop Inv-loop μ-loop
-taking c = c .before .before .before .before
+-- what holds of some cells that are drained
+some : (c : tie.At-loop Inv-loop μ-loop) → let p = start c in let a = p .args in let o = p .pre .1 in
+    Mid-among (a .shape) (a .slow .now) (a .times .now) (o .lo) (o .hi) (a .bound) (c .loop .m) (at (a .work .now) (a .size))
+    (at (c .loop .work) (c .loop .pending))
+some c = let o = start c .pre .1 in c .loop .inv (o .lo) (o .hi) (o .is)
 
-some : (p : tie.Start Inv-loop μ-loop) → 1 ≤ p .args .shape .cells
-some p = omega (arith, p .pre .0 .cells, mul-le-mul (p .pre .0 .good .wide-low) (p .pre .0 .good .high-low))
-
-first-requires : tie.Need-first-requires Inv-loop μ-loop
-first-requires c κs =
-    let p = c .before .before .before .before in
-    (some p, omega (arith, p .pre .1 .held .room), p .pre .1 .held .tree)
+-- a key up to the bound is that of the first slot
+due : (c : tie.Then1 Inv-loop μ-loop) → let o = c .before .before .before in (0 < o .loop .pending) × (key (o .loop .work) 0 ≤ start o .args .bound)
+due c =
+    let p = start (c .before .before .before) in
+    let low = c .before .least-key .ensures .1 (omega (arith, c .if1 .taken, p .pre .2)) in
+    (low .0, omega (arith, low .1, c .if1 .taken))
 
 loop-holds : tie.Need-loop-holds Inv-loop μ-loop
-loop-holds c = drain-begins (c .before .before .before .before .before .pre .1) (c .first .ensures)
+loop-holds c = λ lo hi re. among-begins (c .before .before .before .pre .0) re
 
-add-if1 : tie.Need-add-if1 Inv-loop μ-loop
-add-if1 c = omega (arith, cells-most (start c .pre .0), c .loop .inv .least .cell)
-
-mul-if1 : tie.Need-mul-if1 Inv-loop μ-loop
-mul-if1 c = omega (arith, cells-most (start c .pre .0), c .loop .inv .least .cell)
-
-slice-read-if1 : tie.Need-slice-read-if1 Inv-loop μ-loop
-slice-read-if1 c = omega (arith, c .before .loop .inv .least .cell, c .before .loop .inv .held .room)
+least-key-requires : tie.Need-least-key-requires Inv-loop μ-loop
+least-key-requires c κs = let he = some (c .before) .mid .held in (omega (arith, he .room), he .heap)
 
 take-requires : tie.Need-take-requires Inv-loop μ-loop
 take-requires c κs =
-    let o = c .before .before .before in
-    let md = o .loop .inv in
-    let pending = c .before .if1 .taken in
-    (start o .pre .0, md .held, md .least, omega arith, drain-room md (omega arith))
+    let o = c .before .before .before .before in
+    let md = some o .mid in
+    (start o .pre .0, md .held, due (c .before) .0, drain-room md (due (c .before) .0))
 
 add-m : tie.Need-add-m Inv-loop μ-loop
 add-m c =
-    let t = c .before .before in
-    let o = taking t in
-    omega (arith, cells-most (start o .pre .0), drain-room (o .loop .inv) (omega (arith, t .before .before .if1 .taken)))
-
-first-requires-2 : tie.Need-first-requires-2 Inv-loop μ-loop
-first-requires-2 c κs =
-    let t = c .before .before .before in
-    let o = taking t in
-    let he = took-held (o .loop .inv .held) (t .take .ensures) in
-    (some (start o), omega (arith, he .room), he .tree)
+    let t = c .before .before .before .before in
+    let o = t .before .before .before in
+    omega (arith, cells-most (start o .pre .0), drain-room (some o .mid) (due t .0))
 
 loop-less : tie.Need-loop-less Inv-loop μ-loop
-loop-less c =
-    let t = c .before .before .before .before in
-    took-weight (taking t .loop .inv .held) (t .take .ensures)
+loop-less c = took-weight (some (c .before .before .before .before .before .before .before) .mid .held) (c .before .before .take .ensures)
 
 loop-again : tie.Need-loop-again Inv-loop μ-loop
 loop-again c =
     let t = c .before .before .before .before in
-    let o = taking t in
-    let g = start o .pre .0 in
-    let md = o .loop .inv in
-    rw (add-one (o .loop .m)) (drain-goes-on (lawful g) (blind g (md .least .cell)) md (t .before .before .if1 .taken) (t .take .ensures) (c .first2 .ensures))
+    let o = t .before .before .before in
+    λ lo hi re. rw (add-one (o .loop .m))
+    (among-goes-on (start o .pre .0) re (o .loop .inv lo hi re) (c .before .before .take .ensures) (due t .0) (due t .1))
 
 same-length : tie.Need-same-length Inv-loop μ-loop
-same-length c = c .before .before .loop .inv .long
+same-length c = some (c .before .before .before) .mid .long
 
 returns : tie.Need-returns Inv-loop μ-loop
-returns c = drain-ends (c .before .before .loop .inv) (omega (arith, c .if1 .left))
+returns c = λ lo hi re.
+    drain-ends (c .before .before .before .loop .inv lo hi re .mid) (λ d. omega (arith, c .if1 .left, c .before .least-key .ensures .0 d))
 
 pub drain-spec : {M : Type 1} → statement M
 drain-spec =
     tie.close
     (tie.spec
-    Inv-loop μ-loop first-requires loop-holds add-if1 mul-if1 slice-read-if1 take-requires add-m first-requires-2 loop-less loop-again
-    same-length returns)
+    Inv-loop μ-loop loop-holds least-key-requires take-requires add-m loop-less loop-again same-length returns)

@@ -1,44 +1,99 @@
 -- `front::drain::take` meets its contract.
-use Prim.Native.Nat.{_+_, _*_}
+use mathlib.Core.Path.{_≡_, _∙_}
+use Prim.Native.Nat.{_+_, _-_, _*_, _≤_, _<_}
 use native.Mathlib.Omega.{arith}
-use mathlib.Core.Path.{_∙_}
-use lib.ListN.{length-set}
-use Rattle.queue.proofs.Tree.{tree-past}
+use lib.ListN.{length, set}
+use Rattle.front.specs.Board.{keys, at, Site}
 use Rattle.front.specs.State.{Popped}
-use Rattle.front.proofs.Theory.Reading.{cells-most}
+use Rattle.front.proofs.Theory.Reading.{cells-most, measured, width-low, width-high, site}
 use Rattle.front.proofs.Theory.Telling.{told-long}
 use Rattle.front.proofs.Theory.Draining.{is-popped, popped-held}
-use borrow.Author.Needs.{needs}
 use Rattle.front.proofs.drain.take.Statement.{statement}
 use Rattle.front.proofs.drain.take.Tie as tie
 
-taken : (w : tie.After-remove) → let a = w .before .before .before .before .before .before .args in
-    Popped (a .shape .cells) (a .m) (a .c) (a .work .now) (w .remove .last .0)
-taken w = let p = w .before .before .before .before .before .before in is-popped (p .pre .1) (p .pre .2) (p .pre .3) (p .pre .4) (w .remove .ensures)
+abbrev start : tie.After-first → tie.Start
+start c = c .before .before .before .before .before .before .before
+
+-- from where the cell is removed
+abbrev picked : tie.After-slice-known2 → tie.After-first
+picked c = c .before .before .before .before
+
+on : (c : tie.After-slice-known2) → let a = start (picked c) .args in
+    (picked c .first .result < a .shape .cells) × (a .m < a .shape .cells) × (a .shape .cells ≤ 65536)
+    × (4 * a .shape .cells ≤ length (c .before .before .remove-first .last .0))
+on c =
+    let p = start (picked c) in
+    (picked c .first .ensures .on, p .pre .3, cells-most (p .pre .0), omega (arith, p .pre .1 .room, c .before .before .remove-first .ensures .long))
+
+-- the least key is that of the cell
+due : (c : tie.After-first) → let a = start c .args in c .before .before .least-key .result ≡ keys (at (a .work .now) (a .size)) (c .first .result)
+due c =
+    let low = c .before .before .least-key .ensures .0 (c .first .result) in
+    let le = c .first .ensures in
+    omega (arith, low, le .pending, le .top, c .before .before .least-key .ensures .1 (omega (arith, low, le .pending)) .1)
+
+taken : (c : tie.After-slice-known2) → let a = start (picked c) .args in let x = picked c .first .result in
+    Popped (a .shape .cells) (a .m) x (at (a .work .now) (a .size))
+    (at (set (c .before .before .remove-first .last .0) (3 * a .shape .cells + a .m) x) (c .before .before .remove-first .result))
+taken c = let p = start (picked c) in is-popped (p .pre .1) (picked c .first .ensures) (p .pre .3) (c .before .before .remove-first .ensures)
+
+-- the cell, at its row and its column
+here : (c : tie.After-row-of) → let a = start (picked (c .before)) .args in let x = picked (c .before) .first .result in
+    Site (a .shape .cells) (a .shape .width) x (c .row-of .result) (x - c .row-of .result * a .shape .width)
+here c = site (width-low (start (picked (c .before)) .pre .0) measured) (on (c .before) .0) (c .row-of .ensures)
+
+least-key-requires : tie.Need-least-key-requires
+least-key-requires c κs = let p = c .before .before .before .before in (omega (arith, p .pre .1 .room), p .pre .1 .heap)
+
+first-requires : tie.Need-first-requires
+first-requires c κs = let p = c .before .before .before .before .before .before in (p .pre .2, omega (arith, p .pre .1 .room), p .pre .1 .heap)
+
+remove-first-requires : tie.Need-remove-first-requires
+remove-first-requires c κs = let p = start (c .before) in (p .pre .2, omega (arith, p .pre .1 .room), p .pre .1 .heap)
+
+mul-at : tie.Need-mul-at
+mul-at c = omega (arith, on c)
+
+add-at : tie.Need-add-at
+add-at c = omega (arith, on c)
 
 cast-work : tie.Need-cast-work
-cast-work c = let p = c .before .before .before .before in omega (arith, cells-most (p .pre .0), p .pre .2 .cell)
+cast-work c = omega (arith, on c)
 
-remove-requires : tie.Need-remove-requires
-remove-requires c κs =
-    let p = c .before .before .before .before .before in
-    let past = tree-past (p .args .work .now) (p .args .shape .cells) (3 * p .args .shape .cells + p .args .m) (p .args .c) in
-    (p .pre .2 .cell, rw length-set (omega (arith, p .pre .1 .room)), past (omega arith) (p .pre .1 .tree))
+mul-work : tie.Need-mul-work
+mul-work c = omega (arith, on c)
+
+slice-write-work : tie.Need-slice-write-work
+slice-write-work c = omega (arith, on c)
+
+row-of-requires : tie.Need-row-of-requires
+row-of-requires c κs =
+    let g = start (picked c) .pre .0 in
+    (omega (arith, on c), width-low g measured, width-high g measured)
+
+mul-col : tie.Need-mul-col
+mul-col c = omega (arith, on (c .before), here c .cell)
+
+sub-col : tie.Need-sub-col
+sub-col c = omega (arith, here c .cell)
 
 tell-requires : tie.Need-tell-requires
 tell-requires c κs =
-    let p = c .before .before .before .before .before .before .before .before .before in
-    (p .pre .0, popped-held (p .pre .1) (taken (c .before .before .before)), p .pre .2 .cell, λ z. omega arith)
+    let o = c .before in
+    let p = start (picked (o .before)) in
+    (p .pre .0, measured, popped-held (p .pre .1) (taken (o .before)), here o, λ z. omega arith)
 
 same-length : tie.Need-same-length
-same-length c = told-long (c .before .before .tell .ensures) ∙ taken (c .before .before .before .before .before .before) .long
+same-length c = told-long (c .before .before .tell .ensures) ∙ taken (c .before .before .before .before .before) .long
 
 returns : tie.Need-returns
-returns c = record { middle = _; popped = taken (c .before .before .before .before .before .before); told = c .before .before .tell .ensures }
+returns c =
+    let o = c .before .before .before .before .before in
+    record { cell = _; middle = _; popped = taken o; told = rw (← due (picked o)) (c .before .before .tell .ensures) }
 
 pub take-spec : {M : Type 1} → statement M
 take-spec =
     tie.close
     (tie.spec
-    (λ c. search needs) (λ c. search needs) (λ c. search needs) (λ c. search needs) (λ c. search needs) cast-work (λ c. search needs)
-    (λ c. search needs) remove-requires tell-requires same-length returns)
+    least-key-requires first-requires remove-first-requires mul-at add-at cast-work mul-work slice-write-work row-of-requires mul-col
+    sub-col tell-requires same-length returns)

@@ -5,7 +5,7 @@ use Rattle.front.proofs.spread.tell_across.Statement.{statement}
 use Rattle.front.proofs.spread.tell_across.Tie as tie
 
 touch-requires : tie.Need-touch-requires
-touch-requires c κs = let p = c .before .before .before .before .before in (p .pre .0, p .pre .2 (c .before .if1 .taken), p .pre .1)
+touch-requires c κs = let p = c .before .before .before .before .before in (p .pre .0, p .pre .1, p .pre .3 (c .before .if1 .taken), p .pre .2)
 
 returns : tie.Need-returns
 returns c = rw (hearer-some _ _ _ _ (c .before .before .before .before .if1 .taken)) (c .before .before .touch .ensures)

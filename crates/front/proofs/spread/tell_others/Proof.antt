@@ -4,50 +4,53 @@ use native.Mathlib.Omega.{arith}
 use mathlib.Core.Path.{sym, _∙_}
 use borrow.Author.Tests.{eqb-true}
 use Rattle.front.specs.Board.{Site}
-use Rattle.front.proofs.Theory.Reading.{cells-most}
-use Rattle.front.proofs.Theory.Relaxing.{site, near-none}
+use Rattle.front.proofs.Theory.Reading.{cells-most, width-low, width-high, site, line, column}
+use Rattle.front.proofs.Theory.Relaxing.{near-none}
 use Rattle.front.proofs.Theory.Telling.{told-long}
 use borrow.Author.Needs.{needs}
 use Rattle.front.proofs.spread.tell_others.Statement.{statement}
 use Rattle.front.proofs.spread.tell_others.Tie as tie
 
+abbrev start : tie.After-row-of → tie.Start
+start c = c .before .before .before .before
+
 -- the cell, at its row and its column
-here : (c : tie.After-row-of) → let p = c .before .before .before .before in
-    Site (p .args .shape) (p .args .c) (c .row-of .result) (p .args .c - c .row-of .result * p .args .shape .width)
-here c = let p = c .before .before .before .before in site (p .pre .0) (p .pre .2) (c .row-of .ensures)
+here : (c : tie.After-row-of) → let a = start c .args in Site (a .n) (a .w) (a .c) (c .row-of .result) (a .c - c .row-of .result * a .w)
+here c = let p = start c in site (width-low (p .pre .0) (p .pre .1)) (p .pre .3) (c .row-of .ensures)
 
 row-of-requires : tie.Need-row-of-requires
 row-of-requires c κs =
     let p = c .before .before .before in
-    (omega (arith, cells-most (p .pre .0), p .pre .2), p .pre .0 .good .wide-low, p .pre .0 .good .wide-high)
+    (omega (arith, cells-most (p .pre .0), p .pre .1 .cells, p .pre .3), width-low (p .pre .0) (p .pre .1), width-high (p .pre .0) (p .pre .1))
 
 mul-col : tie.Need-mul-col
 mul-col c =
-    let p = c .before .before .before .before in
-    omega (arith, cells-most (p .pre .0), p .pre .2, here c .cell)
+    let p = start c in
+    omega (arith, cells-most (p .pre .0), p .pre .1 .cells, p .pre .3, here c .cell)
 
 sub-col : tie.Need-sub-col
 sub-col c = omega (arith, here c .cell)
 
 inner-requires : tie.Need-inner-requires
 inner-requires c κs =
-    let p = c .before .before .before .before in
-    (omega (arith, here c .line, p .pre .0 .good .high-high), omega (arith, here c .column, p .pre .0 .good .wide-high))
+    let p = start c in
+    let g = p .pre .0 in
+    (omega (arith, line g (p .pre .1) (here c), g .good .high-high), omega (arith, column g (p .pre .1) (here c), g .good .wide-high))
 
 returns : tie.Need-returns
 returns c =
     let o = c .before .before in
-    near-none (o .before .before .before .before .pre .0) (here o) _ (eqb-true _ _ (sym (c .before .inner .ensures) ∙ c .if1 .taken))
+    let p = start o in
+    near-none (p .pre .0) (p .pre .1) (here o) (eqb-true _ _ (sym (c .before .inner .ensures) ∙ c .if1 .taken)) _
 
 tell-requires : tie.Need-tell-requires
 tell-requires c κs =
-    let p = c .before .before .before .before .before .before .before in
-    (p .pre .0, p .pre .1, p .pre .2, λ z. omega arith)
+    let o = c .before .before .before in
+    let p = start o in
+    (p .pre .0, p .pre .1, p .pre .2, here o, λ z. omega arith)
 
 same-length : tie.Need-same-length
-same-length c =
-    let a = c .before .before .before .before .before .before .before .before .before .before .args in
-    told-long (c .before .before .tell .ensures)
+same-length c = told-long (c .before .before .tell .ensures)
 
 pub tell-others-spec : {M : Type 1} → statement M
 tell-others-spec = tie.close (tie.spec row-of-requires mul-col sub-col inner-requires returns tell-requires same-length (λ c. search needs))

@@ -1,0 +1,38 @@
+-- `eikonal::arrival::too_few` meets its contract.
+use mathlib.Core.Path.{refl, sym}
+use Prim.Native.Nat.{_+_, _*_, _≤_}
+use native.Mathlib.Omega.{arith}
+use native.Mathlib.Nat.{mul-le-mul}
+use borrow.Author.Needs.{needs}
+use borrow.Author.Tests.{le-ltb}
+use Rattle.eikonal.proofs.Root.{as-many, squares-fit}
+use Rattle.eikonal.proofs.arrival.too_few.Statement.{statement}
+use Rattle.eikonal.proofs.arrival.too_few.Tie as tie
+
+returns : tie.Need-returns
+returns c = sym (le-ltb _ _ (as-many _ _ _ (c .if1 .taken)))
+
+squares : (c : tie.Else1)
+    → (c .before .args .apart + c .before .args .past) * (c .before .args .apart + c .before .args .past)
+    + c .before .args .past * c .before .args .past ≤ 134184962
+squares c = squares-fit _ _ (omega arith)
+
+mul-result : tie.Need-mul-result
+mul-result c = omega (arith, squares c)
+
+mul-result-2 : tie.Need-mul-result-2
+mul-result-2 c = omega (arith, squares c)
+
+add-result : tie.Need-add-result
+add-result c = omega (arith, squares c)
+
+mul-result-3 : tie.Need-mul-result-3
+mul-result-3 c = omega (arith, mul-le-mul (c .before .pre .1) (c .before .pre .1))
+
+returns-2 : tie.Need-returns-2
+returns-2 c = refl
+
+pub too-few-spec : {M : Type 1} → statement M
+too-few-spec =
+    tie.close
+    (tie.spec returns (λ c. search needs) mul-result mul-result-2 add-result mul-result-3 returns-2)

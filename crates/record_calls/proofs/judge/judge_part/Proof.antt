@@ -1,0 +1,18 @@
+use mathlib.Core.Path.{sym}
+use lib.Seq.{length-take-le}
+use borrow.Author.Needs.{needs}
+use Rattle.record_calls.proofs.judge.judge_part.Statement.{statement}
+use Rattle.record_calls.proofs.judge.judge_part.Tie as tie
+
+slice-aggregate-judge-starts : tie.Need-slice-aggregate-judge-starts
+slice-aggregate-judge-starts c = sym (length-take-le _ _ (search needs))
+
+slice-aggregate-judge-starts-2 : tie.Need-slice-aggregate-judge-starts-2
+slice-aggregate-judge-starts-2 c = sym (length-take-le _ _ (search needs))
+
+pub judge-part-spec : {M : Type 1} → statement M
+judge-part-spec =
+    tie.close
+    (tie.spec
+    (λ c. search needs) slice-aggregate-judge-starts (λ c. search needs) slice-aggregate-judge-starts-2 (λ c κs. search needs)
+    (λ c. search needs))

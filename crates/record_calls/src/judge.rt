@@ -1,0 +1,33 @@
+// Records judged, a part at a time.
+ghost use mathlib.Core.Path.{_≡_};
+ghost use Prim.Native.Nat.{_≤_};
+ghost use lib.ListN.{length, take};
+ghost use Rattle.eikonal.specs.Refusals.{starts-of};
+ghost use Rattle.eikonal.specs.Inner.Judge.{judge, nothing-judged};
+use eikonal::Start;
+use eikonal::refusals::Judged;
+use eikonal::refusals::judge_starts;
+use eikonal::refusals::nothing_judged;
+use records::parts::Part;
+
+fn judge_part(slow: &[u32], part: Part, so_far: Judged) -> Judged
+    requires { ⌜ (part .count ≤ length (part .cells)) × (part .count ≤ length (part .begins)) ⌝ }
+    ensures { λ r. ⌜ r ≡ judge (now (slow .entry)) (starts-of (take (part .count) (part .cells)) (take (part .count) (part .begins))) «so_far» ⌝ }
+{
+    let count = part.count;
+    let cells = part.cells;
+    let begins = part.begins;
+    judge_starts(slow, &cells[..count], &begins[..count], so_far)
+}
+
+pub fn judge_records(slow: &[u32], starts: &[Start]) -> Judged
+    ensures { λ r. ⌜ r ≡ judge (now (slow .entry)) (now (starts .entry)) nothing-judged ⌝ }
+{
+    let mut judged = nothing_judged();
+    let mut from = 0;
+    while from < starts.len() {
+        judged = judge_part(slow, records::parts::unpack(starts, from), judged);
+        from += 256;
+    }
+    judged
+}

@@ -1,0 +1,3 @@
+// Scenario files whose starts are records: read, written.
+pub mod read;
+pub mod write;
