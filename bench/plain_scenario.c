@@ -53,14 +53,27 @@ static bool runs_good(const parts *f) {
     return true;
 }
 
-static bool cells_rise(const parts *f) {
-    uint32_t least = 0;
-    for (uint32_t i = 0; i < f->start_count; i++) {
-        const uint32_t cell = four(f->starts + START * (size_t)i);
-        if (cell < least || cell >= f->size) return false;
-        least = cell + 1;
+typedef struct { uint32_t number; size_t place; } refusal;
+
+static refusal cause(uint32_t number) { return (refusal){number, 0}; }
+
+/* One start more: the first that does not rise is kept; one off the board beats it, and ends the walk, by true. */
+static bool judge_cell(refusal *found, uint64_t *least, uint32_t cell, size_t size, size_t place) {
+    if (cell >= size) {
+        *found = (refusal){7, place};
+        return true;
     }
-    return true;
+    if (cell < *least && found->number == 0) *found = (refusal){18, place};
+    *least = (uint64_t)cell + 1;
+    return false;
+}
+
+static refusal cells_in_file(const parts *f) {
+    refusal found = cause(0);
+    uint64_t least = 0;
+    for (uint32_t i = 0; i < f->start_count; i++)
+        if (judge_cell(&found, &least, four(f->starts + START * (size_t)i), f->size, i)) break;
+    return found;
 }
 
 static bool any_start_late(const parts *f) {
@@ -81,18 +94,19 @@ static bool any_start_on_wall(const parts *f) {
     return false;
 }
 
-static uint32_t file_refusal(const uint8_t *file, size_t file_len) {
-    if (file_len < HEAD) return 1;
-    if (file_len != HEAD + RUN * (uint64_t)four(file + 8) + START * (uint64_t)four(file + 12)) return 1;
+static refusal file_refusal(const uint8_t *file, size_t file_len) {
+    if (file_len < HEAD) return cause(1);
+    if (file_len != HEAD + RUN * (uint64_t)four(file + 8) + START * (uint64_t)four(file + 12)) return cause(1);
     const parts f = parts_of(file);
-    if (!side_good(f.width) || !side_good(f.height)) return 2;
-    if (f.ticks == 0) return 3;
-    if (f.ground > SLOWEST || any_run_above(&f, SLOWEST)) return 5;
-    if (!runs_good(&f)) return 6;
-    if (!cells_rise(&f)) return 7;
-    if (any_start_late(&f)) return 8;
-    if (any_start_on_wall(&f)) return 9;
-    return 0;
+    if (!side_good(f.width) || !side_good(f.height)) return cause(2);
+    if (f.ticks == 0) return cause(3);
+    if (f.ground > SLOWEST || any_run_above(&f, SLOWEST)) return cause(5);
+    if (!runs_good(&f)) return cause(6);
+    const refusal cells = cells_in_file(&f);
+    if (cells.number) return cells;
+    if (any_start_late(&f)) return cause(8);
+    if (any_start_on_wall(&f)) return cause(9);
+    return cause(0);
 }
 
 static void read_slow(const parts *f, uint32_t *slow) {
@@ -107,17 +121,17 @@ static void read_slow(const parts *f, uint32_t *slow) {
 
 murgolab_scenario plain_read_scenario(const uint8_t *file, size_t file_len, uint32_t *slow, size_t slow_len,
     uint32_t *cells, size_t cells_len, uint32_t *begins, size_t begins_len) {
-    const uint32_t number = file_refusal(file, file_len);
-    if (number) return (murgolab_scenario){number, 0, 0, 0, 0, 0};
+    const refusal r = file_refusal(file, file_len);
+    if (r.number) return (murgolab_scenario){r.number, 0, 0, 0, 0, 0, r.place};
     const parts f = parts_of(file);
     if (slow_len < f.size || cells_len < f.start_count || begins_len < f.start_count)
-        return (murgolab_scenario){14, 0, 0, 0, 0, 0};
+        return (murgolab_scenario){14, 0, 0, 0, 0, 0, 0};
     read_slow(&f, slow);
     for (uint32_t i = 0; i < f.start_count; i++) {
         cells[i] = four(f.starts + START * (size_t)i);
         begins[i] = four(f.starts + START * (size_t)i + 4);
     }
-    return (murgolab_scenario){0, f.width, f.height, f.ticks, f.ground, f.start_count};
+    return (murgolab_scenario){0, f.width, f.height, f.ticks, f.ground, f.start_count, 0};
 }
 
 static bool any_above(const uint32_t *list, size_t length, uint32_t most) {
@@ -126,34 +140,34 @@ static bool any_above(const uint32_t *list, size_t length, uint32_t most) {
     return false;
 }
 
-static uint32_t starts_refusal(const uint32_t *slow, size_t size, const uint32_t *cells, const uint32_t *begins,
+static refusal starts_refusal(const uint32_t *slow, size_t size, const uint32_t *cells, const uint32_t *begins,
     size_t count) {
+    refusal found = cause(0);
     uint64_t least = 0;
-    for (size_t i = 0; i < count; i++) {
-        if (cells[i] < least || cells[i] >= size) return 7;
-        least = (uint64_t)cells[i] + 1;
-    }
-    if (any_above(begins, count, LATEST_START)) return 8;
     for (size_t i = 0; i < count; i++)
-        if (slow[cells[i]] == 0) return 9;
-    return 0;
+        if (judge_cell(&found, &least, cells[i], size, i)) break;
+    if (found.number) return found;
+    if (any_above(begins, count, LATEST_START)) return cause(8);
+    for (size_t i = 0; i < count; i++)
+        if (slow[cells[i]] == 0) return cause(9);
+    return cause(0);
 }
 
 murgolab_reply plain_write_scenario(uint32_t width, uint32_t height, uint32_t ticks, uint32_t ground,
     const uint32_t *slow, size_t slow_len, const uint32_t *cells, size_t cells_len,
     const uint32_t *begins, size_t begins_len, uint8_t *out, size_t out_len) {
-    if (!side_good(width) || !side_good(height)) return (murgolab_reply){2, 0};
-    if (ticks == 0 || ticks > 65535) return (murgolab_reply){3, 0};
+    if (!side_good(width) || !side_good(height)) return (murgolab_reply){2, 0, 0};
+    if (ticks == 0 || ticks > 65535) return (murgolab_reply){3, 0, 0};
     const size_t size = width * height;
-    if (slow_len != size || cells_len != begins_len) return (murgolab_reply){4, 0};
-    if (ground > SLOWEST || any_above(slow, size, SLOWEST)) return (murgolab_reply){5, 0};
-    const uint32_t number = starts_refusal(slow, size, cells, begins, cells_len);
-    if (number) return (murgolab_reply){number, 0};
+    if (slow_len != size || cells_len != begins_len) return (murgolab_reply){4, 0, 0};
+    if (ground > SLOWEST || any_above(slow, size, SLOWEST)) return (murgolab_reply){5, 0, 0};
+    const refusal r = starts_refusal(slow, size, cells, begins, cells_len);
+    if (r.number) return (murgolab_reply){r.number, 0, r.place};
 
     uint32_t runs = slow[0] != ground;
     for (size_t i = 1; i < size; i++) runs += slow[i] != slow[i - 1] && slow[i] != ground;
     const size_t length = HEAD + RUN * (size_t)runs + START * cells_len;
-    if (out_len < length) return (murgolab_reply){14, 0};
+    if (out_len < length) return (murgolab_reply){14, 0, 0};
 
     put_two(out, width);
     put_two(out + 2, height);
@@ -175,5 +189,5 @@ murgolab_reply plain_write_scenario(uint32_t width, uint32_t height, uint32_t ti
         put_four(out, cells[i]);
         put_four(out + 4, begins[i]);
     }
-    return (murgolab_reply){0, (uint32_t)length};
+    return (murgolab_reply){0, (uint32_t)length, 0};
 }

@@ -193,14 +193,19 @@ def from_file(file):
         if end > len(slow):
             raise Problem(f"run {place}, counted from 0, passes the board's end")
         slow[offset:end] = [in_range("slowness", slowness)] * length
-    begins = {}
-    for place, (cell, time) in enumerate(START.iter_unpack(file[behind_runs:])):
-        if cell >= len(slow):
-            raise Problem(f"start {place}, counted from 0, is off the board")
-        if cell in begins:
-            raise Problem(f"start {place}, counted from 0, is in a cell that has one already")
-        begins[cell] = in_range("start time", time)
+    begins = begins_of(list(START.iter_unpack(file[behind_runs:])), len(slow))
     return Board(width, height, ticks, ground, slow, begins)
+
+
+def begins_of(records, size):
+    """Start times by cell. As in the library each cause looks at the whole list."""
+    for place, (cell, _) in enumerate(records):
+        if cell >= size:
+            raise Problem(f"start {place}, counted from 0, is off the board")
+    for place in range(1, len(records)):
+        if records[place][0] <= records[place - 1][0]:
+            raise Problem(f"start {place}, counted from 0, is not above the one before")
+    return {cell: in_range("start time", time) for cell, time in records}
 
 
 def letters_for(board):

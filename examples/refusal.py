@@ -14,16 +14,15 @@ import sys
 
 
 def table():
-    """The words of each number from 0 on, from refusals.h, which stands beside the script."""
+    """The words by number, from refusals.h, which stands beside the script."""
     text = pathlib.Path(__file__).with_name("refusals.h").read_text()
-    entries = re.findall(r'\[\w+\] =((?:\s+".*")+)', text)
-    return ["".join(re.findall('"(.*)"', entry)) for entry in entries]
+    return {int(number): words for number, words in re.findall(r'\[(\d+)\] = "(.*)"', text)}
 
 
 def with_words(number):
     words = table()
-    if not re.fullmatch("[0-9]{1,4}", number) or int(number) >= len(words):
-        sys.exit(f"refusal.py: `{number[:20]}` is not a number from 0 to {len(words) - 1}")
+    if not re.fullmatch("[0-9]{1,4}", number) or int(number) not in words:
+        sys.exit(f"refusal.py: `{number[:20]}` is not a number of the refusal table")
     return f"{number}: {words[int(number)]}\n".encode()
 
 

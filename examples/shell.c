@@ -24,9 +24,12 @@ typedef struct { uint32_t stride, across, down, horizon; } options;
 /* Lists that are long enough for every board. */
 typedef struct { uint32_t *slow, *order, *times, *work; murgolab_start *starts; } lists;
 
-static int refused(const char *name, uint32_t number)
+static int refused(const char *name, uint32_t number, size_t place)
 {
-    fprintf(stderr, "shell: %s: refused by %u: %s\n", name, (unsigned)number, refusals[number]);
+    fprintf(stderr, "shell: %s: refused by %u: %s", name, (unsigned)number, refusals[number]);
+    if (number == MURGOLAB_START_CELL || number == MURGOLAB_START_ORDER)
+        fprintf(stderr, ": start %zu, counted from 0", place);
+    fputc('\n', stderr);
     return 1;
 }
 
@@ -66,7 +69,7 @@ static int play(const char *name, const uint8_t *file, size_t length, options o,
     murgolab_reply run;
     murgolab_scenario s = murgolab_read_scenario(file, length, l.slow, MOST_CELLS, l.starts, MOST_CELLS);
     if (s.number != MURGOLAB_ACCEPTED)
-        return refused(name, s.number);
+        return refused(name, s.number, s.place);
     cells = s.width * s.height;
     tiles = tiles_along(s.width, o.across) * tiles_along(s.height, o.down);
     for (i = 0; i < tiles; i++)
@@ -74,7 +77,7 @@ static int play(const char *name, const uint8_t *file, size_t length, options o,
     run = murgolab_tile_run(s.width, s.height, l.slow, cells, l.starts, s.starts, o.across, o.down, o.stride, o.horizon,
         l.order, tiles, l.times, cells, l.work, 4 * (size_t)cells);
     if (run.number != MURGOLAB_ACCEPTED)
-        return refused(name, run.number);
+        return refused(name, run.number, run.place);
     print_turns(&s, l.times);
     printf("%u rounds\n", (unsigned)run.count);
     return written();

@@ -38,8 +38,12 @@
  * are tested on the archive, and not proved.
  *
  * A call that is refused answers a number of the table below, the lowest that has a cause, save that 15 comes directly
- * after 2. What it answers beside the number is 0, and every list stays as it was. "Refused by" names the numbers that
- * a call can answer, in the order in which they are looked for.
+ * after 2, and 18 directly after 7. What it answers beside the number and the place is 0, and every list stays as it
+ * was. "Refused by" names the numbers that a call can answer, in the order in which they are looked for.
+ *
+ * The place in an answer says which start is at fault. Where the number is 7 or 18 it is the position in the list of
+ * starts, from 0, of the first one at fault by this cause; for every other number, and for 0, it is 0. Each cause looks
+ * at the whole list, so that 7 comes, with its own place, also where a start before that one does not rise.
  */
 #ifndef MURGOLAB_H
 #define MURGOLAB_H
@@ -65,7 +69,7 @@ enum murgolab_refusal {
     MURGOLAB_SLOWNESS = 5,       /* a slowness, the ground's too, above 4,095 */
     MURGOLAB_RUN = 6,            /* a run not sorted, overlapping, empty, past the board, or as slow as the ground or as
                                   * a run it touches */
-    MURGOLAB_START_CELL = 7,     /* start cell off the board, or not above the one before */
+    MURGOLAB_START_CELL = 7,     /* start cell off the board */
     MURGOLAB_START_TIME = 8,     /* start time above 1,000,000 */
     MURGOLAB_START_ON_WALL = 9,  /* start on a wall */
     MURGOLAB_RANGE = 10,         /* horizon or bound above 300,000,000, or stride not 1 to 300,000,000 */
@@ -73,20 +77,22 @@ enum murgolab_refusal {
     MURGOLAB_ORDER = 12,         /* order does not name every tile once */
     MURGOLAB_TIMES_LENGTH = 13,  /* times list not N long */
     MURGOLAB_ROOM = 14,          /* work list under 4N long, or a list to be filled too short */
-    MURGOLAB_SMALL_BOARD = 15    /* tablet or rings: a side above 32, or for rings a file above 18,448 bytes */
+    MURGOLAB_SMALL_BOARD = 15,   /* tablet or rings: a side above 32, or for rings a file above 18,448 bytes */
+    MURGOLAB_START_ORDER = 18    /* start not above the one before */
 };
 
 /* a start: a cell and a time of 0 to 1,000,000 */
 typedef struct { uint32_t cell, time; } murgolab_start;
 
-/* number 0: accepted, and count is the answer; else number is the refusal, and count is 0 */
-typedef struct { uint32_t number, count; } murgolab_reply;
+/* number 0: accepted, and count is the answer; else number is the refusal, and count 0; place is 0 but for 7 and 18 */
+typedef struct { uint32_t number, count; size_t place; } murgolab_reply;
 
 /* number 0: accepted, and turn and to_go are the answer; else number is the refusal, and both are 0 */
 typedef struct { uint32_t number, turn, to_go; } murgolab_turn_reply;
 
-/* number 0: accepted, and the rest is what the file says; else number is the refusal, and the rest is 0 */
-typedef struct { uint32_t number, width, height, ticks, ground, starts; } murgolab_scenario;
+/* number 0: accepted, and width to starts are what the file says; else number is the refusal, and they are 0; place is
+ * 0 but for 7 and 18 */
+typedef struct { uint32_t number, width, height, ticks, ground, starts; size_t place; } murgolab_scenario;
 
 /* The local rule: the least whole t, not below the earlier of a and b, with p*p + q*q >= slowness*slowness, where a is
  * the earlier of left and right, b the earlier of above and below, p = t - a if a is earlier than t, else 0, and q
@@ -109,7 +115,7 @@ murgolab_turn_reply murgolab_turn(uint32_t time, uint32_t ticks);
 
 /* The march: the time at which the front reaches each cell, up to the horizon; never where that is later, or no front
  * comes. times may hold anything at first. The count is the number of cells reached.
- * Refused by 2 4 5 7 8 9 10 13 14. */
+ * Refused by 2 4 5 7 18 8 9 10 13 14. */
 murgolab_reply murgolab_march(uint32_t width, uint32_t height, const uint32_t *slow, size_t slow_len,
     const murgolab_start *starts, size_t starts_len,
     uint32_t horizon, uint32_t *times, size_t times_len, uint32_t *work, size_t work_len);
@@ -117,7 +123,7 @@ murgolab_reply murgolab_march(uint32_t width, uint32_t height, const uint32_t *s
 /* One round: every tile is solved with the times that times holds beyond its edges before the round; what it holds
  * within them is not used. Then times holds each cell's time up to the bound, and never elsewhere. The order of tiles
  * never shows. The count is the number of entries of times that differ from what they were, as bare numbers.
- * Refused by 2 4 5 7 8 9 10 11 12 13 14. */
+ * Refused by 2 4 5 7 18 8 9 10 11 12 13 14. */
 murgolab_reply murgolab_one_round(uint32_t width, uint32_t height, const uint32_t *slow, size_t slow_len,
     const murgolab_start *starts, size_t starts_len,
     uint32_t across, uint32_t down, uint32_t bound, const uint32_t *order, size_t order_len,
@@ -132,7 +138,7 @@ murgolab_reply murgolab_one_round(uint32_t width, uint32_t height, const uint32_
  * width, and down at least height) they are exactly K + 1 if some entry of times is then above (K - 1) * stride and at
  * most the horizon, else exactly K; for K = 1 that span starts at 0 and includes it. After its round j such a run holds
  * what the march to that round's bound gives.
- * Refused by 2 4 5 7 8 9 10 11 12 13 14. */
+ * Refused by 2 4 5 7 18 8 9 10 11 12 13 14. */
 murgolab_reply murgolab_tile_run(uint32_t width, uint32_t height, const uint32_t *slow, size_t slow_len,
     const murgolab_start *starts, size_t starts_len,
     uint32_t across, uint32_t down, uint32_t stride, uint32_t horizon, const uint32_t *order, size_t order_len,
@@ -142,14 +148,14 @@ murgolab_reply murgolab_tile_run(uint32_t width, uint32_t height, const uint32_t
  * later ones stay. 65,536 of each are enough for every file. A file has, lowest byte first: width, height, ticks per
  * turn and ground, 2 bytes each; the counts r of runs and q of starts, 4 each; r runs of first cell (4), length (4) and
  * slowness (2); q starts of cell (4) and time (4): 16 + 10r + 8q bytes.
- * Refused by 1 2 3 5 6 7 8 9 14. */
+ * Refused by 1 2 3 5 6 7 18 8 9 14. */
 murgolab_scenario murgolab_read_scenario(const uint8_t *file, size_t file_len, uint32_t *slow, size_t slow_len,
     murgolab_start *starts, size_t starts_len);
 
 /* Writes the one scenario file of a board, its ticks per turn, its ground, 0 to 4,095, and its starts into out; later
  * bytes stay. A file that was read and is written again with its own ground has the same bytes. The count is the file's
  * length, at most 16 + 18N.
- * Refused by 2 3 4 5 7 8 9 14. */
+ * Refused by 2 3 4 5 7 18 8 9 14. */
 murgolab_reply murgolab_write_scenario(uint32_t width, uint32_t height, uint32_t ticks, uint32_t ground,
     const uint32_t *slow, size_t slow_len, const murgolab_start *starts, size_t starts_len,
     uint8_t *out, size_t out_len);
@@ -157,12 +163,12 @@ murgolab_reply murgolab_write_scenario(uint32_t width, uint32_t height, uint32_t
 /* The tablet's call: makes the tile run of a scenario file of at most 32 by 32 cells, with the horizon 6,000,000, and
  * fills the first 4N bytes of out with its N times, 4 bytes each, the lowest first; later bytes stay. The tiles are
  * across by down cells. The answer is the number of rounds times 256; where the call is refused, the bare number, 1 to
- * 15.
+ * 18, without a place.
  * How many rounds: as many as murgolab_tile_run makes. Let K be 6,000,000 / stride, rounded up. Where one tile covers
  * the board, as a tile of 32 by 32 always does, they are exactly K + 1 if some time in out is above (K - 1) * stride
  * and at most 6,000,000, else exactly K; for K = 1 that span starts at 0 and includes it. With such a tile and a stride
  * of at most 810,815 they are exactly K, whatever the file holds, so that a progress bar knows them before the call.
- * Refused by 1 2 15 3 5 6 7 8 9 10 11 14: by 10 for the stride, by 14 where out is under 4N long. */
+ * Refused by 1 2 15 3 5 6 7 18 8 9 10 11 14: by 10 for the stride, by 14 where out is under 4N long. */
 uint64_t murgolab_tablet_run(const uint8_t *file, size_t file_len, uint32_t stride, uint32_t across, uint32_t down,
     uint8_t *out, size_t out_len);
 
@@ -170,20 +176,20 @@ uint64_t murgolab_tablet_run(const uint8_t *file, size_t file_len, uint32_t stri
  * cells, begins their times. They give the same answers. */
 
 /* The march with plain start lists.
- * Refused by 2 4 5 7 8 9 10 13 14. */
+ * Refused by 2 4 5 7 18 8 9 10 13 14. */
 murgolab_reply murgolab_march_plain(uint32_t width, uint32_t height, const uint32_t *slow, size_t slow_len,
     const uint32_t *cells, size_t cells_len, const uint32_t *begins, size_t begins_len,
     uint32_t horizon, uint32_t *times, size_t times_len, uint32_t *work, size_t work_len);
 
 /* One round with plain start lists.
- * Refused by 2 4 5 7 8 9 10 11 12 13 14. */
+ * Refused by 2 4 5 7 18 8 9 10 11 12 13 14. */
 murgolab_reply murgolab_one_round_plain(uint32_t width, uint32_t height, const uint32_t *slow, size_t slow_len,
     const uint32_t *cells, size_t cells_len, const uint32_t *begins, size_t begins_len,
     uint32_t across, uint32_t down, uint32_t bound, const uint32_t *order, size_t order_len,
     uint32_t *times, size_t times_len, uint32_t *work, size_t work_len);
 
 /* The tile run with plain start lists.
- * Refused by 2 4 5 7 8 9 10 11 12 13 14. */
+ * Refused by 2 4 5 7 18 8 9 10 11 12 13 14. */
 murgolab_reply murgolab_tile_run_plain(uint32_t width, uint32_t height, const uint32_t *slow, size_t slow_len,
     const uint32_t *cells, size_t cells_len, const uint32_t *begins, size_t begins_len,
     uint32_t across, uint32_t down, uint32_t stride, uint32_t horizon, const uint32_t *order, size_t order_len,
@@ -191,12 +197,12 @@ murgolab_reply murgolab_tile_run_plain(uint32_t width, uint32_t height, const ui
 
 /* Reads a scenario file into plain start lists. Here cells and begins need not be as long as each other: each must hold
  * the file's starts, else 14.
- * Refused by 1 2 3 5 6 7 8 9 14. */
+ * Refused by 1 2 3 5 6 7 18 8 9 14. */
 murgolab_scenario murgolab_read_scenario_plain(const uint8_t *file, size_t file_len, uint32_t *slow, size_t slow_len,
     uint32_t *cells, size_t cells_len, uint32_t *begins, size_t begins_len);
 
 /* Writes the scenario file from plain start lists.
- * Refused by 2 3 4 5 7 8 9 14. */
+ * Refused by 2 3 4 5 7 18 8 9 14. */
 murgolab_reply murgolab_write_scenario_plain(uint32_t width, uint32_t height, uint32_t ticks, uint32_t ground,
     const uint32_t *slow, size_t slow_len, const uint32_t *cells, size_t cells_len,
     const uint32_t *begins, size_t begins_len, uint8_t *out, size_t out_len);

@@ -62,6 +62,24 @@ static murgolab_reply record_call(enum kind kind, const game *g, const lists *l)
     }
 }
 
+static void starts(game *g, size_t count)
+{
+    g->cells_len = g->begins_len = count;
+}
+
+static murgolab_reply reply(uint32_t number, uint32_t count, size_t place)
+{
+    murgolab_reply r = {number, count, place};
+    return r;
+}
+
+static void check_reply(murgolab_reply got, murgolab_reply want)
+{
+    check(got.number == want.number, "another number");
+    check(got.count == want.count, "another count");
+    check(got.place == want.place, "another place");
+}
+
 static void records_of(const uint32_t *cells, const uint32_t *begins, murgolab_start *records)
 {
     size_t i;
@@ -72,7 +90,7 @@ static void records_of(const uint32_t *cells, const uint32_t *begins, murgolab_s
 }
 
 /* Plays the game with times that hold 7 and work that holds 9; it must give this answer and leave these times. */
-static void play_form(enum form form, enum kind kind, game g, uint32_t number, uint32_t count, const uint32_t *after)
+static void play_form(enum form form, enum kind kind, game g, murgolab_reply want, const uint32_t *after)
 {
     uint32_t times[10], work[40], cleared[40];
     murgolab_start records[3];
@@ -93,34 +111,35 @@ static void play_form(enum form form, enum kind kind, game g, uint32_t number, u
     l.order = lend(g.order, g.order_len, 4);
     l.times = lend(times, g.times_len, 4);
     l.work = lend(work, g.work_len, 4);
-    sprintf(now, "%s%s, wanted number %u", names[kind], endings[form], (unsigned)number);
+    sprintf(now, "%s%s, wanted number %u", names[kind], endings[form], (unsigned)want.number);
     r = form == PLAIN ? plain_call(kind, &g, &l) : record_call(kind, &g, &l);
-    check(r.number == number, "another number");
-    check(r.count == count, "another count");
+    check_reply(r, want);
     back(l.slow, g.slow, "slow is altered");
     back(l.cells, g.cells, "cells is altered");
     back(l.begins, g.begins, "begins is altered");
     back(l.starts, records, "starts is altered");
     back(l.order, g.order, "order is altered");
-    back(l.times, number == 0 ? after : times, "times");
-    back(l.work, number == 0 ? cleared : work, "work");
+    back(l.times, want.number == 0 ? after : times, "times");
+    back(l.work, want.number == 0 ? cleared : work, "work");
 }
 
 /* In every form that the game has: start records have no lists of unequal length. */
-static void play(enum kind kind, game g, uint32_t number, uint32_t count, const uint32_t *after)
+static void play(enum kind kind, game g, murgolab_reply want, const uint32_t *after)
 {
-    play_form(PLAIN, kind, g, number, count, after);
+    play_form(PLAIN, kind, g, want, after);
     if (g.cells_len == g.begins_len)
-        play_form(RECORDS, kind, g, number, count, after);
+        play_form(RECORDS, kind, g, want, after);
 }
 
-static void refused(enum kind kind, game g, uint32_t number)
+static void accepted(enum kind kind, game g, uint32_t count, const uint32_t *after)
 {
-    play(kind, g, number, 0, NULL);
+    play(kind, g, reply(0, count, 0), after);
 }
 
 /* One case with a change to the good game. */
-#define REFUSED(number, change) do { game g = good; change; refused(kind, g, number); } while (0)
+#define REFUSED_AT(number, place, change) \
+    do { game g = good; change; play(kind, g, reply(number, 0, place), NULL); } while (0)
+#define REFUSED(number, change) REFUSED_AT(number, 0, change)
 
 static void accepted_games(void)
 {
@@ -131,17 +150,17 @@ static void accepted_games(void)
     size_t i;
     for (i = 0; i < 9; i++)
         never[i] = MURGOLAB_NEVER;
-    play(MARCH, good, 0, 8, solved);
-    play(RUN, good, 0, 4, solved);
+    accepted(MARCH, good, 8, solved);
+    accepted(RUN, good, 4, solved);
     two_tiles.across = 3;
     two_tiles.order_len = 2;
     two_tiles.order[0] = 1;
     two_tiles.order[1] = 0;
     two_tiles.bound = 17;
-    play(ROUND, two_tiles, 0, 9, rows);
-    no_starts.cells_len = no_starts.begins_len = 0;
-    play(MARCH, no_starts, 0, 0, never);
-    play(RUN, no_starts, 0, 2, never);
+    accepted(ROUND, two_tiles, 9, rows);
+    starts(&no_starts, 0);
+    accepted(MARCH, no_starts, 0, never);
+    accepted(RUN, no_starts, 2, never);
 }
 
 static void refused_games(enum kind kind)
@@ -153,7 +172,12 @@ static void refused_games(enum kind kind)
     REFUSED(4, g.cells_len = 0);
     REFUSED(4, g.begins_len = 0);
     REFUSED(5, g.slow[8] = 4096);
-    REFUSED(7, g.cells[0] = 9);
+    REFUSED_AT(7, 0, g.cells[0] = 9);
+    REFUSED_AT(7, 2, starts(&g, 3); g.cells[2] = 9);
+    REFUSED_AT(7, 2, starts(&g, 3); g.cells[1] = 0; g.cells[2] = MURGOLAB_NEVER);
+    REFUSED_AT(18, 1, starts(&g, 3); g.cells[1] = 0);
+    REFUSED_AT(18, 2, starts(&g, 3); g.cells[2] = 4; g.begins[0] = 1000001);
+    REFUSED(5, starts(&g, 3); g.cells[2] = 4; g.slow[8] = 4096);
     REFUSED(8, g.begins[0] = 1000001);
     REFUSED(9, g.cells[0] = 2);
     REFUSED(10, g.bound = 300000001);
@@ -183,15 +207,16 @@ static const uint8_t good_file[FILE_LENGTH + 1] = {
 };
 
 static void read_file(const uint8_t *bytes, size_t length, size_t slow_len, size_t cells_len, size_t begins_len,
-    uint32_t number)
+    uint32_t number, size_t place)
 {
     static const uint32_t garbage[10] = {5, 5, 5, 5, 5, 5, 5, 5, 5, 5};
     uint32_t slow[10] = {10, 10, 0, 10, 10, 10, 10, 10, 10, 5}, cells[3] = {0, 4, 5}, begins[3] = {0, 1000000, 5};
-    murgolab_scenario s, want = {0, 3, 3, 10, 10, 2}, none = {0, 0, 0, 0, 0, 0};
+    murgolab_scenario s, want = {0, 3, 3, 10, 10, 2, 0}, none = {0, 0, 0, 0, 0, 0, 0};
     murgolab_start records[3];
     int form;
     records_of(cells, begins, records);
     none.number = number;
+    none.place = place;
     for (form = PLAIN; form < (cells_len == begins_len ? FORMS : RECORDS); form++) {
         lent file = lend(bytes, length, 1), lent_slow = lend(garbage, slow_len, 4),
              lent_cells = lend(garbage, cells_len, 4), lent_begins = lend(garbage, begins_len, 4),
@@ -211,38 +236,45 @@ static void read_file(const uint8_t *bytes, size_t length, size_t slow_len, size
     }
 }
 
+static void read_good(size_t length, size_t slow_len, size_t cells_len, size_t begins_len, uint32_t number)
+{
+    read_file(good_file, length, slow_len, cells_len, begins_len, number, 0);
+}
+
 /* The good file with one byte put in. */
-static void read_with(size_t place, uint8_t byte, uint32_t number)
+static void read_with(size_t at, uint8_t byte, uint32_t number, size_t place)
 {
     uint8_t file[FILE_LENGTH];
     memcpy(file, good_file, FILE_LENGTH);
-    file[place] = byte;
-    read_file(file, FILE_LENGTH, 9, 2, 2, number);
+    file[at] = byte;
+    read_file(file, FILE_LENGTH, 9, 2, 2, number, place);
 }
 
 static void reading(void)
 {
-    read_file(good_file, FILE_LENGTH, 9, 2, 2, 0);
-    read_file(good_file, FILE_LENGTH, 10, 3, 3, 0);
-    read_file(good_file, 0, 0, 0, 0, 1);
-    read_file(good_file, 0, 9, 2, 2, 1);
-    read_file(good_file, 15, 9, 2, 2, 1);
-    read_file(good_file, FILE_LENGTH - 1, 9, 2, 2, 1);
-    read_file(good_file, FILE_LENGTH + 1, 9, 2, 2, 1);
-    read_with(0, 0, 2);
-    read_with(4, 0, 3);
-    read_with(7, 16, 5);
-    read_with(20, 0, 6);
-    read_with(26, 4, 7);
-    read_with(40, 0x10, 8);
-    read_with(34, 2, 9);
-    read_file(good_file, FILE_LENGTH, 8, 2, 2, 14);
-    read_file(good_file, FILE_LENGTH, 9, 1, 2, 14);
-    read_file(good_file, FILE_LENGTH, 9, 2, 1, 14);
-    read_file(good_file, FILE_LENGTH, 0, 0, 0, 14);
+    read_good(FILE_LENGTH, 9, 2, 2, 0);
+    read_good(FILE_LENGTH, 10, 3, 3, 0);
+    read_good(0, 0, 0, 0, 1);
+    read_good(0, 9, 2, 2, 1);
+    read_good(15, 9, 2, 2, 1);
+    read_good(FILE_LENGTH - 1, 9, 2, 2, 1);
+    read_good(FILE_LENGTH + 1, 9, 2, 2, 1);
+    read_with(0, 0, 2, 0);
+    read_with(4, 0, 3, 0);
+    read_with(7, 16, 5, 0);
+    read_with(20, 0, 6, 0);
+    read_with(26, 9, 7, 0);
+    read_with(34, 9, 7, 1);
+    read_with(26, 4, 18, 1);
+    read_with(40, 0x10, 8, 0);
+    read_with(34, 2, 9, 0);
+    read_good(FILE_LENGTH, 8, 2, 2, 14);
+    read_good(FILE_LENGTH, 9, 1, 2, 14);
+    read_good(FILE_LENGTH, 9, 2, 1, 14);
+    read_good(FILE_LENGTH, 0, 0, 0, 14);
 }
 
-static void write_file(game g, uint32_t ticks, uint32_t ground, size_t out_len, uint32_t number)
+static void write_file(game g, uint32_t ticks, uint32_t ground, size_t out_len, uint32_t number, size_t place)
 {
     uint8_t garbage[FILE_LENGTH + 1];
     murgolab_start records[3];
@@ -261,8 +293,7 @@ static void write_file(game g, uint32_t ticks, uint32_t ground, size_t out_len, 
         else
             r = murgolab_write_scenario(g.width, g.height, ticks, ground, slow.list, g.slow_len,
                 starts.list, g.cells_len, out.list, out_len);
-        check(r.number == number, "another number");
-        check(r.count == (number == 0 ? FILE_LENGTH : 0), "another count");
+        check_reply(r, reply(number, number == 0 ? FILE_LENGTH : 0, place));
         back(slow, g.slow, "slow is altered");
         back(cells, g.cells, "cells is altered");
         back(begins, g.begins, "begins is altered");
@@ -271,19 +302,21 @@ static void write_file(game g, uint32_t ticks, uint32_t ground, size_t out_len, 
     }
 }
 
-#define UNWRITTEN(number, change) do { game g = two; change; write_file(g, 10, 10, FILE_LENGTH, number); } while (0)
+#define UNWRITTEN_AT(number, place, change) \
+    do { game g = two; change; write_file(g, 10, 10, FILE_LENGTH, number, place); } while (0)
+#define UNWRITTEN(number, change) UNWRITTEN_AT(number, 0, change)
 
 static void writing(void)
 {
     game two = good;
-    two.cells_len = two.begins_len = 2;
-    write_file(two, 10, 10, FILE_LENGTH, 0);
-    write_file(two, 10, 10, FILE_LENGTH + 1, 0);
-    write_file(two, 10, 10, FILE_LENGTH - 1, 14);
-    write_file(two, 10, 10, 0, 14);
-    write_file(two, 0, 10, FILE_LENGTH, 3);
-    write_file(two, 65536, 10, FILE_LENGTH, 3);
-    write_file(two, 10, 4096, FILE_LENGTH, 5);
+    starts(&two, 2);
+    write_file(two, 10, 10, FILE_LENGTH, 0, 0);
+    write_file(two, 10, 10, FILE_LENGTH + 1, 0, 0);
+    write_file(two, 10, 10, FILE_LENGTH - 1, 14, 0);
+    write_file(two, 10, 10, 0, 14, 0);
+    write_file(two, 0, 10, FILE_LENGTH, 3, 0);
+    write_file(two, 65536, 10, FILE_LENGTH, 3, 0);
+    write_file(two, 10, 4096, FILE_LENGTH, 5, 0);
     UNWRITTEN(2, g.width = 257);
     UNWRITTEN(2, memset(&g, 0, sizeof g));
     UNWRITTEN(4, g.slow_len = 0);
@@ -291,7 +324,8 @@ static void writing(void)
     UNWRITTEN(4, g.cells_len = 0);
     UNWRITTEN(4, g.begins_len = 0);
     UNWRITTEN(5, g.slow[0] = 4096);
-    UNWRITTEN(7, g.cells[1] = 0);
+    UNWRITTEN_AT(7, 1, g.cells[1] = 9);
+    UNWRITTEN_AT(18, 1, g.cells[1] = 0);
     UNWRITTEN(8, g.begins[1] = 1000001);
     UNWRITTEN(9, g.cells[1] = 2);
 }
@@ -316,11 +350,11 @@ static void tablet_call(const uint8_t *bytes, size_t length, uint32_t stride, ui
 }
 
 /* The good file with one byte put in. */
-static void tablet_with(size_t place, uint8_t byte, uint64_t want)
+static void tablet_with(size_t at, uint8_t byte, uint64_t want)
 {
     uint8_t file[FILE_LENGTH];
     memcpy(file, good_file, FILE_LENGTH);
-    file[place] = byte;
+    file[at] = byte;
     tablet_call(file, FILE_LENGTH, 6000000, 3, 3, 36, want);
 }
 
@@ -337,7 +371,8 @@ static void tablet(void)
     tablet_with(4, 0, 3);
     tablet_with(7, 16, 5);
     tablet_with(20, 0, 6);
-    tablet_with(26, 4, 7);
+    tablet_with(34, 9, 7);
+    tablet_with(26, 4, 18);
     tablet_with(40, 0x10, 8);
     tablet_with(34, 2, 9);
     tablet_call(good_file, FILE_LENGTH, 0, 0, 0, 0, 10);
@@ -351,7 +386,7 @@ static void tablet(void)
 static void answers(const char *what, murgolab_reply r, uint32_t number, uint32_t count)
 {
     sprintf(now, "%s", what);
-    check(r.number == number && r.count == count, "another answer");
+    check_reply(r, reply(number, count, 0));
 }
 
 static void turns(const char *what, murgolab_turn_reply r, uint32_t number, uint32_t turn, uint32_t to_go)

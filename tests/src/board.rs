@@ -1,6 +1,6 @@
 //! Boards with plain start lists, as a caller hands them in: nothing here says that they are good.
 
-use crate::{Start, LATEST_START, LONGEST_SIDE, NEVER, SLOWEST};
+use crate::{Cause, Start, LATEST_START, LONGEST_SIDE, NEVER, SLOWEST};
 
 #[derive(Clone, Debug, PartialEq, Eq)]
 pub struct Board {
@@ -23,18 +23,18 @@ impl Board {
         (self.width * self.height) as usize
     }
 
-    /// Refusals 2, 4, 5, 7, 8 and 9, or 0.
-    pub fn refusal(&self) -> u32 {
+    /// Refusals 2, 4, 5, 7, 18, 8 and 9.
+    pub fn judge(&self) -> Result<(), Cause> {
         if !side_is_good(self.width) || !side_is_good(self.height) {
-            return 2;
+            return Err(2.into());
         }
         if self.slow.len() != self.size() || self.cells.len() != self.begins.len() {
-            return 4;
+            return Err(4.into());
         }
         if self.slow.iter().any(|&s| s > SLOWEST) {
-            return 5;
+            return Err(5.into());
         }
-        starts_refusal(&self.slow, &self.cells, &self.begins)
+        judge_starts(&self.slow, &self.cells, &self.begins)
     }
 
     /// The starts as records, where both lists are as long.
@@ -43,19 +43,22 @@ impl Board {
     }
 }
 
-/// Refusals 7, 8 and 9, or 0; each looks at the whole list.
-pub fn starts_refusal(slow: &[u32], cells: &[u32], begins: &[u32]) -> u32 {
-    let off = cells.iter().any(|&c| c as usize >= slow.len());
-    if off || cells.windows(2).any(|pair| pair[0] >= pair[1]) {
-        return 7;
+/// Refusals 7, 18, 8 and 9; each looks at the whole list.
+pub fn judge_starts(slow: &[u32], cells: &[u32], begins: &[u32]) -> Result<(), Cause> {
+    if let Some(place) = cells.iter().position(|&c| c as usize >= slow.len()) {
+        return Err(Cause { number: 7, place });
+    }
+    // the second of a pair is at fault, so the list's first start never is
+    if let Some(first) = cells.windows(2).position(|pair| pair[1] <= pair[0]) {
+        return Err(Cause { number: 18, place: first + 1 });
     }
     if begins.iter().any(|&t| t > LATEST_START) {
-        return 8;
+        return Err(8.into());
     }
     if cells.iter().any(|&c| slow[c as usize] == 0) {
-        return 9;
+        return Err(9.into());
     }
-    0
+    Ok(())
 }
 
 /// A good board laid out for solving.

@@ -4,7 +4,7 @@ use crate::board::{side_is_good, Board, Grid};
 use crate::leap::run_by_leaps;
 use crate::march::{cut, solved};
 use crate::tiles::{altered, round, run_every_round, tile_count, Tiling};
-use crate::{Reply, LARGEST};
+use crate::{Cause, Reply, LARGEST};
 
 #[derive(Clone, Debug)]
 pub struct Call {
@@ -20,43 +20,39 @@ pub enum Kind {
 }
 
 impl Call {
-    /// The lowest number that the table has for this call, or 0; `times` and `work` are the lengths
-    /// of the lists that are lent for writing.
-    pub fn refusal(&self, times: usize, work: usize) -> u32 {
-        let board = self.board.refusal();
-        if board != 0 {
-            return board;
-        }
+    /// What the table has against this call; `times` and `work` are the lengths of the lists that are lent for
+    /// writing.
+    pub fn judge(&self, times: usize, work: usize) -> Result<(), Cause> {
+        self.board.judge()?;
         let numbers_good = match self.kind {
             Kind::March { horizon } => horizon <= LARGEST,
             Kind::Round { bound, .. } => bound <= LARGEST,
             Kind::Run { stride, horizon, .. } => horizon <= LARGEST && (1..=LARGEST).contains(&stride),
         };
         if !numbers_good {
-            return 10;
+            return Err(10.into());
         }
         if let Kind::Round { across, down, order, .. } | Kind::Run { across, down, order, .. } = &self.kind {
             if !side_is_good(*across) || !side_is_good(*down) {
-                return 11;
+                return Err(11.into());
             }
             if !order_is_good(order, tile_count(self.board.width, self.board.height, *across, *down)) {
-                return 12;
+                return Err(12.into());
             }
         }
         if times != self.board.size() {
-            return 13;
+            return Err(13.into());
         }
         if work < 4 * self.board.size() {
-            return 14;
+            return Err(14.into());
         }
-        0
+        Ok(())
     }
 
     /// Plays the call: the answer, and what the lent lists hold afterwards.
     pub fn play(&self, times: &mut [u32], work: &mut [u32]) -> Reply {
-        let number = self.refusal(times.len(), work.len());
-        if number != 0 {
-            return Reply::refused(number);
+        if let Err(cause) = self.judge(times.len(), work.len()) {
+            return Reply::refused(cause);
         }
         let (count, after) = self.outcome(times);
         times.copy_from_slice(&after);

@@ -9,11 +9,19 @@ use crate::{LARGEST, LATEST_START, LONGEST_SIDE, NEVER, SLOWEST};
 const BAD_SIDES: [u32; 8] = [0, LONGEST_SIDE + 1, LONGEST_SIDE + 2, 1_000, 65_536, 65_537, 1 << 31, NEVER];
 const TOO_SLOW: [u32; 4] = [SLOWEST + 1, 65_536, 1 << 31, NEVER];
 
-/// The numbers of the table that a march, a round or a run can be refused by.
-pub const CALL_CAUSES: [u32; 11] = [2, 4, 5, 7, 8, 9, 10, 11, 12, 13, 14];
+/// The numbers of the table in the order in which they are looked for.
+pub const ORDER: [u32; 16] = [1, 2, 15, 3, 4, 5, 6, 7, 18, 8, 9, 10, 11, 12, 13, 14];
 
-/// The numbers of the table that the writer of scenario files can refuse by.
-pub const WRITER_CAUSES: [u32; 8] = [2, 3, 4, 5, 7, 8, 9, 14];
+/// Those that a march, a round or a run can be refused by.
+pub const CALL_CAUSES: [u32; 12] = [2, 4, 5, 7, 18, 8, 9, 10, 11, 12, 13, 14];
+
+/// Those that the writer of scenario files can refuse by.
+pub const WRITER_CAUSES: [u32; 9] = [2, 3, 4, 5, 7, 18, 8, 9, 14];
+
+/// Which of several causes is given.
+pub fn first_of(causes: &[u32]) -> u32 {
+    ORDER.into_iter().find(|number| causes.contains(number)).expect("a number of the table")
+}
 
 /// Gives a call the cause `number`, where it can have it. Earlier causes may hide it, so the second
 /// solver says what is answered.
@@ -37,14 +45,15 @@ pub fn spoil_writing(r: &mut Random, held: &mut Held, out: &mut usize, number: u
     }
 }
 
-/// 2, 4, 5, 7, 8 and 9.
+/// 2, 4, 5, 7, 18, 8 and 9.
 fn spoil_board(r: &mut Random, board: &mut Board, number: u32) {
     match number {
         2 if r.once_in(2) => board.width = r.pick(&BAD_SIDES),
         2 => board.height = r.pick(&BAD_SIDES),
         4 => spoil_length(r, board),
         5 => *any_of(r, &mut board.slow) = r.pick(&TOO_SLOW),
-        7 => spoil_cells(r, &mut board.cells, &mut board.begins, board.slow.len() as u32),
+        7 => start_off_the_board(r, board),
+        18 => starts_that_do_not_rise(r, board),
         8 => {
             start_at_least_once(board);
             *any_of(r, &mut board.begins) = r.pick(&[LATEST_START + 1, 1_048_576, LARGEST, NEVER]);
@@ -88,25 +97,33 @@ fn spoil_length(r: &mut Random, board: &mut Board) {
     }
 }
 
-/// A cell off the board, the same cell twice, or two that fall.
-fn spoil_cells(r: &mut Random, cells: &mut Vec<u32>, begins: &mut Vec<u32>, size: u32) {
-    let at = r.below(cells.len() as u32) as usize * usize::from(!cells.is_empty());
-    match r.below(3) {
-        0 => {
-            cells.push(r.pick(&[size, size + 1, 65_536, 1 << 31, NEVER]));
-            begins.push(0);
-        }
-        1 if !cells.is_empty() => {
-            let cell = cells[at];
-            cells.insert(at, cell);
-            begins.insert(at.min(begins.len()), 0);
-        }
-        _ => {
-            let cell = cells.first().copied().unwrap_or(size);
-            cells.push(cell);
-            begins.push(0);
-        }
+/// A start more, or another cell for one that is there.
+fn start_off_the_board(r: &mut Random, board: &mut Board) {
+    let size = board.slow.len() as u32;
+    let off = r.pick(&[size, size + 1, 65_536, 1 << 31, NEVER]);
+    let at = r.below(board.cells.len() as u32 + 1) as usize;
+    match board.cells.get_mut(at) {
+        Some(cell) if r.once_in(2) => *cell = off,
+        _ => add_start(board, at, off),
     }
+}
+
+/// The same cell twice, two that fall, or a last start that is not above the one before.
+fn starts_that_do_not_rise(r: &mut Random, board: &mut Board) {
+    start_at_least_once(board);
+    let end = board.cells.len();
+    let at = r.below(end as u32) as usize;
+    let cell = board.cells[at];
+    match r.below(3) {
+        0 if at > 0 => board.cells.swap(at - 1, at),
+        1 => add_start(board, end, cell),
+        _ => add_start(board, at, cell),
+    }
+}
+
+fn add_start(board: &mut Board, at: usize, cell: u32) {
+    board.cells.insert(at, cell);
+    board.begins.insert(at.min(board.begins.len()), 0);
 }
 
 fn spoil_numbers(r: &mut Random, kind: &mut Kind) {

@@ -20,7 +20,7 @@ pub struct Draft {
 }
 
 /// The numbers of the table that a file can be refused by; 15 is the tablet's and that of `rings`.
-pub const FILE_CAUSES: [u32; 8] = [1, 2, 3, 5, 6, 7, 8, 9];
+pub const FILE_CAUSES: [u32; 9] = [1, 2, 3, 5, 6, 7, 18, 8, 9];
 
 impl Draft {
     pub fn of(held: &Held) -> Draft {
@@ -80,7 +80,8 @@ impl Draft {
                 }
             }
             6 => self.spoil_run(r),
-            7 => self.spoil_cells(r),
+            7 => self.start_off_the_board(r),
+            18 => self.starts_that_do_not_rise(r),
             8 => {
                 let late = r.pick(&[LATEST_START + 1, 1_048_576, 300_000_000, NEVER]);
                 match self.any_start(r) {
@@ -161,15 +162,24 @@ impl Draft {
         }
     }
 
-    fn spoil_cells(&mut self, r: &mut Random) {
+    fn start_off_the_board(&mut self, r: &mut Random) {
+        let off = r.pick(&[self.size, self.size + 1, 65_536, NEVER]);
         match self.any_start(r) {
-            None => self.add_start(0, (r.pick(&[self.size, NEVER]), 0)),
-            Some(at) => match r.below(4) {
-                0 => self.starts[at].0 = r.pick(&[self.size, self.size + 1, 65_536, NEVER]),
-                1 => self.add_start(at, self.starts[at]),
-                2 if at > 0 => self.starts.swap(at - 1, at),
-                _ => self.add_start(self.starts.len(), (self.size, 0)),
-            },
+            Some(at) if r.once_in(2) => self.starts[at].0 = off,
+            _ => self.add_start(self.starts.len(), (off, 0)),
+        }
+    }
+
+    /// The same cell twice, two that fall, or a last start that is not above the one before.
+    fn starts_that_do_not_rise(&mut self, r: &mut Random) {
+        if self.starts.is_empty() {
+            self.add_start(0, (0, 0));
+        }
+        let at = r.below(self.starts.len() as u32) as usize;
+        match r.below(3) {
+            0 if at > 0 => self.starts.swap(at - 1, at),
+            1 => self.add_start(self.starts.len(), self.starts[at]),
+            _ => self.add_start(at, self.starts[at]),
         }
     }
 

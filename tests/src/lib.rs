@@ -9,7 +9,7 @@
 //! | Module | Holds |
 //! |---|---|
 //! | `rule` | the local rule and D by search, turn numbers by quotient and remainder |
-//! | `board` | boards with plain start lists, and refusals 2, 4, 5, 7, 8, 9 |
+//! | `board` | boards with plain start lists, and refusals 2, 4, 5, 7, 18, 8, 9 |
 //! | `march` | the times of a whole board: by passes, and by an advancing front |
 //! | `tiles` | one round over tiles, a tile run with every round worked out, how many rounds a single tile takes |
 //! | `leap` | a tile run that skips idle rounds, written apart from `tiles` |
@@ -58,21 +58,38 @@ pub const LATEST_START: u32 = 1_000_000;
 /// The longest side of a board or a tile.
 pub const LONGEST_SIDE: u32 = 256;
 
-/// What most calls answer: number 0 and a count, or a refusal's number and 0.
+/// Why a call is refused.
+#[derive(Clone, Copy, Debug, PartialEq, Eq)]
+pub struct Cause {
+    pub number: u32,
+    /// Where the number is 7 or 18 the position, from 0, of the first start that is at fault by this cause, else 0.
+    pub place: usize,
+}
+
+/// The number of a cause that is not one start's.
+impl From<u32> for Cause {
+    fn from(number: u32) -> Cause {
+        Cause { number, place: 0 }
+    }
+}
+
+/// What most calls answer: number 0 and a count, or a refusal's number, 0 and its place.
 #[repr(C)]
 #[derive(Clone, Copy, Debug, PartialEq, Eq)]
 pub struct Reply {
     pub number: u32,
     pub count: u32,
+    pub place: usize,
 }
 
 impl Reply {
     pub fn accepted(count: u32) -> Reply {
-        Reply { number: 0, count }
+        Reply { number: 0, count, place: 0 }
     }
 
-    pub fn refused(number: u32) -> Reply {
-        Reply { number, count: 0 }
+    pub fn refused(cause: impl Into<Cause>) -> Reply {
+        let Cause { number, place } = cause.into();
+        Reply { number, count: 0, place }
     }
 }
 

@@ -1,9 +1,9 @@
 //! The scenario file: its reader and its writer.
 
-use crate::board::{side_is_good, starts_refusal, Board};
-use crate::{Reply, SLOWEST};
+use crate::board::{judge_starts, side_is_good, Board};
+use crate::{Cause, Reply, SLOWEST};
 
-/// What the reader answers: number 0 and what the file's head says, or a refusal's number and zeros.
+/// What the reader answers: number 0 and what the file's head says, or a refusal's number, zeros and its place.
 #[repr(C)]
 #[derive(Clone, Copy, Debug, PartialEq, Eq)]
 pub struct Scenario {
@@ -13,11 +13,13 @@ pub struct Scenario {
     pub ticks: u32,
     pub ground: u32,
     pub starts: u32,
+    pub place: usize,
 }
 
 impl Scenario {
-    pub fn refused(number: u32) -> Scenario {
-        Scenario { number, width: 0, height: 0, ticks: 0, ground: 0, starts: 0 }
+    pub fn refused(cause: impl Into<Cause>) -> Scenario {
+        let Cause { number, place } = cause.into();
+        Scenario { number, width: 0, height: 0, ticks: 0, ground: 0, starts: 0, place }
     }
 }
 
@@ -44,33 +46,33 @@ fn four(file: &[u8], at: usize) -> u32 {
     two(file, at) + 65_536 * two(file, at + 2)
 }
 
-/// Refusals 1, 2, 3, 5, 6, 7, 8 and 9, or what the file holds. `longest` gives 15, directly after 2,
+/// Refusals 1, 2, 3, 5, 6, 7, 18, 8 and 9, or what the file holds. `longest` gives 15, directly after 2,
 /// for a side above it.
-pub fn judge(file: &[u8], longest: Option<u32>) -> Result<Held, u32> {
+pub fn judge(file: &[u8], longest: Option<u32>) -> Result<Held, Cause> {
     if file.len() < 16 {
-        return Err(1);
+        return Err(1.into());
     }
     let (run_count, start_count) = (u64::from(four(file, 8)), u64::from(four(file, 12)));
     if file.len() as u64 != 16 + 10 * run_count + 8 * start_count {
-        return Err(1);
+        return Err(1.into());
     }
     let (width, height, ticks, ground) = (two(file, 0), two(file, 2), two(file, 4), two(file, 6));
     if !side_is_good(width) || !side_is_good(height) {
-        return Err(2);
+        return Err(2.into());
     }
     if longest.map_or(false, |most| width > most || height > most) {
-        return Err(15);
+        return Err(15.into());
     }
     if ticks == 0 {
-        return Err(3);
+        return Err(3.into());
     }
     let runs: Vec<Run> = (0..run_count as usize).map(|i| run_at(file, 16 + 10 * i)).collect();
     if ground > SLOWEST || runs.iter().any(|run| run.slowness > SLOWEST) {
-        return Err(5);
+        return Err(5.into());
     }
     let size = u64::from(width * height);
     if !runs_are_good(&runs, size, ground) {
-        return Err(6);
+        return Err(6.into());
     }
     let mut slow = vec![ground; size as usize];
     for run in &runs {
@@ -80,10 +82,8 @@ pub fn judge(file: &[u8], longest: Option<u32>) -> Result<Held, u32> {
     let places = (0..start_count as usize).map(|i| first_start + 8 * i);
     let cells: Vec<u32> = places.clone().map(|at| four(file, at)).collect();
     let begins: Vec<u32> = places.map(|at| four(file, at + 4)).collect();
-    match starts_refusal(&slow, &cells, &begins) {
-        0 => Ok(Held { ticks, ground, board: Board { width, height, slow, cells, begins } }),
-        number => Err(number),
-    }
+    judge_starts(&slow, &cells, &begins)?;
+    Ok(Held { ticks, ground, board: Board { width, height, slow, cells, begins } })
 }
 
 fn run_at(file: &[u8], at: usize) -> Run {
@@ -103,7 +103,7 @@ fn runs_are_good(runs: &[Run], size: u64, ground: u32) -> bool {
 pub fn read(file: &[u8], slow: &mut [u32], cells: &mut [u32], begins: &mut [u32]) -> Scenario {
     let held = match judge(file, None) {
         Ok(held) => held,
-        Err(number) => return Scenario::refused(number),
+        Err(cause) => return Scenario::refused(cause),
     };
     let (size, starts) = (held.board.slow.len(), held.board.cells.len());
     if slow.len() < size || cells.len() < starts || begins.len() < starts {
@@ -119,6 +119,7 @@ pub fn read(file: &[u8], slow: &mut [u32], cells: &mut [u32], begins: &mut [u32]
         ticks: held.ticks,
         ground: held.ground,
         starts: starts as u32,
+        place: 0,
     }
 }
 
@@ -155,7 +156,8 @@ pub fn file_of(board: &Board, ticks: u32, ground: u32) -> Vec<u8> {
 
 /// What the call `write_scenario` answers, and what the lent list holds afterwards.
 pub fn write(board: &Board, ticks: u32, ground: u32, out: &mut [u8]) -> Reply {
-    let number = board.refusal();
+    let cause = board.judge().err();
+    let number = cause.map_or(0, |cause| cause.number);
     if number == 2 {
         return Reply::refused(2);
     }
@@ -166,8 +168,8 @@ pub fn write(board: &Board, ticks: u32, ground: u32, out: &mut [u8]) -> Reply {
     if ground > SLOWEST && number != 4 {
         return Reply::refused(5);
     }
-    if number != 0 {
-        return Reply::refused(number);
+    if let Some(cause) = cause {
+        return Reply::refused(cause);
     }
     let file = file_of(board, ticks, ground);
     if out.len() < file.len() {

@@ -19,7 +19,7 @@ pub const SHOWN_FILE: usize = 18_448;
 pub fn tablet(file: &[u8], stride: u32, across: u32, down: u32, out: &mut [u8]) -> u64 {
     let held = match judge(file, Some(SHOWN_SIDE)) {
         Ok(held) => held,
-        Err(number) => return u64::from(number),
+        Err(cause) => return u64::from(cause.number),
     };
     if stride == 0 || stride > LARGEST {
         return 10;
@@ -45,7 +45,7 @@ pub fn rings(file: &[u8]) -> String {
     }
     let held = match judge(file, Some(SHOWN_SIDE)) {
         Ok(held) => held,
-        Err(number) => return format!("refused {}\n", number),
+        Err(cause) => return format!("refused {}\n", cause.number),
     };
     turns(&held, SHOWN_HORIZON)
 }

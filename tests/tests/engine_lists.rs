@@ -71,7 +71,7 @@ fn board_for(r: &mut Random, size: u32) -> Board {
 /// A call on the board of the one before it, mostly, so that rounds build on each other.
 fn next_call(r: &mut Random, before: Option<&Call>, size: u32) -> Call {
     match before {
-        Some(call) if !r.once_in(4) && call.board.refusal() == 0 => {
+        Some(call) if !r.once_in(4) && call.board.judge().is_ok() => {
             let next = generate::call(r, call.board.clone());
             if r.once_in(2) {
                 next

@@ -2,6 +2,7 @@
 //! What compiles against a header that differs would call the archive with the wrong words.
 //! And the header alone: it compiles as C and as C++, and says by which numbers each call is refused.
 
+use second_solver::damage::ORDER;
 use second_solver::declared::{declared_in, exported, header, read, refusals, structs_in};
 use second_solver::programs::{compile, empty_folder, printed};
 use std::collections::BTreeSet;
@@ -109,9 +110,19 @@ fn the_header_says_by_which_numbers_each_call_is_refused() {
     for call in header().functions.keys() {
         let numbers = refused_by(&text, call);
         assert!(!numbers.is_empty(), "{} has no numbers", call);
-        assert!(numbers.iter().all(|number| (1..refusals().len()).contains(&(*number as usize))), "{}", call);
+        let in_order: Vec<u32> = ORDER.into_iter().filter(|number| numbers.contains(number)).collect();
+        assert_eq!(numbers, in_order, "{} looks for them in another order", call);
+        assert_eq!(numbers.contains(&7), numbers.contains(&18), "{} judges starts by 7 and 18, or not at all", call);
         assert_eq!(numbers, refused_by(&text, call.trim_end_matches("_plain")), "{} with plain lists", call);
     }
+}
+
+/// The tests' order of the numbers has those of the table, each once.
+#[test]
+fn every_number_of_the_table_has_its_place_in_the_order() {
+    let mut sorted = ORDER;
+    sorted.sort_unstable();
+    assert_eq!(sorted.to_vec(), refusals().iter().skip(1).map(|line| line.number).collect::<Vec<_>>());
 }
 
 /// The table has a row of each call over records, which begins with its name and ends with its numbers.

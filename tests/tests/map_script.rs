@@ -1,7 +1,8 @@
 //! The example boards, the script that makes scenario files of drawn maps, and the one that says refusals in words.
 
 use second_solver::board::Board;
-use second_solver::declared::{files, read, refusals, repository};
+use second_solver::compare::Tally;
+use second_solver::declared::{files, read, repository};
 use second_solver::ffi::scenario;
 use second_solver::generate;
 use second_solver::programs::{printed, run, run_into_full, run_unread, told};
@@ -335,10 +336,31 @@ fn the_script_says_what_it_cannot_draw_of_a_file() {
         (file(good, &[(1, u32::MAX, 5)], &[]), "run 0, counted from 0, passes the board's end"),
         (file(good, &[(1, 2, 5), (2, 1, 6)], &[]), "run 1, counted from 0, begins before the end of the one before"),
         (file(good, &[], &[[4, 0]]), "start 0, counted from 0, is off the board"),
-        (file(good, &[], &[[1, 0], [1, 1]]), "start 1, counted from 0, is in a cell that has one already"),
+        (file(good, &[], &[[2, 0], [1, 0], [4, 0], [5, 0]]), "start 2, counted from 0, is off the board"),
+        (file(good, &[], &[[1, 0], [1, 1]]), "start 1, counted from 0, is not above the one before"),
+        (file(good, &[], &[[0, 1_000_001], [3, 0], [2, 0], [1, 0]]), "start 2, counted from 0, is not above the one"),
         (file(good, &[], &[[1, 1_000_001]]), "start time `1000001` is not a number from 0 to 1,000,000"),
     ];
     assert_complaints("text", &cases);
+}
+
+#[test]
+fn the_script_names_the_start_that_the_library_names() {
+    let mut r = Random::new(72_000_000);
+    let mut starts = || (0..r.within(2, 6)).map(|_| [r.below(11), 0]).collect::<Vec<_>>();
+    let files: Vec<Vec<u8>> = (0..1_000).map(|_| file([3, 3, 10, 10], &[], &starts())).collect();
+    let mut tally = Tally::default();
+    for (file, told) in files.iter().zip(many(&["text"], &files)) {
+        let s = scenario::read(file, &mut [0; 9], &mut [0; 6], &mut [0; 6]);
+        let told = String::from_utf8_lossy(&told);
+        match s.number {
+            7 => assert_eq!(told, format!("start {}, counted from 0, is off the board", s.place)),
+            18 => assert_eq!(told, format!("start {}, counted from 0, is not above the one before", s.place)),
+            _ => assert!(told.starts_with("ticks 10\n"), "{}", told),
+        }
+        tally.note(s.number);
+    }
+    tally.assert_each(&[7, 18], 40);
 }
 
 #[test]
@@ -387,13 +409,13 @@ fn the_lines_of_rings_are_passed_on_and_refusals_get_their_words() {
             assert!(output.status.success() && output.stdout == lines, "{}: {}", path.display(), told(&output));
         }
     }
-    let all = refusals().len();
     for (words, input, why) in [
-        (vec![], "", "nothing came in".to_string()),
-        (vec![], &format!("refused {}\n", all), format!("`{}` is not a number from 0 to {}", all, all - 1)),
-        (vec!["nine"], "", "`nine` is not a number".to_string()),
-        (vec!["9", "9"], "", "say one number".to_string()),
+        (vec![], "", "nothing came in"),
+        (vec![], "refused 19\n", "`19` is not a number of the refusal table"),
+        (vec!["16"], "", "`16` is not a number of the refusal table"),
+        (vec!["nine"], "", "`nine` is not a number of the refusal table"),
+        (vec!["9", "9"], "", "say one number"),
     ] {
-        assert_complains(&run(&mut refusal(&words), input.as_bytes()), "refusal.py", &why);
+        assert_complains(&run(&mut refusal(&words), input.as_bytes()), "refusal.py", why);
     }
 }

@@ -222,6 +222,10 @@ fn files_are_written_the_same_in_both_forms() {
             }
             6 if !board.cells.is_empty() => board.begins[0] = 1_000_001,
             7 if !board.cells.is_empty() => board.slow[board.cells[0] as usize] = 0,
+            8 if !board.cells.is_empty() => {
+                board.cells.push(board.cells[0]);
+                board.begins.push(0);
+            }
             _ => {}
         }
         let out: Vec<u8> = (0..about(&mut r, need)).map(|_| r.any() as u8).collect();

@@ -12,13 +12,13 @@ fn numbered() -> Vec<(u32, String)> {
     refusals().into_iter().skip(1).map(|line| (line.number, line.words)).collect()
 }
 
+/// 16 and 17 are for causes to come.
 #[test]
-fn the_header_has_a_name_and_words_for_every_number_from_0() {
+fn the_header_has_a_name_and_words_for_every_number() {
     let table = refusals();
     assert_eq!((table[0].name.as_str(), table[0].words.as_str()), ("MURGOLAB_ACCEPTED", "accepted"));
-    assert!(table.len() > 15, "{} numbers", table.len());
-    for (place, line) in table.iter().enumerate() {
-        assert_eq!(line.number as usize, place, "{:?}", line);
+    assert!(table.iter().map(|line| line.number).eq((0..=15).chain([18])), "{:?}", table);
+    for line in &table {
         assert!(line.name.starts_with("MURGOLAB_") && !line.words.is_empty(), "{:?}", line);
         assert!(table.iter().all(|other| other == line || (other.name != line.name && other.words != line.words)));
     }
@@ -40,7 +40,7 @@ fn the_readme_has_the_same_table() {
 #[test]
 fn the_scenario_page_has_the_same_words() {
     let table = numbered_in("docs/SCENARIO.md", "What is refused");
-    assert_eq!(table.iter().map(|line| line.0).collect::<Vec<_>>(), [1, 2, 3, 5, 6, 7, 8, 9, 14]);
+    assert_eq!(table.iter().map(|line| line.0).collect::<Vec<_>>(), [1, 2, 3, 5, 6, 7, 18, 8, 9, 14]);
     assert!(table.iter().all(|line| numbered().contains(line)), "{:?}", table);
 }
 
@@ -50,7 +50,8 @@ fn variant(line: &Refusal) -> String {
     words.map(|word| format!("{}{}", &word[..1], word[1..].to_lowercase())).collect()
 }
 
-/// The string literals of code, each with the name before it. Those that stand side by side are one literal, as in C.
+/// The string literals of code, each with the name or number before it. Those that stand side by side are one literal,
+/// as in C.
 fn named_literals(code: &str) -> Vec<(String, String)> {
     let code: Vec<&str> = code.lines().filter(|line| !line.trim_start().starts_with("//")).collect();
     let mut found: Vec<(String, String)> = Vec::new();
@@ -59,14 +60,14 @@ fn named_literals(code: &str) -> Vec<(String, String)> {
             found.last_mut().expect("a name before a literal").1 += part;
         } else if !part.trim().is_empty() {
             let mut names = part.split(|sign: char| !sign.is_alphanumeric() && sign != '_');
-            let name = names.rfind(|name| name.starts_with(char::is_alphabetic)).unwrap_or("");
+            let name = names.rfind(|name| !name.is_empty()).unwrap_or("");
             found.push((name.to_string(), String::new()));
         }
     }
     found
 }
 
-/// Each name is followed by its words, in the table's order; other literals may stand between.
+/// Each name or number is followed by its words, in the table's order; other literals may stand between.
 fn assert_named(path: &str, table: &[(String, String)]) {
     let mut literals = named_literals(&read(path));
     literals.retain(|(name, literal)| !literal.is_empty() && table.iter().any(|(known, _)| known == name));
@@ -81,8 +82,8 @@ fn the_wrapper_has_the_same_names_and_words() {
 
 /// What examples/shell.c and examples/tablet.c print.
 #[test]
-fn the_examples_have_the_same_names_and_words() {
-    let table: Vec<_> = refusals().into_iter().map(|line| (line.name, line.words)).collect();
+fn the_examples_have_the_same_numbers_and_words() {
+    let table: Vec<_> = refusals().into_iter().map(|line| (line.number.to_string(), line.words)).collect();
     assert_named("examples/refusals.h", &table);
 }
 

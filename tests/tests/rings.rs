@@ -85,6 +85,16 @@ fn damaged_files_are_refused_as_the_second_solver_refuses_them() {
     tally.assert_each(&causes, 50);
 }
 
+/// 7 beats 18, though its start comes last.
+#[test]
+fn a_start_at_fault_is_refused_by_the_number_alone() {
+    for (cells, line) in [(vec![0, 9], "refused 7\n"), (vec![8, 0], "refused 18\n"), (vec![3, 3, 9], "refused 7\n")] {
+        let begins = vec![0; cells.len()];
+        let board = Board { width: 3, height: 3, slow: vec![10; 9], cells, begins };
+        assert_eq!(shown(&file_of(&board, 10, 10), 0), line, "{:?}", board.cells);
+    }
+}
+
 /// 32 by 32, each cell a run and a start of its own.
 fn largest() -> Vec<u8> {
     let cells: Vec<u32> = (0..1_024).collect();

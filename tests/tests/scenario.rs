@@ -9,10 +9,10 @@ use second_solver::generate::{self, garbage, scenarios_of_extreme_sides};
 use second_solver::random::Random;
 use second_solver::scenario::{Held, Scenario};
 use second_solver::typed::{self, FILE};
-use second_solver::NEVER;
+use second_solver::{Cause, NEVER};
 
 /// What the reader can refuse by.
-const READER_CAUSES: [u32; 9] = [1, 2, 3, 5, 6, 7, 8, 9, 14];
+const READER_CAUSES: [u32; 10] = [1, 2, 3, 5, 6, 7, 18, 8, 9, 14];
 
 /// Lists that hold anything, long enough for the scenario and some longer.
 fn roomy(r: &mut Random, held: &Held) -> Lists {
@@ -69,7 +69,8 @@ fn try_whole_and_damaged(r: &mut Random, held: &Held, tally: &mut Tally, seed: u
     let read_back = read_and_write_again(&whole, &roomy(r, held), tally, seed);
     assert!(read_back.as_ref() == Some(held), "seed {}: a good file is not read as what it holds", seed);
     read_and_write_again(&whole, &cramped(r, held), tally, seed);
-    let (first, second) = (FILE_CAUSES[seed as usize / 8 % 8], FILE_CAUSES[seed as usize % 8]);
+    let of_seed = |seed: u64| FILE_CAUSES[seed as usize % FILE_CAUSES.len()];
+    let (first, second) = (of_seed(seed / FILE_CAUSES.len() as u64), of_seed(seed));
     for causes in FILE_CAUSES.map(|cause| vec![cause]).into_iter().chain([vec![first, second]]) {
         let mut damaged = draft.clone();
         for cause in causes {
@@ -111,17 +112,19 @@ fn the_longest_file_is_read_to_its_end() {
     assert_eq!(file.len(), end);
     let lists = marked(65_536, 65_536);
     assert!(read_and_write_again(&file, &lists, &mut Tally::default(), 0) == Some(held));
+    let at_the_last = |number: u32| Cause { number, place: 65_535 };
     let changes = [
-        (runs_end - 1, 0x10, 5), // the last run's slowness 4,128
-        (runs_end - 6, 2, 6),    // its length 2
-        (end - 8, 0xFE, 7),      // the last start's cell is that of the start before
-        (end - 4, 0x41, 8),      // its time 1,000,001
-        (runs_end - 2, 0, 9),    // a wall under it
+        (runs_end - 1, 0x10, 5.into()),   // the last run's slowness 4,128
+        (runs_end - 6, 2, 6.into()),      // its length 2
+        (end - 6, 1, at_the_last(7)),     // the last start's cell is 131,071
+        (end - 8, 0xFE, at_the_last(18)), // .. that of the start before
+        (end - 4, 0x41, 8.into()),        // its time 1,000,001
+        (runs_end - 2, 0, 9.into()),      // a wall under it
     ];
-    for (at, byte, number) in changes {
+    for (at, byte, cause) in changes {
         let mut damaged = file.clone();
         damaged[at] = byte;
-        assert_eq!(read_both(read, &damaged, &lists, at as u64).0, Scenario::refused(number), "byte {}", at);
+        assert_eq!(read_both(read, &damaged, &lists, at as u64).0, Scenario::refused(cause), "byte {}", at);
     }
 }
 
@@ -132,7 +135,7 @@ fn marked(slow: usize, starts: usize) -> Lists {
 #[test]
 fn a_file_typed_by_hand_is_read() {
     let (answer, after) = read_both(read, &FILE, &marked(7, 3), 0);
-    assert_eq!(answer, Scenario { number: 0, width: 3, height: 2, ticks: 10, ground: 10, starts: 2 });
+    assert_eq!(answer, Scenario { number: 0, width: 3, height: 2, ticks: 10, ground: 10, starts: 2, place: 0 });
     assert_eq!(held_by(&answer, &after), typed::held());
     assert_eq!((after.slow[6], after.cells[2], after.begins[2]), (77, 88, 99));
     let mut late = FILE;
@@ -166,7 +169,7 @@ fn each_rule_of_the_file_has_its_number() {
         (30, 4, 6),    // the second run ends beyond the board
         (30, 3, 0),    // the second run ends with the board
         (34, 10, 0),   // slowness 3,850
-        (36, 5, 7),    // the same cell twice
+        (36, 5, 18),   // the same cell twice
         (44, 6, 7),    // a start beyond the board
         (44, 2, 9),    // a start on a wall
     ];
@@ -182,19 +185,31 @@ fn each_rule_of_the_file_has_its_number() {
 
 /// All causes at once; each is taken away in turn.
 #[test]
-fn of_all_causes_the_lowest_number_is_given() {
-    let wrong = [(0, 0), (4, 0), (7, 0x10), (30, 0), (44, 6), (48, 0x41), (36, 1)];
+fn of_all_causes_the_first_in_order_is_given() {
     let mut file = FILE.to_vec();
-    for (at, byte) in wrong {
+    // starts 5 and 6, the second too late
+    for (at, byte) in [(0, 0), (4, 0), (7, 0x10), (30, 0), (36, 5), (44, 6), (48, 0x41)] {
         file[at] = byte;
     }
-    let number = |file: &[u8], slow: usize| read_both(read, file, &marked(slow, 2), 0).0.number;
-    assert_eq!(number(&file[..51], 5), 1);
-    for ((at, _), cause) in wrong.into_iter().zip([2, 3, 5, 6, 7, 8, 9]) {
-        assert_eq!(number(&file, 5), cause);
-        file[at] = FILE[at];
+    let answer = |file: &[u8], slow: usize| read_both(read, file, &marked(slow, 2), 0).0;
+    assert_eq!(answer(&file[..51], 5), Scenario::refused(1));
+    // .. then 5 and 2, then 0 and 2, which is a wall, then 0 and 5
+    let (off, not_rising) = (Cause { number: 7, place: 1 }, Cause { number: 18, place: 1 });
+    let mends = [
+        (2.into(), 0, FILE[0]),
+        (3.into(), 4, FILE[4]),
+        (5.into(), 7, FILE[7]),
+        (6.into(), 30, FILE[30]),
+        (off, 44, 2),
+        (not_rising, 36, FILE[36]),
+        (8.into(), 48, FILE[48]),
+        (9.into(), 44, FILE[44]),
+    ];
+    for (cause, at, byte) in mends {
+        assert_eq!(answer(&file, 5), Scenario::refused(cause));
+        file[at] = byte;
     }
-    assert_eq!([number(&file, 5), number(&file, 6)], [14, 0]);
+    assert_eq!([answer(&file, 5).number, answer(&file, 6).number], [14, 0]);
 }
 
 /// Every truncation; the bytes that are cut off still lie behind the file.

@@ -9,7 +9,7 @@ use second_solver::generate::{self, scenarios_of_extreme_sides};
 use second_solver::random::Random;
 use second_solver::scenario::{file_of, Held, Scenario};
 use second_solver::typed::{self, FILE};
-use second_solver::{Reply, NEVER};
+use second_solver::{Cause, Reply, NEVER};
 
 fn bytes(r: &mut Random, length: usize) -> Vec<u8> {
     (0..length).map(|_| r.any() as u8).collect()
@@ -24,7 +24,7 @@ fn write_and_read(r: &mut Random, held: &Held, out: usize, seed: u64) -> Reply {
         let lists = Lists { slow: vec![1; board.size()], cells: vec![2; starts], begins: vec![3; starts] };
         let (answer, after) = read_both(read, &file[..reply.count as usize], &lists, seed);
         let (width, height, starts) = (board.width, board.height, starts as u32);
-        let want = Scenario { number: 0, width, height, ticks: held.ticks, ground: held.ground, starts };
+        let want = Scenario { number: 0, width, height, ticks: held.ticks, ground: held.ground, starts, place: 0 };
         assert_eq!(answer, want, "seed {}", seed);
         let same = after.slow == board.slow && after.cells == board.cells && after.begins == board.begins;
         assert!(same, "seed {}: the board that is read is another", seed);
@@ -83,7 +83,8 @@ fn the_longest_file_is_written_to_its_end() {
     };
     let length = 16 + 18 * 65_536;
     assert_eq!(number(&|b| b.slow[65_535] = 4_096, length), 5);
-    assert_eq!(number(&|b| b.cells[65_535] = 65_534, length), 7);
+    assert_eq!(number(&|b| b.cells[65_535] = 65_536, length), 7);
+    assert_eq!(number(&|b| b.cells[65_535] = 65_534, length), 18);
     assert_eq!(number(&|b| b.begins[65_535] = 1_000_001, length), 8);
     assert_eq!(number(&|b| b.slow[65_535] = 0, length), 9);
     assert_eq!([number(&|_| (), length - 1), number(&|_| (), length)], [14, 0]);
@@ -108,21 +109,23 @@ fn a_list_of_every_length_is_written_or_refused_by_14() {
 
 /// All causes at once; each is taken away in turn.
 #[test]
-fn of_all_causes_the_lowest_number_is_given() {
+fn of_all_causes_the_first_in_order_is_given() {
     let good = typed::held();
     let mut held = Held { ticks: 65_536, ground: 4_096, board: Board { width: 257, ..good.board.clone() } };
     held.board.slow.pop();
-    held.board.cells = vec![1, 6];
+    held.board.cells = vec![5, 6];
     held.board.begins[1] = 1_000_001;
+    let (off, not_rising) = (Cause { number: 7, place: 1 }, Cause { number: 18, place: 1 });
     type Repair = fn(&mut Held, &Held);
-    let repairs: [(u32, Repair); 7] = [
-        (2, |held, good| held.board.width = good.board.width),
-        (3, |held, good| held.ticks = good.ticks),
-        (4, |held, good| held.board.slow = good.board.slow.clone()),
-        (5, |held, good| held.ground = good.ground),
-        (7, |held, good| held.board.cells[1] = good.board.cells[1]),
-        (8, |held, good| held.board.begins[1] = good.board.begins[1]),
-        (9, |held, good| held.board.cells[0] = good.board.cells[0]),
+    let repairs: [(Cause, Repair); 8] = [
+        (2.into(), |held, good| held.board.width = good.board.width),
+        (3.into(), |held, good| held.ticks = good.ticks),
+        (4.into(), |held, good| held.board.slow = good.board.slow.clone()),
+        (5.into(), |held, good| held.ground = good.ground),
+        (off, |held, _| held.board.cells[1] = 2), // a wall
+        (not_rising, |held, good| held.board.cells[0] = good.board.cells[0]),
+        (8.into(), |held, good| held.board.begins[1] = good.board.begins[1]),
+        (9.into(), |held, good| held.board.cells[1] = good.board.cells[1]),
     ];
     for (cause, repair) in repairs {
         assert_eq!(write_both(write, &held, &[0; 51], 0).0, Reply::refused(cause));
@@ -146,7 +149,7 @@ fn each_limit_passes_and_one_beyond_it_does_not() {
         assert_eq!(number(&|held| held.ground = slowness), want, "ground {}", slowness);
         assert_eq!(number(&|held| held.board.slow[4] = slowness), want, "slowness {}", slowness);
     }
-    for (cell, want) in [(0, 7), (2, 9), (3, 0), (5, 0), (6, 7), (65_541, 7), (NEVER, 7)] {
+    for (cell, want) in [(0, 18), (2, 9), (3, 0), (5, 0), (6, 7), (65_541, 7), (NEVER, 7)] {
         assert_eq!(number(&|held| held.board.cells[1] = cell), want, "start cell {}", cell);
     }
     for (side, want) in [(3, 0), (0, 2), (257, 2), (65_539, 2), (NEVER, 2)] {

@@ -1,7 +1,7 @@
 //! The second solver beside itself: its quick ways give what its plain ways give, and both give what
 //! document 01 prints. No function of the engine is called here.
 
-use second_solver::board::{Board, Grid};
+use second_solver::board::{judge_starts, Board, Grid};
 use second_solver::calls::{Call, Kind, MOST_WORKED};
 use second_solver::generate;
 use second_solver::leap::run_by_leaps;
@@ -11,7 +11,7 @@ use second_solver::rule::{diagonal_step, local, local_by_search};
 use second_solver::scenario::{file_of, judge};
 use second_solver::shown::rings;
 use second_solver::tiles::{altered, round, run_every_round, Tiling};
-use second_solver::{Reply, LARGEST, NEVER};
+use second_solver::{Cause, Reply, LARGEST, NEVER};
 
 /// Three by three, slowness 10, start cell 0 at 0.
 fn three_by_three() -> Board {
@@ -112,6 +112,29 @@ fn a_refused_call_alters_nothing_and_an_accepted_one_clears_its_work() {
     assert_eq!(call.play(&mut times, &mut work), Reply::accepted(8));
     assert_eq!(times, cut(SOLVED.to_vec(), 33));
     assert_eq!(work, [vec![0; 36], vec![9; 4]].concat());
+}
+
+/// What card 2 has for lists of starts on nine cells, the last of which is a wall, by hand: number and place.
+#[test]
+fn lists_of_starts_are_judged_as_worked_by_hand() {
+    let slow = [10, 10, 10, 10, 10, 10, 10, 10, 0];
+    let judged = |cells: &[u32], late: u32| judge_starts(&slow, cells, &vec![late; cells.len()]);
+    for (cells, number, place) in [
+        (&[9][..], 7, 0),
+        (&[0, 3, 9, 9], 7, 2),
+        (&[3, 3, 0, 9], 7, 3),
+        (&[3, 3], 18, 1),
+        (&[3, 0, 1, 1], 18, 1),
+        (&[0, 3, 4, 4, 1], 18, 3),
+        (&[8, 3], 18, 1),
+    ] {
+        for late in [0, 1_000_001] {
+            assert_eq!(judged(cells, late), Err(Cause { number, place }), "{:?}", cells);
+        }
+    }
+    assert_eq!(judged(&[3, 8], 1_000_001), Err(Cause { number: 8, place: 0 }));
+    assert_eq!(judged(&[3, 8], 0), Err(Cause { number: 9, place: 0 }));
+    assert_eq!([judged(&[], 0), judged(&[7], 0), judged(&[0, 1, 7], 1_000_000)], [Ok(()); 3]);
 }
 
 #[test]

@@ -74,15 +74,32 @@ fn the_shell_plays_boards_of_all_sizes() {
 
 /// How both programs say a refusal.
 fn refused_by(number: u32) -> String {
-    format!("refused by {}: {}\n", number, refusals()[number as usize].words)
+    let line = refusals().into_iter().find(|line| line.number == number).expect("a number of the table");
+    format!("refused by {}: {}\n", number, line.words)
+}
+
+/// How the shell says it of a start.
+fn refused_at(number: u32, place: usize) -> String {
+    format!("{}: start {}, counted from 0\n", refused_by(number).trim_end(), place)
+}
+
+/// Three by three cells with starts in these.
+fn file_with(cells: &[u32]) -> Vec<u8> {
+    let (cells, begins) = (cells.to_vec(), vec![0; cells.len()]);
+    file_of(&Board { width: 3, height: 3, slow: vec![10; 9], cells, begins }, 10, 10)
 }
 
 #[test]
 fn the_shell_says_what_is_wrong() {
     let shell = shell("shell_wrong");
+    let (beyond, falling) = (shell.with_extension("beyond"), shell.with_extension("falling"));
+    fs::write(&beyond, file_with(&[4, 0, 9, 9])).expect("a file");
+    fs::write(&falling, file_with(&[0, 1, 4, 4, 2])).expect("a file");
     let (wall, maze) = (example("start-on-a-wall.scenario"), example("maze.scenario"));
     let (map, missing) = (example("maze.map"), example("nothing"));
-    let cases: [(&Path, &[&str], i32, &str); 9] = [
+    let cases: [(&Path, &[&str], i32, &str); 11] = [
+        (&beyond, &[], 1, &refused_at(7, 2)),
+        (&falling, &[], 1, &refused_at(18, 3)),
         (&wall, &[], 1, &refused_by(9)),
         (&map, &[], 1, &refused_by(1)),
         (&maze, &["0"], 1, &refused_by(10)),
@@ -150,18 +167,19 @@ fn tablet_lines(file: &[u8]) -> (String, i32) {
 #[test]
 fn the_tablets_example_shows_its_progress_or_says_the_refusal() {
     let tablet = program("examples/tablet.c", "tablet_example");
-    let large = tablet.with_extension("scenario");
+    let (large, falling) = (tablet.with_extension("large"), tablet.with_extension("falling"));
     let side = SHOWN_SIDE + 1;
     let board = Board { width: side, height: 1, slow: vec![10; side as usize], cells: vec![0], begins: vec![0] };
     fs::write(&large, file_of(&board, 10, 10)).expect("a file");
+    fs::write(&falling, file_with(&[0, 1, 4, 4, 2])).expect("a file");
     let mut seen = [0; 2];
-    for path in files(&repository().join("examples"), ".scenario").into_iter().chain([large]) {
+    for path in files(&repository().join("examples"), ".scenario").into_iter().chain([large, falling]) {
         let output = run(Command::new(&tablet).arg(&path), &[]);
         let (lines, status) = tablet_lines(&fs::read(&path).expect("a scenario"));
         assert_eq!((told(&output), output.status.code()), (lines, Some(status)), "{}", path.display());
         seen[status as usize] += 1;
     }
-    assert!(seen[0] >= 4 && seen[1] >= 2, "{:?}", seen);
+    assert!(seen[0] >= 4 && seen[1] >= 3, "{:?}", seen);
     for path in [example("nothing"), example("")] {
         let output = run(Command::new(&tablet).arg(&path), &[]);
         assert_eq!(output.status.code(), Some(2), "{}: {}", path.display(), told(&output));

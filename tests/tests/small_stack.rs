@@ -101,9 +101,9 @@ fn engine_cases() -> Vec<Case> {
 
 /// The reader's answer, which must be that of the largest file.
 fn as_reply(answer: Scenario) -> Reply {
-    let Scenario { number, width, height, ticks, ground, starts } = answer;
+    let Scenario { number, width, height, ticks, ground, starts, place } = answer;
     assert_eq!([width, height, ticks, ground], [256, 256, 65_535, 1]);
-    Reply { number, count: starts }
+    Reply { number, count: starts, place }
 }
 
 fn scenario_cases() -> Vec<Case> {
@@ -158,7 +158,7 @@ fn number_cases() -> Vec<Case> {
         Case::new("murgolab_diagonal", "worked out".to_string(), || one(diagonal(4_095))),
         Case::new("murgolab_turn", String::new(), || {
             let reply = turn(LARGEST, 7);
-            one(Reply { number: reply.number, count: reply.turn })
+            one(Reply { number: reply.number, count: reply.turn, place: 0 })
         }),
     ]
 }

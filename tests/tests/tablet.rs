@@ -27,7 +27,7 @@ impl Handed {
 }
 
 /// The numbers that the call can be refused by, in the order in which they are looked for.
-const CAUSES: [u32; 12] = [1, 2, 15, 3, 5, 6, 7, 8, 9, 10, 11, 14];
+const CAUSES: [u32; 13] = [1, 2, 15, 3, 5, 6, 7, 18, 8, 9, 10, 11, 14];
 
 /// A good file and good numbers, with all of these causes where it can have them.
 fn handed(r: &mut Random, longest: u32, causes: &[u32]) -> Handed {
@@ -63,10 +63,10 @@ fn good_files_are_run_as_the_second_solver_runs_them() {
 #[test]
 fn every_cause_is_refused_by_its_number() {
     let mut tally = Tally::default();
-    for seed in 61_000_000..61_007_800 {
+    for seed in 61_000_000..61_008_400 {
         let mut r = Random::new(seed);
-        // every thirteenth is good
-        let cause = CAUSES.get(seed as usize % 13);
+        // every fourteenth is good
+        let cause = CAUSES.get(seed as usize % 14);
         let answer = handed(&mut r, 8, cause.map_or(&[], std::slice::from_ref)).play(seed);
         tally.note(if answer < 256 { answer as u32 } else { 0 });
     }
@@ -150,7 +150,21 @@ fn a_long_file_is_refused_for_what_is_wrong_with_it() {
     let mut held = even(32, 32);
     held.board.cells = vec![0; 5_000];
     held.board.begins = vec![0; 5_000];
+    assert_eq!(answer(bytes(&held), 4_096), 18);
+    // 7 beats 18, though its start comes last
+    held.board.cells[4_999] = 1_024;
     assert_eq!(answer(bytes(&held), 4_096), 7);
+}
+
+/// The bare number below 256: a place beside it, as the other calls answer it, would make it a count of rounds.
+#[test]
+fn a_start_at_fault_is_refused_by_the_number_alone() {
+    for (cells, want) in [(vec![0, 9], 7), (vec![8, 0], 18), (vec![3, 3, 9], 7), (vec![0, 1, 2, 2, 5], 18)] {
+        let mut held = even(3, 3);
+        held.board.begins = vec![0; cells.len()];
+        held.board.cells = cells;
+        assert_eq!(answer(bytes(&held), 36), want, "{:?}", held.board.cells);
+    }
 }
 
 /// The most rounds that there are, and the largest file that is accepted.

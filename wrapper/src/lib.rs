@@ -109,15 +109,15 @@ fn are_sides(one: u32, other: u32) -> bool {
     good.contains(&one) && good.contains(&other)
 }
 
-fn accepted(number: u32) -> Result<(), Refusal> {
-    match Refusal::of(number) {
+fn accepted(number: u32, place: Option<usize>) -> Result<(), Refusal> {
+    match Refusal::of(number, place) {
         None => Ok(()),
         Some(refusal) => Err(refusal),
     }
 }
 
 fn answer(reply: sys::Reply) -> Result<u32, Refusal> {
-    accepted(reply.number).map(|()| reply.count)
+    accepted(reply.number, Some(reply.place)).map(|()| reply.count)
 }
 
 /// The time at a cell from its neighbours' times: the least whole t, not below the earlier of a and b,
@@ -181,5 +181,5 @@ pub struct Turn {
 pub fn turn(time: u32, ticks: u32) -> Result<Turn, Refusal> {
     // SAFETY: numbers alone
     let reply = unsafe { sys::murgolab_turn(time, ticks) };
-    accepted(reply.number).map(|()| Turn { turn: reply.turn, to_go: reply.to_go })
+    accepted(reply.number, None).map(|()| Turn { turn: reply.turn, to_go: reply.to_go })
 }

@@ -30,7 +30,7 @@ pub struct Scenario {
 ///
 /// [`FileLength`](Refusal::FileLength), [`SidesOfBoard`](Refusal::SidesOfBoard), [`Ticks`](Refusal::Ticks),
 /// [`Slowness`](Refusal::Slowness), [`Run`](Refusal::Run), [`StartCell`](Refusal::StartCell),
-/// [`StartTime`](Refusal::StartTime), [`StartOnWall`](Refusal::StartOnWall).
+/// [`StartOrder`](Refusal::StartOrder), [`StartTime`](Refusal::StartTime), [`StartOnWall`](Refusal::StartOnWall).
 pub fn read_scenario(file: &[u8]) -> Result<Scenario, Refusal> {
     // a file with more starts than the largest board has cells is refused for their cells, before room is asked for
     let most_starts = MOST_CELLS.min(file.len() / 8);
@@ -42,7 +42,7 @@ pub fn read_scenario(file: &[u8]) -> Result<Scenario, Refusal> {
             file.as_ptr(), file.len(), slow.as_mut_ptr(), slow.len(), starts.as_mut_ptr(), starts.len(),
         )
     };
-    accepted(said.number)?;
+    accepted(said.number, Some(said.place))?;
     let mut board = Board { width: said.width, height: said.height, slow, starts };
     board.slow.truncate(board.size());
     board.slow.shrink_to_fit();
@@ -64,8 +64,8 @@ pub fn read_scenario(file: &[u8]) -> Result<Scenario, Refusal> {
 /// # Errors
 ///
 /// [`SidesOfBoard`](Refusal::SidesOfBoard), [`Ticks`](Refusal::Ticks), [`ListLength`](Refusal::ListLength),
-/// [`Slowness`](Refusal::Slowness), [`StartCell`](Refusal::StartCell), [`StartTime`](Refusal::StartTime),
-/// [`StartOnWall`](Refusal::StartOnWall).
+/// [`Slowness`](Refusal::Slowness), [`StartCell`](Refusal::StartCell), [`StartOrder`](Refusal::StartOrder),
+/// [`StartTime`](Refusal::StartTime), [`StartOnWall`](Refusal::StartOnWall).
 pub fn write_scenario(scenario: &Scenario) -> Result<Vec<u8>, Refusal> {
     let Scenario { ticks, ground, board } = scenario;
     // a run for each cell at most, and a start: more starts are refused for their cells, before room is asked for
@@ -102,8 +102,8 @@ pub fn write_scenario(scenario: &Scenario) -> Result<Vec<u8>, Refusal> {
 ///
 /// # Errors
 ///
-/// Those of [`read_scenario`], [`SmallBoard`](Refusal::SmallBoard) for a side above 32, [`Range`](Refusal::Range)
-/// for the stride and [`SidesOfTile`](Refusal::SidesOfTile) for the tiles.
+/// Those of [`read_scenario`], without the place of a start, [`SmallBoard`](Refusal::SmallBoard) for a side above 32,
+/// [`Range`](Refusal::Range) for the stride and [`SidesOfTile`](Refusal::SidesOfTile) for the tiles.
 pub fn tablet_run(file: &[u8], stride: u32, tiles: Tiles) -> Result<Run, Refusal> {
     let mut out = [0; 4 * 32 * 32];
     // SAFETY: the lists are as long as said, and the one lent for writing is borrowed alone
@@ -114,7 +114,8 @@ pub fn tablet_run(file: &[u8], stride: u32, tiles: Tiles) -> Result<Run, Refusal
         )
     };
     // rounds × 256, or the bare refusal
-    let rounds = answer(sys::Reply { number: (said % 256) as u32, count: (said / 256) as u32 })?;
+    accepted((said % 256) as u32, None)?;
+    let rounds = (said / 256) as u32;
     let side = |at: usize| usize::from(u16::from_le_bytes([file[at], file[at + 1]]));
     let times = out.chunks_exact(4).map(|four| u32::from_le_bytes([four[0], four[1], four[2], four[3]]));
     Ok(Run { times: times.take(side(0) * side(2)).collect(), rounds })

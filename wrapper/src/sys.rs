@@ -6,6 +6,7 @@ use crate::Start;
 pub struct Reply {
     pub number: u32,
     pub count: u32,
+    pub place: usize,
 }
 
 #[repr(C)]
@@ -23,6 +24,7 @@ pub struct Scenario {
     pub ticks: u32,
     pub ground: u32,
     pub starts: u32,
+    pub place: usize,
 }
 
 #[rustfmt::skip]

@@ -155,8 +155,9 @@ impl Work {
 /// # Errors
 ///
 /// For the board [`SidesOfBoard`](Refusal::SidesOfBoard), [`ListLength`](Refusal::ListLength),
-/// [`Slowness`](Refusal::Slowness), [`StartCell`](Refusal::StartCell), [`StartTime`](Refusal::StartTime) and
-/// [`StartOnWall`](Refusal::StartOnWall); for the horizon [`Range`](Refusal::Range).
+/// [`Slowness`](Refusal::Slowness), [`StartCell`](Refusal::StartCell), [`StartOrder`](Refusal::StartOrder),
+/// [`StartTime`](Refusal::StartTime) and [`StartOnWall`](Refusal::StartOnWall); for the horizon
+/// [`Range`](Refusal::Range).
 pub fn march(board: &Board, horizon: u32) -> Result<March, Refusal> {
     let mut times = vec![NEVER; board.size()];
     let reached = Work::new().march(board, horizon, &mut times)?;

@@ -3,7 +3,11 @@
 use murgolab::*;
 
 fn board() -> Board {
-    Board { width: 3, height: 2, slow: vec![10, 10, 0, 10, 10, 10], starts: vec![Start { cell: 0, time: 0 }] }
+    Board { width: 3, height: 2, slow: vec![10, 10, 0, 10, 10, 10], starts: vec![at_0(0)] }
+}
+
+fn at_0(cell: u32) -> Start {
+    Start { cell, time: 0 }
 }
 
 const TILES: Tiles = Tiles { across: 2, down: 1 };
@@ -25,14 +29,16 @@ type Change = dyn Fn(&mut Board);
 #[test]
 fn boards_are_judged_by_the_library() {
     assert_eq!(refusals(&board()), [None; 4]);
-    let cases: [(&Change, Refusal); 10] = [
+    let cases: [(&Change, Refusal); 12] = [
         (&|b| b.width = 0, Refusal::SidesOfBoard),
         (&|b| b.height = u32::MAX, Refusal::SidesOfBoard),
         (&|b| b.slow.clear(), Refusal::ListLength),
         (&|b| b.slow.push(10), Refusal::ListLength),
         (&|b| b.slow[5] = 4_096, Refusal::Slowness),
-        (&|b| b.starts[0].cell = 6, Refusal::StartCell),
-        (&|b| b.starts.push(Start { cell: 0, time: 0 }), Refusal::StartCell),
+        (&|b| b.starts[0].cell = 6, Refusal::StartCell { place: Some(0) }),
+        (&|b| b.starts.extend([0, 6, 7].map(at_0)), Refusal::StartCell { place: Some(2) }),
+        (&|b| b.starts.push(at_0(0)), Refusal::StartOrder { place: Some(1) }),
+        (&|b| b.starts.extend([1, 5, 4, 4].map(at_0)), Refusal::StartOrder { place: Some(3) }),
         (&|b| b.starts[0].time = 1_000_001, Refusal::StartTime),
         (&|b| b.starts[0].cell = 2, Refusal::StartOnWall),
         (&|b| *b = Board { width: 0, height: 0, slow: vec![], starts: vec![] }, Refusal::SidesOfBoard),
@@ -103,23 +109,36 @@ fn file_with(starts: &[Start]) -> Vec<u8> {
 /// More starts than there is room made for: the cause is their cells, not the room.
 #[test]
 fn more_starts_than_cells_are_refused_for_their_cells() {
+    let refusal = Refusal::StartCell { place: Some(6) };
     for count in [7, 65_536, 65_537, 200_000] {
-        let starts: Vec<Start> = (0..count).map(|cell| Start { cell, time: 0 }).collect();
-        assert_eq!(read_scenario(&file_with(&starts)), Err(Refusal::StartCell), "{} starts", count);
+        let starts: Vec<Start> = (0..count).map(at_0).collect();
+        assert_eq!(read_scenario(&file_with(&starts)), Err(refusal), "{} starts", count);
         let scenario = Scenario { ticks: 10, ground: 10, board: Board { starts, ..board() } };
-        assert_eq!(write_scenario(&scenario), Err(Refusal::StartCell), "{} starts", count);
+        assert_eq!(write_scenario(&scenario), Err(refusal), "{} starts", count);
     }
 }
 
-/// The refusals in the order of the table.
-const TABLE: [Refusal; 15] = [
+/// The reader says which start is at fault, the tablet's call the number alone.
+#[test]
+fn a_files_start_is_named_by_the_reader_and_not_by_the_tablet() {
+    for (cells, number, place) in [([0, 1, 6, 6], 7, 2), ([0, 4, 3, 3], 18, 2), ([4, 4, 4, 7], 7, 3)] {
+        let file = file_with(&cells.map(at_0));
+        assert_eq!(read_scenario(&file).err(), Refusal::of(number, Some(place)), "{:?}", cells);
+        let refusal = tablet_run(&file, 1, TILES).expect_err("a start at fault");
+        assert_eq!((refusal.number(), refusal.place()), (number, None), "{:?}", cells);
+        assert_eq!(refusal.to_string(), format!("refused by {}: {}", number, refusal.words()));
+    }
+}
+
+/// The refusals in the order of the table, as they are without a place.
+const TABLE: [Refusal; 16] = [
     Refusal::FileLength,
     Refusal::SidesOfBoard,
     Refusal::Ticks,
     Refusal::ListLength,
     Refusal::Slowness,
     Refusal::Run,
-    Refusal::StartCell,
+    Refusal::StartCell { place: None },
     Refusal::StartTime,
     Refusal::StartOnWall,
     Refusal::Range,
@@ -128,27 +147,42 @@ const TABLE: [Refusal; 15] = [
     Refusal::TimesLength,
     Refusal::Room,
     Refusal::SmallBoard,
+    Refusal::StartOrder { place: None },
 ];
 
 #[test]
 fn every_number_has_its_words() {
-    let unknown = Refusal::of(u32::MAX).expect("a refusal").words();
-    for (number, refusal) in (1..).zip(TABLE) {
+    let unknown = Refusal::of(u32::MAX, None).expect("a refusal").words();
+    for (number, refusal) in (1..=15).chain([18]).zip(TABLE) {
         let words = refusal.words();
-        assert_eq!((refusal.number(), Refusal::of(number)), (number, Some(refusal)), "{}", words);
+        assert_eq!((refusal.number(), Refusal::of(number, None)), (number, Some(refusal)), "{}", words);
         assert_eq!(refusal.to_string(), format!("refused by {}: {}", number, words));
         assert!(words.len() > 10 && words != unknown, "{}", words);
         assert!(TABLE.iter().all(|other| *other == refusal || other.words() != words), "{} is said twice", words);
     }
-    assert_eq!(Refusal::of(0), None);
+    assert_eq!(Refusal::of(0, None), None);
+}
+
+#[test]
+fn of_a_start_at_fault_the_place_is_said_too() {
+    for (number, refusal) in (1..=15).chain([18]).zip(TABLE) {
+        let placed = Refusal::of(number, Some(65_536)).expect("a refusal");
+        assert_eq!((placed.number(), placed.words()), (number, refusal.words()));
+        if [7, 18].contains(&number) {
+            assert_eq!((placed.place(), refusal.place()), (Some(65_536), None));
+            assert_eq!(placed.to_string(), format!("{}: start 65536, counted from 0", refusal));
+        } else {
+            assert_eq!((placed, placed.place()), (refusal, None));
+        }
+    }
 }
 
 /// Numbers that the table does not have yet.
 #[test]
 fn a_number_to_come_is_a_refusal_too() {
     let cause = "a cause that this version of the wrapper does not know";
-    for number in [16, 24, 255, u32::MAX] {
-        let refusal = Refusal::of(number).expect("a refusal");
+    for number in [16, 17, 19, 24, 255, u32::MAX] {
+        let refusal = Refusal::of(number, Some(3)).expect("a refusal");
         assert_eq!(refusal.number(), number);
         assert_eq!(refusal.to_string(), format!("refused by {}: {}", number, cause));
     }

@@ -110,7 +110,7 @@ fn what_is_allocated_is_bounded_by_the_largest_board() {
     let mut file = vec![1, 0, 1, 0, 1, 0, 1, 0, 0, 0, 0, 0];
     file.extend(1_000_000u32.to_le_bytes());
     file.resize(16 + 8 * 1_000_000, 0);
-    let reading = asked_for(|| assert_eq!(read_scenario(&file), Err(Refusal::StartCell)));
+    let reading = asked_for(|| assert_eq!(read_scenario(&file), Err(Refusal::StartOrder { place: Some(1) })));
     assert_eq!(reading, 65_536 * (4 + 8));
 
     let starts = vec![Start { cell: 0, time: 0 }; 1_000_000];

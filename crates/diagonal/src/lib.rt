@@ -33,8 +33,5 @@ pub fn diagonal(slowness: u32) -> Reply
     if slowness > 4095 {
         return eikonal::refused(eikonal::cause(5));
     }
-    Reply {
-        number: 0,
-        count: step(slowness),
-    }
+    eikonal::counted(step(slowness))
 }

@@ -3,6 +3,7 @@ use mathlib.Core.Path.{_≡_, refl, sym}
 use Prim.Native.Nat.{ℕ}
 use native.Mathlib.Decide.{ℕ-discrete}
 use borrow.Author.Tests.{eq-eqb, ne-eqb}
+use Rattle.eikonal.specs.Refusals.{none}
 use Rattle.eikonal.specs.Ledger.{answer, answered}
 use Rattle.eikonal.specs.declared.Refusal.{Refusal}
 
@@ -13,10 +14,10 @@ answered-number k c = elim (ℕ-discrete (k .number) 0) [
   | no q ↦ rw (ne-eqb (k .number) 0 q) refl
 ]
 
-pub answered-zero : (k : Refusal) (c : ℕ) → k .number ≡ 0 → answered k c ≡ answer 0 c
+pub answered-zero : (k : Refusal) (c : ℕ) → k .number ≡ 0 → answered k c ≡ answer none c
 unfolding answered
 answered-zero k c e = rw (eq-eqb (k .number) 0 e)
 
-pub answered-refused : (k : Refusal) (c : ℕ) → (k .number ≡ 0 → ⊥) → answered k c ≡ answer (k .number) 0
+pub answered-refused : (k : Refusal) (c : ℕ) → (k .number ≡ 0 → ⊥) → answered k c ≡ answer k 0
 unfolding answered
 answered-refused k c h = rw (ne-eqb (k .number) 0 h)

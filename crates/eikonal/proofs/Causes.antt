@@ -2,17 +2,24 @@
 use mathlib.Core.Path.{_≡_, refl}
 use mathlib.Core.Bool.{Bool, true, false, not, cond}
 use mathlib.Core.Logic.{_≢_}
-use Prim.Native.Nat.{ℕ, suc}
+use Prim.Native.Nat.{ℕ, suc, _≤_}
 use native.Mathlib.Omega.{arith}
-use lib.Dec.{eqb}
-use borrow.Author.Tests.{eqb-true, eqb-false, eq-eqb, ne-eqb, not-false}
-use Rattle.eikonal.specs.Refusals.{cause, or-else}
+use lib.Dec.{ltb, eqb}
+use borrow.Author.Tests.{ltb-false, eqb-true, eqb-false, eq-eqb, ne-eqb, not-false}
+use Rattle.eikonal.specs.Refusals.{cause, cause-at, at-fault, or-else}
 use Rattle.eikonal.specs.declared.Refusal.{Refusal}
 
 -- what is not refused passes each test
+spared-by : (p : Bool) (k i : ℕ) (q : Refusal) → cond p (cause-at (suc k) i) q .number ≡ 0 → (p ≡ false) × (q .number ≡ 0)
+spared-by true k i q e = absurd (omega arith)
+spared-by false k i q e = (refl, e)
+
 pub passed : (p : Bool) (k : ℕ) (q : Refusal) → cond p (cause (suc k)) q .number ≡ 0 → (p ≡ false) × (q .number ≡ 0)
-passed true k q e = absurd (omega arith)
-passed false k q e = (refl, e)
+passed p k q e = spared-by p k 0 q e
+
+-- and has no start at fault
+pub faultless : (k i n : ℕ) (q : Refusal) → at-fault (suc k) i n q .number ≡ 0 → (n ≤ i) × (q .number ≡ 0)
+faultless k i n q e = let r = spared-by (ltb i n) k i q e in (ltb-false i n (r .0), r .1)
 
 pub fulfilled : (p : Bool) (k : ℕ) (q : Refusal) → cond (not p) (cause (suc k)) q .number ≡ 0 → (p ≡ true) × (q .number ≡ 0)
 fulfilled p k q e = let r = passed (not p) k q e in (not-false p (r .0), r .1)

@@ -11,10 +11,13 @@ use lib.ListN.{length, getD}
 use borrow.Author.Tests.{eqb-true, eqb-false, leb-true, ltb-false}
 use Rattle.eikonal.specs.Board.{Board, size, slowness, never, start-time}
 use Rattle.eikonal.specs.declared.Start.{Start}
-use Rattle.eikonal.specs.Refusals.{Handed, handed, handed-refusal, starts-refusal, side-good, sides-good, any-above, starts-rise, late, on-wall}
+use Rattle.eikonal.specs.Refusals.{Handed, handed, handed-refusal, starts-refusal, side-good, sides-good, any-above}
+use Rattle.eikonal.specs.Refusals.{first-off, first-low, late, on-wall, records-refusal}
 use Rattle.eikonal.specs.Promise.{board-good}
 use Rattle.eikonal.specs.Inner.Good.{Known, Good}
-use Rattle.eikonal.proofs.Causes.{passed, fulfilled}
+use Rattle.eikonal.specs.Inner.Judge.{starts-rise}
+use Rattle.eikonal.proofs.Causes.{passed, fulfilled, faultless, neither}
+use Rattle.eikonal.proofs.Faults.{rises}
 
 pub and-true : (p q : Bool) → p && q ≡ true → (p ≡ true) × (q ≡ true)
 and-true true q e = (refl, e)
@@ -63,39 +66,55 @@ sides-within w h e =
     let both = and-true (side-good w) (side-good h) e in
     (side w (both .0) .0, side w (both .0) .1, side h (both .1) .0, side h (both .1) .1)
 
+-- what is known of starts that are not refused: of the records, and of the ground below them
+pub rising : (n : ℕ) (xs : List Start) → records-refusal n xs .number ≡ 0 → (starts-rise n 0 xs ≡ true) × (late xs ≡ false)
+unfolding records-refusal
+rising n xs e =
+    let r7 = faultless _ (first-off n xs) (length xs) _ e in
+    let r18 = faultless _ (first-low xs) (length xs) _ (r7 .1) in
+    (rises n 0 0 xs (r7 .0) (r18 .0), passed (late xs) _ _ (r18 .1) .0)
+
+pub record Sound (b : Board) : Type 0 where
+  pub rise : starts-rise (size b) 0 (b .starts) ≡ true
+  pub early : late (b .starts) ≡ false
+  pub free : on-wall b (b .starts) ≡ false
+
+pub sound : (b : Board) → starts-refusal b .number ≡ 0 → Sound b
+unfolding starts-refusal
+sound b e =
+    let r = neither (records-refusal (size b) (b .starts)) _ e in
+    let s = rising (size b) (b .starts) (r .0) in
+    record { rise = s .0; early = s .1; free = passed (on-wall b (b .starts)) _ _ (r .1) .0 }
+
 -- what is known of a board that was handed in and is not refused
 pub record Accepted (p : Handed) : Type 0 where
   pub paired : p .paired ≡ true
   pub good : Good (p .board)
-  pub rise : starts-rise (size (p .board)) 0 (p .board .starts) ≡ true
-  pub timely : late (p .board .starts) ≡ false
+  pub starts : Sound (p .board)
 
 pub accepted : (p : Handed) → handed-refusal p .number ≡ 0 → Accepted p
-unfolding handed-refusal starts-refusal slowness
+unfolding handed-refusal slowness
 accepted p e =
     let b = p .board in
     let r2 = fulfilled (sides-good (b .wide) (b .high)) _ _ e in
     let r4 = fulfilled (p .paired && eqb (length (b .slow)) (size b)) _ _ (r2 .1) in
     let r5 = passed (any-above 4095 (b .slow)) _ _ (r4 .1) in
-    let r7 = fulfilled (starts-rise (size b) 0 (b .starts)) _ _ (r5 .1) in
-    let r8 = passed (late (b .starts)) _ _ (r7 .1) in
-    let r9 = passed (on-wall b (b .starts)) _ _ (r8 .1) in
-    let s = sides-within (b .wide) (b .high) (r2 .0) in
+    let s = sound b (r5 .1) in
+    let sides = sides-within (b .wide) (b .high) (r2 .0) in
     let even = and-true (p .paired) (eqb (length (b .slow)) (size b)) (r4 .0) in
     record {
       paired = even .0;
       good = record {
-        wide-low = s .0;
-        wide-high = s .1;
-        high-low = s .2;
-        high-high = s .3;
+        wide-low = sides .0;
+        wide-high = sides .1;
+        high-low = sides .2;
+        high-high = sides .3;
         slow-length = eqb-true (length (b .slow)) (size b) (even .1);
         slow-most = none-above 4095 (b .slow) (r5 .0);
-        starts-known = none-late (b .starts) (r8 .0);
-        walls-free = none-on-wall b (b .starts) (r9 .0);
+        starts-known = none-late (b .starts) (s .early);
+        walls-free = none-on-wall b (b .starts) (s .free);
       };
-      rise = r7 .0;
-      timely = r8 .0;
+      starts = s;
     }
 
 pub good : (b : Board) → board-good b ≡ true → Good b

@@ -1,23 +1,25 @@
 -- Starts judged in parts: two parts, one start more, and what the judgement of a whole list says.
 use mathlib.Core.Path.{_≡_, refl, sym, ap, _∙_}
-use mathlib.Core.Bool.{Bool, true, false, not, _&&_, _||_, or-false, or-assoc}
+use mathlib.Core.Bool.{Bool, true, false, _||_, or-false, or-assoc, cond}
 use mathlib.Core.List.{List, [], _∷_, _++_}
-use Prim.Native.Nat.{ℕ, zero, suc, _≤_, _<_, min}
+use Prim.Native.Nat.{ℕ, zero, suc, _+_, _≤_, _<_, min}
 use native.Mathlib.Omega.{arith}
 use lib.Dec.{ltb, leb, eqb}
 use lib.ListN.{length, getD, take, length-take}
 use lib.Seq.{take-suc}
 use Rattle.eikonal.specs.Board.{Board, size, slowness}
 use Rattle.eikonal.specs.declared.Start.{Start}
-use Rattle.eikonal.specs.Refusals.{starts-rise, late, on-wall, starts-refusal, starts-of}
+use borrow.Author.Tests.{eq-eqb, ne-eqb}
+use Rattle.eikonal.specs.Refusals.{cause, cause-at, none, or-else, first-fault, on-board, first-off, first-low, at-fault, late, on-wall, starts-of}
+use Rattle.eikonal.specs.Refusals.{records-refusal, starts-refusal}
 use Rattle.eikonal.specs.declared.refusals.Judged.{Judged}
-use Rattle.eikonal.specs.Inner.Judge.{judge-start, judge, nothing-judged, judged-refusal}
+use Rattle.eikonal.specs.Inner.Judge.{onward, judge-start, judge-by, judge, unwalled, nothing-judged, judged-refusal}
 
 -- ---- two parts
-pub judge-append : (ss : List ℕ) (xs ys : List Start) (j : Judged) → judge ss (xs ++ ys) j ≡ judge ss ys (judge ss xs j)
-unfolding judge
-judge-append ss [] ys j = refl
-judge-append ss (x ∷ xs) ys j = judge-append ss xs ys (judge-start (length ss) (getD ss (x .cell) 0) (x .cell) (x .time) j)
+pub judge-append : (n : ℕ) (f : ℕ → ℕ) (xs ys : List Start) (j : Judged) → judge-by n f (xs ++ ys) j ≡ judge-by n f ys (judge-by n f xs j)
+unfolding judge-by
+judge-append n f [] ys j = refl
+judge-append n f (x ∷ xs) ys j = judge-append n f xs ys (judge-start n (f (x .cell)) (x .cell) (x .time) j)
 
 pub starts-of-append : (cs ts ds us : List ℕ) → length cs ≡ length ts → starts-of (cs ++ ds) (ts ++ us) ≡ starts-of cs ts ++ starts-of ds us
 unfolding starts-of
@@ -26,10 +28,6 @@ starts-of-append [] (t ∷ ts) ds us e = absurd (omega arith)
 starts-of-append (c ∷ cs) [] ds us e = absurd (omega arith)
 starts-of-append (c ∷ cs) (t ∷ ts) ds us e =
     ap (λ (xs : List Start). record { cell = c; time = t } ∷ xs) (starts-of-append cs ts ds us (omega arith))
-
-judge-parts : (ss cs ts ds us : List ℕ) (j : Judged) → length cs ≡ length ts
-    → judge ss (starts-of (cs ++ ds) (ts ++ us)) j ≡ judge ss (starts-of ds us) (judge ss (starts-of cs ts) j)
-judge-parts ss cs ts ds us j e = rw (starts-of-append cs ts ds us e) (judge-append ss (starts-of cs ts) (starts-of ds us) j)
 
 -- ---- the first i entries of both lists
 -- the shorter list ends the starts
@@ -43,44 +41,115 @@ starts-of-take zero (c ∷ cs) (t ∷ ts) h = absurd (omega arith)
 starts-of-take (suc i) (c ∷ cs) (t ∷ ts) h =
     ap (λ (xs : List Start). record { cell = c; time = t } ∷ xs) (starts-of-take i cs ts (omega arith))
 
+pub starts-of-length : (i : ℕ) (cs ts : List ℕ) → length (starts-of (take i cs) (take i ts)) ≤ i
+unfolding starts-of
+starts-of-length zero [] ts = omega arith
+starts-of-length zero (c ∷ cs) ts = omega arith
+starts-of-length (suc i) [] ts = omega arith
+starts-of-length (suc i) (c ∷ cs) [] = omega arith
+starts-of-length (suc i) (c ∷ cs) (t ∷ ts) = omega (arith, starts-of-length i cs ts)
+
 -- one entry more
 pub judge-more : (ss cs ts : List ℕ) (j : Judged) (i : ℕ) → i < length cs → i < length ts →
     judge-start (length ss) (getD ss (getD cs i 0) 0) (getD cs i 0) (getD ts i 0) (judge ss (starts-of (take i cs) (take i ts)) j)
     ≡ judge ss (starts-of (take (suc i) cs) (take (suc i) ts)) j
-unfolding judge starts-of
+unfolding judge-by starts-of
 judge-more ss cs ts j i h k =
     let even : length (take i cs) ≡ length (take i ts) = simp length-take (omega arith) in
-    rw (take-suc cs i 0, take-suc ts i 0, judge-parts ss (take i cs) (take i ts) (getD cs i 0 ∷ []) (getD ts i 0 ∷ []) j even)
+    rw (take-suc cs i 0, take-suc ts i 0, starts-of-append (take i cs) (take i ts) (getD cs i 0 ∷ []) (getD ts i 0 ∷ []) even)
+    (sym (judge-append (length ss) (λ c. getD ss c 0) (starts-of (take i cs) (take i ts)) _ j))
 
 -- ---- the judgement of a whole list
-joined-tests : (o p q : Bool) → (o || not p) || not q ≡ o || not (p && q)
-joined-tests true p q = refl
-joined-tests false true q = refl
-joined-tests false false q = refl
+-- a first fault, kept along the list
+kept-along : (p : (least cell : ℕ) → Bool) → List Start → (least seen first : ℕ) → ℕ
+kept-along p [] l k i = i
+kept-along p (x ∷ xs) l k i = kept-along p xs (suc (x .cell)) (suc k) (onward i k (p l (x .cell)))
 
-judged-off : (ss : List ℕ) (xs : List Start) (j : Judged) → judge ss xs j .off ≡ j .off || not (starts-rise (length ss) (j .least) xs)
-unfolding judge judge-start starts-rise
-judged-off ss [] j = sym (or-false (j .off))
-judged-off ss (x ∷ xs) j =
-    let n = length ss in
-    let c = x .cell in
-    judged-off ss xs (judge-start n (getD ss c 0) c (x .time) j) ∙ joined-tests (j .off) (leb (j .least) c && ltb c n) (starts-rise n (suc c) xs)
+-- one that was met stays, and while none was the next may be it
+met-stays : (p : (least cell : ℕ) → Bool) (xs : List Start) (l k i : ℕ) → i < k → kept-along p xs l k i ≡ i
+unfolding kept-along onward
+met-stays p [] l k i h = refl
+met-stays p (x ∷ xs) l k i h = rw (ne-eqb i k (λ e. omega arith)) (met-stays p xs (suc (x .cell)) (suc k) i (omega arith))
 
-judged-late : (ss : List ℕ) (xs : List Start) (j : Judged) → judge ss xs j .late ≡ j .late || late xs
-unfolding judge judge-start late
-judged-late ss [] j = sym (or-false (j .late))
-judged-late ss (x ∷ xs) j =
-    judged-late ss xs (judge-start (length ss) (getD ss (x .cell) 0) (x .cell) (x .time) j) ∙ or-assoc (j .late) (ltb 1000000 (x .time)) (late xs)
+first-kept : (p : (least cell : ℕ) → Bool) (xs : List Start) (l k : ℕ) → kept-along p xs l k k ≡ k + first-fault p l xs
+unfolding kept-along onward first-fault
+first-kept p [] l k = omega arith
+first-kept p (x ∷ xs) l k = rw (eq-eqb k k refl) (go (p l (x .cell)) (first-kept p xs (suc (x .cell)) (suc k)))
+  where
+    i : ℕ
+    i = first-fault p (suc (x .cell)) xs
 
-judged-walled : (b : Board) (xs : List Start) (j : Judged) → judge (b .slow) xs j .walled ≡ j .walled || on-wall b xs
-unfolding judge judge-start on-wall slowness
-judged-walled b [] j = sym (or-false (j .walled))
-judged-walled b (x ∷ xs) j =
+    go : (q : Bool) → kept-along p xs (suc (x .cell)) (suc k) (suc k) ≡ suc k + i
+        → kept-along p xs (suc (x .cell)) (suc k) (cond q (suc k) k) ≡ k + cond q (suc i) 0
+    go true e = omega (arith, e)
+    go false e = omega (arith, met-stays p xs (suc (x .cell)) (suc k) k (omega arith))
+
+-- field by field
+module _ (n : ℕ) (f : ℕ → ℕ) where
+  pub judged-seen : (xs : List Start) (j : Judged) → judge-by n f xs j .seen ≡ j .seen + length xs
+  unfolding judge-by judge-start
+  judged-seen [] j = omega arith
+  judged-seen (x ∷ xs) j = omega (arith, judged-seen xs (judge-start n (f (x .cell)) (x .cell) (x .time) j))
+
+  judged-late : (xs : List Start) (j : Judged) → judge-by n f xs j .late ≡ j .late || late xs
+  unfolding judge-by judge-start late
+  judged-late [] j = sym (or-false (j .late))
+  judged-late (x ∷ xs) j =
+      judged-late xs (judge-start n (f (x .cell)) (x .cell) (x .time) j) ∙ or-assoc (j .late) (ltb 1000000 (x .time)) (late xs)
+
+  judged-off : (xs : List Start) (j : Judged) → judge-by n f xs j .off ≡ kept-along (on-board n) xs (j .least) (j .seen) (j .off)
+  unfolding judge-by judge-start kept-along
+  judged-off [] j = refl
+  judged-off (x ∷ xs) j = judged-off xs (judge-start n (f (x .cell)) (x .cell) (x .time) j)
+
+  judged-low : (xs : List Start) (j : Judged) → judge-by n f xs j .low ≡ kept-along leb xs (j .least) (j .seen) (j .low)
+  unfolding judge-by judge-start kept-along
+  judged-low [] j = refl
+  judged-low (x ∷ xs) j = judged-low xs (judge-start n (f (x .cell)) (x .cell) (x .time) j)
+
+-- THE JUDGEMENT OF A WHOLE LIST: the causes of the records, then walls, if they were met
+judge-by-refuses : (n : ℕ) (f : ℕ → ℕ) (xs : List Start) (w : Bool) → judge-by n f xs nothing-judged .walled ≡ w
+    → judged-refusal (judge-by n f xs nothing-judged)
+    ≡ at-fault 7 (first-off n xs) (length xs) (at-fault 18 (first-low xs) (length xs) (cond (late xs) (cause 8) (cond w (cause 9) none)))
+unfolding judged-refusal
+judge-by-refuses n f xs w e =
+    let j = judge-by n f xs nothing-judged in
+    let seen : j .seen ≡ length xs = omega (arith, judged-seen n f xs nothing-judged) in
+    let off : j .off ≡ first-off n xs = omega (arith, judged-off n f xs nothing-judged, first-kept (on-board n) xs 0 0) in
+    let low : j .low ≡ first-low xs = omega (arith, judged-low n f xs nothing-judged, first-kept leb xs 0 0) in
+    rw (seen, off, low, judged-late n f xs nothing-judged, e)
+
+-- on a board
+judged-walled : (n : ℕ) (b : Board) (xs : List Start) (j : Judged) → judge-by n (λ c. getD (b .slow) c 0) xs j .walled ≡ j .walled || on-wall b xs
+unfolding judge-by judge-start on-wall slowness
+judged-walled n b [] j = sym (or-false (j .walled))
+judged-walled n b (x ∷ xs) j =
     let s = getD (b .slow) (x .cell) 0 in
-    judged-walled b xs (judge-start (length (b .slow)) s (x .cell) (x .time) j) ∙ or-assoc (j .walled) (eqb s 0) (on-wall b xs)
+    judged-walled n b xs (judge-start n s (x .cell) (x .time) j) ∙ or-assoc (j .walled) (eqb s 0) (on-wall b xs)
 
--- THE JUDGEMENT OF A WHOLE LIST is the starts' refusal
+walls-last : (p q r w : Bool) (i k : ℕ) → cond p (cause-at 7 i) (cond q (cause-at 18 k) (cond r (cause 8) (cond w (cause 9) none)))
+    ≡ or-else (cond p (cause-at 7 i) (cond q (cause-at 18 k) (cond r (cause 8) none))) (cond w (cause 9) none)
+unfolding or-else
+walls-last true q r w i k = refl
+walls-last false true r w i k = refl
+walls-last false false true w i k = refl
+walls-last false false false w i k = refl
+
 pub judge-refuses : (b : Board) → length (b .slow) ≡ size b → judged-refusal (judge (b .slow) (b .starts) nothing-judged) ≡ starts-refusal b
-unfolding judged-refusal starts-refusal
+unfolding starts-refusal records-refusal
 judge-refuses b e =
-    rw (judged-off (b .slow) (b .starts) nothing-judged, judged-late (b .slow) (b .starts) nothing-judged, judged-walled b (b .starts) nothing-judged, e)
+    let n = length (b .slow) in
+    let xs = b .starts in
+    judge-by-refuses n (λ c. getD (b .slow) c 0) xs _ (judged-walled n b xs nothing-judged)
+    ∙ walls-last (ltb (first-off n xs) (length xs)) (ltb (first-low xs) (length xs)) (late xs) (on-wall b xs) (first-off n xs) (first-low xs)
+    ∙ ap (λ (k : ℕ). or-else (records-refusal k xs) (cond (on-wall b xs) (cause 9) none)) e
+
+-- as if there were no walls
+none-walled : (n : ℕ) (xs : List Start) (j : Judged) → judge-by n unwalled xs j .walled ≡ j .walled
+unfolding judge-by judge-start
+none-walled n [] j = refl
+none-walled n (x ∷ xs) j = none-walled n xs (judge-start n 1 (x .cell) (x .time) j) ∙ or-false (j .walled)
+
+pub unwalled-refuses : (n : ℕ) (xs : List Start) → judged-refusal (judge-by n unwalled xs nothing-judged) ≡ records-refusal n xs
+unfolding records-refusal
+unwalled-refuses n xs = judge-by-refuses n unwalled xs false (none-walled n xs nothing-judged)

@@ -7,6 +7,7 @@ pub mod LocalRule
 pub mod Root
 pub mod FirstPass
 pub mod Causes
+pub mod Faults
 pub mod Good
 pub mod Judging
 pub mod Above
@@ -22,6 +23,7 @@ pub mod CutRule
 pub mod Accepted
 pub mod Answers
 pub mod Ledger
+pub mod Places
 pub mod Grid
 pub mod Never
 pub mod Neighbours

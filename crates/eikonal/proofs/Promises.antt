@@ -1,13 +1,18 @@
 -- THE PROMISES, gathered: each statement of specs/Promise.antt with its proof.
-use Rattle.eikonal.specs.Promise.{Local-least, Diagonal-step, One-solution, Times-below, Never-past-horizon, Never-unjoined}
+use Rattle.eikonal.specs.Promise.{Place-is-first, Local-least, Diagonal-step, One-solution, Times-below, Never-past-horizon, Never-unjoined}
 use Rattle.eikonal.specs.Promise.{Round-is-solution, Run-is-march, Rounds-least, Few-rounds, Order-free, Run-order-free, Run-is-rounds, Every-list}
-use Rattle.eikonal.specs.Promise.{Lists-keep}
+use Rattle.eikonal.specs.Promise.{Every-place, Lists-keep}
 use Rattle.eikonal.specs.Promise.{Same-handed, Lists-are-records, Same-answers, Third-condition}
 use Rattle.eikonal.proofs.LocalRule as local-rule
 use Rattle.eikonal.proofs.Solution as solution
 use Rattle.eikonal.proofs.Never as never
 use Rattle.eikonal.proofs.Rounds as rounds
 use Rattle.eikonal.proofs.Ledger as ledger
+use Rattle.eikonal.proofs.Places as places
+
+-- the place of a start at fault
+pub place-is-first : Place-is-first
+place-is-first = places.place-is-first
 
 -- the local rule
 pub local-least : Local-least
@@ -54,12 +59,16 @@ run-is-rounds = ledger.run-is-rounds
 pub every-list : Every-list
 every-list = ledger.every-list
 
+pub every-place : Every-place
+every-place = places.every-place
+
 pub lists-keep : Lists-keep
 lists-keep = ledger.lists-keep
 
 pub third-condition : Third-condition
 third-condition = record {
   every-list = every-list;
+  every-place = every-place;
   round-is-solution = round-is-solution;
   run-is-march = run-is-march;
   rounds-least = rounds-least;

@@ -8,6 +8,7 @@ use lib.ListN.{replicate}
 use borrow.Author.Tests.{eqb-true}
 use Rattle.eikonal.specs.Board.{Board, never, largest, size, slowness, earlier, least-from, square, passes, local, diagonal, start-time, arrival, met}
 use Rattle.eikonal.specs.Board.{time, one-pass, passes-of, all-never, solved, cut, marched}
+use Rattle.eikonal.specs.Refusals.{cause, cause-at}
 use Rattle.eikonal.specs.Ledger.{answer, answered}
 use Rattle.eikonal.specs.Entry.{slowness-refusal}
 use Rattle.eikonal.specs.declared.Reply.{Reply}
@@ -21,7 +22,7 @@ pub data Row : Type 0 where
 -- a pair (a, b) is the time to the left and the time above
 unfoldable pub Holds : Row → Type 0
 Holds (rule-gives s a b t) = local s a never b never ≡ t
-Holds (step-gives s n c) = answered (slowness-refusal s) (diagonal s) ≡ answer n c
+Holds (step-gives s n c) = answered (slowness-refusal s) (diagonal s) ≡ answer (cause n) c
 Holds (march-gives b h ts) = marched b h ≡ ts
 
 unfoldable pub All-hold : List Row → Type 0
@@ -57,7 +58,7 @@ same-list (x ∷ xs) [] = false
 same-list (x ∷ xs) (y ∷ ys) = eqb x y && same-list xs ys
 
 same-reply : Reply → (number count : ℕ) → Bool
-same-reply r n c = eqb (r .number) n && eqb (r .count) c
+same-reply r n c = eqb (r .number) n && (eqb (r .count) c && eqb (r .place) 0)
 
 right : Row → Bool
 right (rule-gives s a b t) = eqb (local s a never b never) t
@@ -78,11 +79,12 @@ list-same (x ∷ xs) (y ∷ ys) e =
     let both = and-true (eqb x y) (same-list xs ys) e in
     ap₂ (λ (a : ℕ) (l : List ℕ). a ∷ l) (eqb-true x y (both .0)) (list-same xs ys (both .1))
 
-reply-same : (r : Reply) (n c : ℕ) → same-reply r n c ≡ true → r ≡ answer n c
+reply-same : (r : Reply) (n c : ℕ) → same-reply r n c ≡ true → r ≡ answer (cause n) c
 unfolding same-reply answer
 reply-same r n c e =
-    let both = and-true (eqb (r .number) n) (eqb (r .count) c) e in
-    ap₂ answer (eqb-true (r .number) n (both .0)) (eqb-true (r .count) c (both .1))
+    let both = and-true (eqb (r .number) n) _ e in
+    let rest = and-true (eqb (r .count) c) (eqb (r .place) 0) (both .1) in
+    λ i. answer (cause-at (eqb-true (r .number) n (both .0) i) (eqb-true (r .place) 0 (rest .1) i)) (eqb-true (r .count) c (rest .0) i)
 
 holds : (r : Row) → right r ≡ true → Holds r
 unfolding right Holds

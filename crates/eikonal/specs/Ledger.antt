@@ -6,7 +6,7 @@ use lib.Dec.{eqb}
 use lib.ListN.{length, drop, replicate}
 use Rattle.eikonal.specs.Board.{Board, size, solved, marched, reached}
 use Rattle.eikonal.specs.Tiles.{round, altered, rounds}
-use Rattle.eikonal.specs.Refusals.{Handed, or-else, handed-refusal, job-refusal, lists-refusal}
+use Rattle.eikonal.specs.Refusals.{Handed, none, or-else, handed-refusal, job-refusal, lists-refusal}
 use Rattle.eikonal.specs.declared.Refusal.{Refusal}
 use Rattle.eikonal.specs.declared.Reply.{Reply}
 use Rattle.eikonal.specs.declared.Job.{Job}
@@ -43,12 +43,12 @@ counted b (March z) ts = reached z (solved b)
 counted b (Round tw th m) ts = altered ts (round b tw th m ts)
 counted b (Run tw th s z) ts = rounds b tw th s z
 
--- a refusal's number with the count 0, or 0 with the count
-unfoldable pub answer : (number count : ℕ) → Reply
-answer n c = record { number = n; count = c }
+-- a refusal's number and place with the count 0, or zeros with the count
+unfoldable pub answer : Refusal → (count : ℕ) → Reply
+answer k c = record { number = k .number; count = c; place = k .place }
 
 unfoldable pub answered : Refusal → (count : ℕ) → Reply
-answered k c = cond (eqb (k .number) 0) (answer 0 c) (answer (k .number) 0)
+answered k c = cond (eqb (k .number) 0) (answer none c) (answer k 0)
 
 unfoldable pub ledger-answer : Call → (times : List ℕ) → Reply
 ledger-answer c ts = answered (refusal c (length ts)) (counted (call-board c) (c .job) ts)

@@ -3,15 +3,15 @@ use mathlib.Core.Path.{_≡_}
 use mathlib.Core.Bool.{Bool, true, false}
 use mathlib.Core.List.{List, [], _∷_, _++_}
 use mathlib.Core.Logic.{_⊎_, _≢_}
-use Prim.Native.Nat.{ℕ, zero, suc, _+_, _*_, _%_, _≤_, _<_, min, max}
+use Prim.Native.Nat.{ℕ, zero, suc, _+_, _*_, _-_, _%_, _≤_, _<_, min, max}
 use lib.Dec.{eqb}
-use lib.ListN.{length}
+use lib.ListN.{length, getD}
 use Rattle.eikonal.specs.Board.{Board, size, slowness, start-time, time, Meets, solved, marched, reached, diagonal, local, never, largest}
 use Rattle.eikonal.specs.Board.{all-never, passes, earlier}
 use Rattle.eikonal.specs.declared.Start.{Start}
 use Rattle.eikonal.specs.Tiles.{Meets-in-tiles, solved-in-tiles, after-rounds, last-round, rounds, up}
 use Rattle.eikonal.specs.Refusals.{Handed, by-lists, by-records, starts-of, cells-of, begins-of, board-refusal, order-good}
-use Rattle.eikonal.specs.Ledger.{Call, call, refusal, ledger-answer, ledger-after, Book, book, ledger}
+use Rattle.eikonal.specs.Ledger.{Call, call, call-board, refusal, ledger-answer, ledger-after, Book, book, ledger}
 use Rattle.eikonal.specs.Entry.{Lent, Says}
 use Rattle.eikonal.specs.declared.Reply.{Reply}
 use Rattle.eikonal.specs.declared.Job.{Job}
@@ -19,6 +19,36 @@ use Rattle.eikonal.specs.declared.Job.the-variants.{March, Round, Run}
 
 unfoldable pub board-good : Board → Bool
 board-good b = eqb (board-refusal b .number) 0
+
+-- ---- THE PLACE OF A START AT FAULT is the position, from 0, of the first that is at fault by that cause
+abbrev pub cell-at : List Start → (place : ℕ) → ℕ
+cell-at xs i = getD (cells-of xs) i 0
+
+-- of so many starts each is on a board of n cells; each is above the one before
+abbrev pub All-on : (n : ℕ) → List Start → (many : ℕ) → Type 0
+All-on n xs k = (i : ℕ) → i < k → cell-at xs i < n
+
+abbrev pub All-rise : List Start → (many : ℕ) → Type 0
+All-rise xs k = (i : ℕ) → suc i < k → cell-at xs i < cell-at xs (suc i)
+
+-- what a number and the place beside it say of the starts xs, on a board of n cells
+pub record First-at-fault (n : ℕ) (xs : List Start) (number place : ℕ) : Type 0 where
+  -- 7: the cell there is off the board, and none before it is
+  pub off : number ≡ 7 → (place < length xs) × (n ≤ cell-at xs place) × All-on n xs place
+  -- 18: the cell there is not above the one before it, every earlier one is above its own, and none in the list is off the board
+  pub low : number ≡ 18 → (1 ≤ place) × (place < length xs) × (cell-at xs place ≤ cell-at xs (place - 1))
+      × All-rise xs place × All-on n xs (length xs)
+  -- 0, and all numbers that are looked for behind both: no start is at fault by either
+  pub right : (number ≡ 0) ⊎ (8 ≤ number) → number ≢ 18 → All-on n xs (length xs) × All-rise xs (length xs)
+  -- any number but these two, 0 too
+  pub rest : number ≢ 7 → number ≢ 18 → place ≡ 0
+
+-- what it says in the answer of a call
+abbrev pub Places : Call → Reply → Type 0
+Places c x = First-at-fault (size (call-board c)) (call-board c .starts) (x .number) (x .place)
+
+unfoldable pub Place-is-first : Type 0
+Place-is-first = (c : Call) (ts : List ℕ) → Places c (ledger-answer c ts)
 
 -- ---- THE LOCAL RULE: its answer passes, and no earlier time does; it is at most a straight step away, and for equal sides D away
 unfoldable pub Local-least : Type 0
@@ -124,10 +154,18 @@ pub data Steps : (times : List ℕ) → List Call → List Reply → (last : Lis
   then : (l m : Lent) (z : List ℕ) (c : Call) (x : Reply) (cs : List Call) (xs : List Reply)
       → Says c x l m → Steps (m .times) cs xs z → Steps (l .times) (c ∷ cs) (x ∷ xs) z
 
--- A SINGLE CLAIM ABOUT THE WHOLE LIST: answers and times are the ledger's
+-- A SINGLE CLAIM ABOUT THE WHOLE LIST: answers, with counts and places, and times are the ledger's
 unfoldable pub Every-list : Type 0
 Every-list =
     (cs : List Call) (xs : List Reply) (a z : List ℕ) → Steps a cs xs z → book xs z ≡ ledger cs [] a
+
+-- and each place is that of the first start at fault
+pub data All-place : List Call → List Reply → Type 0 where
+  done : All-place [] []
+  then : (c : Call) (x : Reply) (cs : List Call) (xs : List Reply) → Places c x → All-place cs xs → All-place (c ∷ cs) (x ∷ xs)
+
+unfoldable pub Every-place : Type 0
+Every-place = (cs : List Call) (xs : List Reply) (a z : List ℕ) → Steps a cs xs z → All-place cs xs
 
 -- the same of a program as a function: one that keeps the ledger in each call keeps it along every list
 pub record Done : Type 0 where
@@ -160,6 +198,7 @@ Same-answers = (c : Call) (x y : Reply) (l m n : Lent) → Says c x l m → Says
 pub record Third-condition : Type 0 where
   -- every list of marches, tile runs and rounds, refused ones too, over records and over plain lists as it comes, is the ledger's
   pub every-list : Every-list
+  pub every-place : Every-place
   -- just one set of times meets the rule in tiles, the one whose cut a round is by definition
   pub round-is-solution : Round-is-solution
   -- a tile run comes to the march, at its first round that can be the last, and soon

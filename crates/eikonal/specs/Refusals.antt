@@ -1,4 +1,4 @@
--- Why boards, marches, rounds and tile runs are refused ("Turned down" of document 01): the causes in the table's order.
+-- Why boards, marches, rounds and tile runs are refused ("Turned down" of document 01, and Card 2): the causes in the order in which they are looked for.
 use mathlib.Core.Bool.{Bool, true, false, _&&_, _||_, not, cond}
 use mathlib.Core.List.{List, [], _∷_, map}
 use Prim.Native.Nat.{ℕ, zero, suc, _*_}
@@ -11,9 +11,12 @@ use Rattle.eikonal.specs.declared.Refusal.{Refusal}
 use Rattle.eikonal.specs.declared.Job.{Job}
 use Rattle.eikonal.specs.declared.Job.the-variants.{March, Round, Run}
 
--- A REFUSAL is a value, the code's own record: the number of its cause, 0 for none
+-- A REFUSAL is a value, the code's own record: the number of its cause, 0 for none; and where a start is at fault, its place in the list, from 0
+abbrev pub cause-at : (number place : ℕ) → Refusal
+cause-at n i = record { number = n; place = i }
+
 abbrev pub cause : (number : ℕ) → Refusal
-cause n = record { number = n }
+cause n = cause-at n 0
 
 abbrev pub none : Refusal
 none = cause 0
@@ -32,10 +35,26 @@ unfoldable pub any-above : (most : ℕ) → List ℕ → Bool
 any-above m [] = false
 any-above m (x ∷ xs) = ltb m x || any-above m xs
 
--- cells on the board, each above the one before
-unfoldable pub starts-rise : (n least : ℕ) → List Start → Bool
-starts-rise n l [] = true
-starts-rise n l (x ∷ xs) = (leb l (x .cell) && ltb (x .cell) n) && starts-rise n (suc (x .cell)) xs
+-- THE FIRST START AT FAULT by a test of its cell and of the least that it may be, which is one more than the cell before it:
+-- its place, or the list's length where none is at fault
+unfoldable pub first-fault : (good : (least cell : ℕ) → Bool) → (least : ℕ) → List Start → ℕ
+first-fault p l [] = 0
+first-fault p l (x ∷ xs) = cond (p l (x .cell)) (suc (first-fault p (suc (x .cell)) xs)) 0
+
+-- a cell on a board of n cells
+abbrev pub on-board : (n least cell : ℕ) → Bool
+on-board n l c = ltb c n
+
+-- the first off the board, and the first not above the one before: the first of all may be any cell
+abbrev pub first-off : (n : ℕ) → List Start → ℕ
+first-off n xs = first-fault (on-board n) 0 xs
+
+abbrev pub first-low : List Start → ℕ
+first-low xs = first-fault leb 0 xs
+
+-- refused with the place of the first at fault, if one of so many is
+abbrev pub at-fault : (number first many : ℕ) → (next : Refusal) → Refusal
+at-fault k i n r = cond (ltb i n) (cause-at k i) r
 
 unfoldable pub late : List Start → Bool
 late [] = false
@@ -45,10 +64,13 @@ unfoldable pub on-wall : Board → List Start → Bool
 on-wall b [] = false
 on-wall b (x ∷ xs) = eqb (slowness b (x .cell)) 0 || on-wall b xs
 
--- 7, 8, 9: each looks at the whole list
+-- 7, 18, 8 of the records alone, on a board of n cells; then 9, which needs the ground: each looks at the whole list
+unfoldable pub records-refusal : (n : ℕ) → List Start → Refusal
+records-refusal n xs =
+    at-fault 7 (first-off n xs) (length xs) (at-fault 18 (first-low xs) (length xs) (cond (late xs) (cause 8) none))
+
 unfoldable pub starts-refusal : Board → Refusal
-starts-refusal b =
-    cond (not (starts-rise (size b) 0 (b .starts))) (cause 7) (cond (late (b .starts)) (cause 8) (cond (on-wall b (b .starts)) (cause 9) none))
+starts-refusal b = or-else (records-refusal (size b) (b .starts)) (cond (on-wall b (b .starts)) (cause 9) none)
 
 -- A BOARD AS IT IS HANDED IN: its starts are records, or plain lists of cells and of times; whether those were of one length
 pub record Handed : Type 0 where
@@ -77,7 +99,7 @@ cells-of xs = map (λ s. s .cell) xs
 unfoldable pub begins-of : List Start → List ℕ
 begins-of xs = map (λ s. s .time) xs
 
--- 2, 4, 5, 7, 8, 9 of a board: plain lists of unequal length are 4 too
+-- 2, 4, 5, 7, 18, 8, 9 of a board: plain lists of unequal length are 4 too
 unfoldable pub handed-refusal : Handed → Refusal
 handed-refusal p =
     let b = p .board in

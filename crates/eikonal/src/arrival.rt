@@ -123,20 +123,14 @@ pub fn local_rule(slowness: u32, left: u32, right: u32, above: u32, below: u32) 
     ensures { λ x. ⌜ Local-says slowness left right above below x ⌝ }
 {
     if slowness > 4095 {
-        return Reply {
-            number: 5,
-            count: 0,
-        };
+        return super::refused(super::cause(5));
     }
-    Reply {
-        number: 0,
-        count: arrival_before(
-            NEVER,
-            slowness,
-            known(left),
-            known(right),
-            known(above),
-            known(below),
-        ),
-    }
+    super::counted(arrival_before(
+        NEVER,
+        slowness,
+        known(left),
+        known(right),
+        known(above),
+        known(below),
+    ))
 }

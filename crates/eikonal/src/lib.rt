@@ -3,7 +3,7 @@ pub mod arrival;
 pub mod refusals;
 
 ghost use mathlib.Core.Path.{_≡_};
-ghost use Rattle.eikonal.specs.Refusals.{cause};
+ghost use Rattle.eikonal.specs.Refusals.{cause, cause-at, none};
 ghost use Rattle.eikonal.specs.Ledger.{answer};
 
 // A front begins at a cell at a time.
@@ -31,29 +31,51 @@ pub enum Job {
     },
 }
 
-// Why a call is refused: the number of the cause, 0 if it is not.
+// Why a call is refused: the number of the cause, 0 if it is not; and where a start is at fault, its place in the list.
 pub struct Refusal {
     pub number: u32,
+    pub place: usize,
+}
+
+pub fn cause_at(number: u32, place: usize) -> Refusal
+    ensures { λ r. ⌜ r ≡ cause-at number place ⌝ }
+{
+    Refusal {
+        number: number,
+        place: place,
+    }
 }
 
 pub fn cause(number: u32) -> Refusal
     ensures { λ r. ⌜ r ≡ cause number ⌝ }
 {
-    Refusal { number: number }
+    cause_at(number, 0)
 }
 
-// A call's answer: number 0 and a count, or a refusal's number and the count 0.
+// A call's answer: number 0 and a count, or a refusal's number and place and the count 0.
 #[repr(C)]
 pub struct Reply {
     pub number: u32,
     pub count: u32,
+    pub place: usize,
 }
 
 pub fn refused(refusal: Refusal) -> Reply
-    ensures { λ r. ⌜ r ≡ answer (refusal .number) 0 ⌝ }
+    ensures { λ r. ⌜ r ≡ answer refusal 0 ⌝ }
 {
     Reply {
         number: refusal.number,
         count: 0,
+        place: refusal.place,
+    }
+}
+
+pub fn counted(count: u32) -> Reply
+    ensures { λ r. ⌜ r ≡ answer none count ⌝ }
+{
+    Reply {
+        number: 0,
+        count: count,
+        place: 0,
     }
 }

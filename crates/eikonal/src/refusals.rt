@@ -1,16 +1,17 @@
-// Whether a board is refused, and why: 2, 4, 5, 7, 8 or 9.
+// Whether a board is refused, and why: 2, 4, 5, 7, 18, 8 or 9.
 ghost use mathlib.Core.Path.{_≡_};
-ghost use mathlib.Core.Bool.{_&&_, not};
+ghost use mathlib.Core.Bool.{cond};
 ghost use mathlib.Core.List.{List};
-ghost use Prim.Native.Nat.{min};
-ghost use lib.Dec.{ltb, leb, eqb};
-ghost use lib.ListN.{getD};
+ghost use Prim.Native.Nat.{suc, _<_, min};
+ghost use lib.Dec.{ltb, eqb};
+ghost use lib.ListN.{length, getD};
 ghost use Rattle.eikonal.specs.Board.{board-of};
 ghost use Rattle.eikonal.specs.declared.Start.{Start};
-ghost use Rattle.eikonal.specs.Refusals.{side-good, any-above, starts-of, handed, handed-refusal};
-ghost use Rattle.eikonal.specs.Inner.Judge.{nothing-judged, judge-start, judge, judged-refusal};
+ghost use Rattle.eikonal.specs.Refusals.{cause-at, side-good, any-above, starts-of, handed, handed-refusal};
+ghost use Rattle.eikonal.specs.Inner.Judge.{nothing-judged, onward, judge-start, judge, Countable, judged-refusal};
 use super::Refusal;
 use super::cause;
+use super::cause_at;
 
 // A side of a board or of a tile.
 pub fn side_good(n: u32) -> bool
@@ -35,10 +36,13 @@ pub fn any_above(list: &[u32], most: u32) -> bool
     found
 }
 
-// What the starts looked at so far leave: the least cell that the next may have, and which causes were met.
+// What the starts looked at so far leave: how many they are, the least cell that the next may have, the places of the first off the board and of
+// the first not above the one before, each as many as were looked at while there is none, and which other causes were met.
 pub struct Judged {
+    pub seen: usize,
     pub least: usize,
-    pub off: bool,
+    pub off: usize,
+    pub low: usize,
     pub late: bool,
     pub walled: bool,
 }
@@ -47,24 +51,24 @@ pub fn nothing_judged() -> Judged
     ensures { λ r. ⌜ r ≡ nothing-judged ⌝ }
 {
     Judged {
+        seen: 0,
         least: 0,
-        off: false,
+        off: 0,
+        low: 0,
         late: false,
         walled: false,
     }
 }
 
-// A cell off a board of n cells, or below the least that it may be.
-fn is_off(n: usize, least: usize, cell: usize) -> bool
-    ensures { λ r. ⌜ r ≡ not (leb least cell && ltb cell n) ⌝ }
+// The place of the first start at fault, where one more was looked at: it goes along with the count while all are good.
+fn onward(first: usize, seen: usize, good: bool) -> usize
+    requires { ⌜ suc seen < 18446744073709551616 ⌝ }
+    ensures { λ r. ⌜ r ≡ onward first seen good ⌝ }
 {
-    if cell < least {
-        return true;
+    if !good {
+        return first;
     }
-    if n <= cell {
-        return true;
-    }
-    false
+    if first == seen { seen + 1 } else { first }
 }
 
 fn is_late(time: u32) -> bool
@@ -77,13 +81,16 @@ fn is_late(time: u32) -> bool
 }
 
 // One start more, on a board of n cells, with the slowness of its cell.
-fn judge_start(n: usize, slow: u32, cell: u32, time: u32, so_far: Judged) -> Judged
+pub fn judge_start(n: usize, slow: u32, cell: u32, time: u32, so_far: Judged) -> Judged
+    requires { ⌜ Countable 1 «so_far» ⌝ }
     ensures { λ r. ⌜ r ≡ judge-start n slow cell time «so_far» ⌝ }
 {
     let at = cell as usize;
     Judged {
+        seen: so_far.seen + 1,
         least: at + 1,
-        off: so_far.off | is_off(n, so_far.least, at),
+        off: onward(so_far.off, so_far.seen, at < n),
+        low: onward(so_far.low, so_far.seen, so_far.least <= at),
         late: so_far.late | is_late(time),
         walled: so_far.walled | (slow == 0),
     }
@@ -108,6 +115,7 @@ pub fn shorter(a: usize, b: usize) -> usize
 
 // The starts of a part of the lists, after those judged so far. Of lists of unequal length the shorter counts.
 pub fn judge_starts(slow: &[u32], cells: &[u32], begins: &[u32], so_far: Judged) -> Judged
+    requires { ⌜ Countable (min (length (now cells)) (length (now begins))) «so_far» ⌝ }
     ensures { λ r. ⌜ r ≡ judge (now (slow .entry)) (starts-of (now (cells .entry)) (now (begins .entry))) «so_far» ⌝ }
 {
     let n = shorter(cells.len(), begins.len());
@@ -121,20 +129,26 @@ pub fn judge_starts(slow: &[u32], cells: &[u32], begins: &[u32], so_far: Judged)
     judged
 }
 
-// 7, 8, 9: each for the whole list, in their order.
+// The refusal by a cause where it was met, or else the next one.
+fn when(met: bool, number: u32, place: usize, next: Refusal) -> Refusal
+    ensures { λ r. ⌜ r ≡ cond met (cause-at number place) next ⌝ }
+{
+    if met {
+        return cause_at(number, place);
+    }
+    next
+}
+
+// 7, 18, 8, 9: each for the whole list, the last one first, so that those before it hide it.
 pub fn judged_refusal(judged: Judged) -> Refusal
     ensures { λ r. ⌜ r ≡ judged-refusal judged ⌝ }
 {
-    if judged.off {
-        return cause(7);
-    }
-    if judged.late {
-        return cause(8);
-    }
-    if judged.walled {
-        return cause(9);
-    }
-    cause(0)
+    let off = judged.off < judged.seen;
+    let low = judged.low < judged.seen;
+    let by_9 = when(judged.walled, 9, 0, cause(0));
+    let by_8 = when(judged.late, 8, 0, by_9);
+    let by_18 = when(low, 18, judged.low, by_8);
+    when(off, 7, judged.off, by_18)
 }
 
 // A board whose starts are judged, whether they are records or plain lists; of these the lengths matter here.

@@ -6,10 +6,10 @@ use mathlib.Core.List.{List, [], _++_}
 use Prim.Native.Nat.{ℕ, _*_, _≤_}
 use lib.ListN.{length, drop, replicate}
 use Rattle.eikonal.specs.Board.{largest}
-use Rattle.eikonal.specs.Refusals.{starts-rise, order-good}
+use Rattle.eikonal.specs.Refusals.{none, order-good}
 use Rattle.eikonal.specs.Ledger.{Call, call-board, refusal, entered, counted, answer}
 use Rattle.eikonal.specs.Inner.Good.{Good}
-use Rattle.eikonal.specs.Inner.Judge.{judge, nothing-judged}
+use Rattle.eikonal.specs.Inner.Judge.{starts-rise, judge, nothing-judged}
 use Rattle.eikonal.specs.declared.Start.{Start}
 use Rattle.eikonal.specs.declared.Reply.{Reply}
 use Rattle.eikonal.specs.declared.Job.{Job}
@@ -94,5 +94,5 @@ abbrev pub Endable : Task → Job → (slow order times work : List ℕ) → Typ
 Endable t j ss xs ts v = t .refusal .number ≡ 0 → Some-standing (t .shape) ss ts v × Doable j (t .shape) xs
 
 pub record Ended (t : Task) (j : Job) (slow : List ℕ) (x : Reply) (times times' work work' : List ℕ) : Type 0 where
-  pub turned-down : t .refusal .number ≢ 0 → (x ≡ answer (t .refusal .number) 0) × (times' ≡ times) × (work' ≡ work)
-  pub gone-through : t .refusal .number ≡ 0 → (x ≡ answer 0 (x .count)) × Goes j (t .shape) slow (x .count) times times' work work'
+  pub turned-down : t .refusal .number ≢ 0 → (x ≡ answer (t .refusal) 0) × (times' ≡ times) × (work' ≡ work)
+  pub gone-through : t .refusal .number ≡ 0 → (x ≡ answer none (x .count)) × Goes j (t .shape) slow (x .count) times times' work work'

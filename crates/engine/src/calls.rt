@@ -121,11 +121,7 @@ pub fn end(
     if task.refusal.number != 0 {
         return eikonal::refused(task.refusal);
     }
-    let count = super::seeded::job(task.shape, job, slow, order, times, work);
-    Reply {
-        number: 0,
-        count: count,
-    }
+    eikonal::counted(super::seeded::job(task.shape, job, slow, order, times, work))
 }
 
 fn play(

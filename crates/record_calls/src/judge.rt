@@ -3,7 +3,7 @@ ghost use mathlib.Core.Path.{_≡_};
 ghost use Prim.Native.Nat.{_≤_};
 ghost use lib.ListN.{length, take};
 ghost use Rattle.eikonal.specs.Refusals.{starts-of};
-ghost use Rattle.eikonal.specs.Inner.Judge.{judge, nothing-judged};
+ghost use Rattle.eikonal.specs.Inner.Judge.{judge, nothing-judged, Countable};
 use eikonal::Start;
 use eikonal::refusals::Judged;
 use eikonal::refusals::judge_starts;
@@ -11,7 +11,7 @@ use eikonal::refusals::nothing_judged;
 use records::parts::Part;
 
 fn judge_part(slow: &[u32], part: Part, so_far: Judged) -> Judged
-    requires { ⌜ (part .count ≤ length (part .cells)) × (part .count ≤ length (part .begins)) ⌝ }
+    requires { ⌜ (part .count ≤ length (part .cells)) × (part .count ≤ length (part .begins)) × Countable (part .count) «so_far» ⌝ }
     ensures { λ r. ⌜ r ≡ judge (now (slow .entry)) (starts-of (take (part .count) (part .cells)) (take (part .count) (part .begins))) «so_far» ⌝ }
 {
     let count = part.count;

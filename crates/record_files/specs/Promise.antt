@@ -3,7 +3,7 @@ use mathlib.Core.Path.{_≡_}
 use mathlib.Core.List.{List, _++_}
 use Prim.Native.Nat.{ℕ, _*_, _≤_}
 use lib.ListN.{length, take, drop}
-use Rattle.eikonal.specs.Refusals.{by-lists, by-records, cells-of, begins-of}
+use Rattle.eikonal.specs.Refusals.{none, by-lists, by-records, cells-of, begins-of}
 use Rattle.eikonal.specs.Ledger.{answer}
 use Rattle.eikonal.specs.declared.Reply.{Reply}
 use Rattle.eikonal.specs.declared.Start.{Start}
@@ -30,7 +30,7 @@ Records-read-then-write =
     (f slow slow-now : List ℕ) (ys ys-now : List Start) (x : Scenario) (out out-now : List ℕ) (y : Reply) → Bytes f →
     Reads f slow slow-now (cells-of ys) (cells-of ys-now) (begins-of ys) (begins-of ys-now) x → x .number ≡ 0 →
     Writes (by-records (x .width) (x .height) (take (x .width * x .height) slow-now) (take (x .starts) ys-now)) (x .ticks) (x .ground) out out-now y →
-    length f ≤ length out → (y ≡ answer 0 (length f)) × (out-now ≡ f ++ drop (length f) out)
+    length f ≤ length out → (y ≡ answer none (length f)) × (out-now ≡ f ++ drop (length f) out)
 
 -- WRITTEN from records, THEN READ into records that are long enough, a board is the same board
 unfoldable pub Records-write-then-read : Type 0
@@ -39,4 +39,4 @@ Records-write-then-read =
     Writes (by-records w h slow zs) t g out out-now y → y .number ≡ 0 →
     Reads (take (y .count) out-now) s s-now (cells-of ys) (cells-of ys-now) (begins-of ys) (begins-of ys-now) x →
     length slow ≤ length s → length zs ≤ length ys →
-    (x ≡ scenario 0 w h t g (length zs)) × (s-now ≡ slow ++ drop (length slow) s) × (ys-now ≡ zs ++ drop (length zs) ys)
+    (x ≡ scenario none w h t g (length zs)) × (s-now ≡ slow ++ drop (length slow) s) × (ys-now ≡ zs ++ drop (length zs) ys)

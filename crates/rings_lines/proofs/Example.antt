@@ -4,7 +4,7 @@ use mathlib.Core.List.{List, [], _∷_}
 use Prim.Native.Nat.{ℕ}
 use Rattle.eikonal.specs.Board.{size, slowness, earlier, least-from, square, passes, local, start-time, arrival, met, time}
 use Rattle.eikonal.specs.Board.{one-pass, passes-of, all-never, solved, cut, marched}
-use Rattle.eikonal.specs.Refusals.{or-else, side-good, sides-good, any-above, starts-rise, late, on-wall, starts-refusal}
+use Rattle.eikonal.specs.Refusals.{or-else, side-good, sides-good, any-above, first-fault, late, on-wall, records-refusal, starts-refusal}
 use Rattle.eikonal.specs.Tiles.{up}
 use Rattle.scenario.specs.Bytes.{two, four, records}
 use Rattle.scenario.specs.Runs.{painted, runs-good}
@@ -25,6 +25,6 @@ its-lines : lines bytes
     ∷ 50 ∷ 32 ∷ 51 ∷ 32 ∷ 52 ∷ 10 ∷ []
 unfolding lines board-lines rings-refusal head-line rows behind turn-text decimal digits small-refusal sides-small turn-of up file-refusal
     head-refusal runs-refusal length-good sides-good ticks-good held starts-in runs-in head-in start-in painted runs-good two four
-    records or-else side-good any-above starts-rise late on-wall starts-refusal size slowness
+    records or-else side-good any-above first-fault late on-wall records-refusal starts-refusal size slowness
     earlier least-from square passes local start-time arrival met time one-pass passes-of all-never solved cut marched bytes
 its-lines = refl

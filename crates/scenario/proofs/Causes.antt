@@ -9,7 +9,8 @@ use lib.Dec.{ltb, leb}
 use lib.ListN.{length}
 use borrow.Author.Tests.{ltb-false, le-ltb, eqb-true, eq-eqb, leb-true, le-leb, ltb-true, not-false, not-true}
 use Rattle.eikonal.specs.Board.{Board, size}
-use Rattle.eikonal.specs.Refusals.{or-else, sides-good, any-above, starts-rise, late, on-wall, starts-refusal}
+use Rattle.eikonal.specs.Refusals.{or-else, sides-good, any-above, late, starts-refusal}
+use Rattle.eikonal.specs.Inner.Judge.{starts-rise}
 use Rattle.eikonal.specs.declared.Start.{Start}
 use Rattle.eikonal.proofs.Causes.{fulfilled, passed, neither}
 use Rattle.eikonal.proofs.Good.{and-true, or-false, sides-within}
@@ -71,7 +72,7 @@ laid f e =
       runs = fulfilled (runs-good (size (held f)) g 0 g (runs-in f)) 5 _ (r5 .1) .0;
     }
 
--- and 7, 8, 9
+-- and 7, 18, 8, 9
 pub record Accepted (f : List ℕ) : Type 0 where
   pub front : Headed f
   pub rest : Laid f
@@ -102,18 +103,6 @@ accepts f a =
 pub size-most : (b : Board) → sides-good (b .wide) (b .high) ≡ true → size b ≤ 65536
 unfolding size
 size-most b e = let s = sides-within (b .wide) (b .high) e in mul-le-mul (s .1) (s .3)
-
-pub record Sound (b : Board) : Type 0 where
-  pub rise : starts-rise (size b) 0 (b .starts) ≡ true
-  pub early : late (b .starts) ≡ false
-  pub free : on-wall b (b .starts) ≡ false
-
-pub sound : (b : Board) → starts-refusal b .number ≡ 0 → Sound b
-unfolding starts-refusal
-sound b e =
-    let r7 = fulfilled (starts-rise (size b) 0 (b .starts)) 6 _ e in
-    let r8 = passed (late (b .starts)) 7 _ (r7 .1) in
-    record { rise = r7 .0; early = r8 .0; free = passed (on-wall b (b .starts)) 8 _ (r8 .1) .0 }
 
 -- cells that rise are no more than the board has
 pub rise-count : (n l : ℕ) (xs : List Start) → starts-rise n l xs ≡ true → l ≤ n → l + length xs ≤ n

@@ -8,7 +8,7 @@ use lib.ListN.{length, take, drop, length-map}
 use lib.Seq.{take-at}
 use borrow.Author.Tests.{eq-eqb, eqb-true, le-ltb, le-leb}
 use Rattle.eikonal.specs.Board.{size}
-use Rattle.eikonal.specs.Refusals.{or-else, any-above, Handed, handed, by-records, by-lists, starts-of, cells-of, begins-of}
+use Rattle.eikonal.specs.Refusals.{none, or-else, any-above, Handed, handed, by-records, by-lists, starts-of, cells-of, begins-of}
 use Rattle.eikonal.specs.Ledger.{answer}
 use Rattle.eikonal.specs.Promise.{Same-handed, Lists-are-records}
 use Rattle.eikonal.specs.declared.Reply.{Reply}
@@ -72,10 +72,10 @@ module _ (f : List ℕ) (h : Bytes f) (e : file-refusal f .number ≡ 0) where
 
 -- what an accepted call of the writer leaves
 wrote : (p : Handed) (t g : ℕ) (out out-now f : List ℕ) (y : Reply) → Writes p t g out out-now y → writer-refusal p t g (length out) .number ≡ 0
-    → written p t g ≡ f → (y ≡ answer 0 (length f)) × (out-now ≡ f ++ drop (length f) out)
+    → written p t g ≡ f → (y ≡ answer none (length f)) × (out-now ≡ f ++ drop (length f) out)
 unfolding answer
 wrote p t g out out-now f y w e q =
-    let is : y ≡ answer 0 (length f) = w .answers ∙ answered-zero _ _ e ∙ ap (λ u. answer 0 (length u)) q in
+    let is : y ≡ answer none (length f) = w .answers ∙ answered-zero _ _ e ∙ ap (λ u. answer none (length u)) q in
     (is, w .leaves ∙ rw q (filled-in (y .number) f out (ap (λ u. u .number) is)))
 
 -- what an accepted call of the reader has read
@@ -133,7 +133,7 @@ module _ (p : Handed) (t g : ℕ) (k : Taken p t g) where
       rw (found .0, found-sides .0, found-sides .1, found-count, le-leb (b .wide * b .high) n (omega (arith, k .given .long)), le-leb (length (b .starts)) q m)
 
   found-answer : (n q : ℕ) → length (p .board .slow) ≤ n → length (p .board .starts) ≤ q → let f = written p t g in
-      reader-answer (reader-refusal f n q) f ≡ scenario 0 (p .board .wide) (p .board .high) t g (length (p .board .starts))
+      reader-answer (reader-refusal f n q) f ≡ scenario none (p .board .wide) (p .board .high) t g (length (p .board .starts))
   unfolding scenario-of
   found-answer n q l m =
       reader-zero _ (written p t g) (found-refusal n q l m) ∙ rw (found-sides .0, found-sides .1, found .2, found .3, found-count) refl
@@ -146,17 +146,17 @@ pub write-then-read : Write-then-read
 unfolding Write-then-read Lists-are-records by-lists cells-of answer scenario
 write-then-read w h t g slow cells begins out out-now y s s-now c c-now b b-now x wr z rd ls lc lb =
     let p = by-lists w h slow cells begins in
-    let none : writer-refusal p t g (length out) .number ≡ 0 = sym (answered-number _ _) ∙ ap (λ u. u .number) (sym (wr .answers)) ∙ z in
-    let k = took p t g (length out) none .0 in
+    let taken : writer-refusal p t g (length out) .number ≡ 0 = sym (answered-number _ _) ∙ ap (λ u. u .number) (sym (wr .answers)) ∙ z in
+    let k = took p t g (length out) taken .0 in
     let pair = lists-are-records cells begins (eqb-true _ _ (k .given .paired)) in
     let many = ap length (pair .0) ∙ length-map (starts-of cells begins) (λ u. u .cell) in
-    let done = wrote p t g out out-now (written p t g) y wr none refl in
+    let done = wrote p t g out out-now (written p t g) y wr taken refl in
     let back : take (y .count) out-now ≡ written p t g =
     ap₂ take (ap (λ u. u .count) (done .0)) (done .1) ∙ take-at (written p t g) _ (length (written p t g)) refl in
     let r = rw back at rd in
     let is = r .answers ∙ found-answer p t g k (length s) (min (length c) (length b)) ls (omega (arith, many)) in
     let zero = ap (λ u. u .number) is in (
-      is ∙ ap (scenario 0 w h t g) (sym many),
+      is ∙ ap (scenario none w h t g) (sym many),
       begins-with (x .number) _ slow s s-now zero (r .slow-holds) (ap (λ u. u .slow) (found p t g k .1)),
       begins-with (x .number) _ cells c c-now zero (r .cells-hold) (ap cells-of (found-starts p t g k) ∙ sym (pair .0)),
       begins-with (x .number) _ begins b b-now zero (r .begins-hold) (ap begins-of (found-starts p t g k) ∙ sym (pair .1)),

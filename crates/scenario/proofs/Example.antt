@@ -3,7 +3,7 @@ use mathlib.Core.Path.{_≡_, refl}
 use mathlib.Core.List.{List, [], _∷_}
 use Prim.Native.Nat.{ℕ}
 use Rattle.eikonal.specs.Board.{Board, size, slowness}
-use Rattle.eikonal.specs.Refusals.{none, or-else, side-good, sides-good, any-above, starts-rise, late, on-wall, starts-refusal}
+use Rattle.eikonal.specs.Refusals.{none, or-else, side-good, sides-good, any-above, first-fault, late, on-wall, records-refusal, starts-refusal}
 use Rattle.scenario.specs.Bytes.{two, four, two-bytes, four-bytes, records, bytes-of}
 use Rattle.scenario.specs.Runs.{run, end, painted, run-good, runs-good, closed, runs-on, runs-of}
 use Rattle.scenario.specs.File.{head-bytes, run-bytes, start-bytes, head-of, front, file-of, head-in, run-in, start-in, runs-in, starts-in, held}
@@ -24,6 +24,7 @@ unfolding file-of head-of front head-bytes two-bytes four-bytes bytes-of run-byt
 its-bytes = refl
 
 its-refusal : file-refusal bytes ≡ none
-unfolding file-refusal head-refusal runs-refusal length-good sides-good ticks-good or-else side-good any-above starts-refusal starts-rise late on-wall
+unfolding file-refusal head-refusal runs-refusal length-good sides-good ticks-good or-else side-good any-above starts-refusal records-refusal first-fault
+    late on-wall
     slowness size held head-in runs-in starts-in records run-in start-in run end painted run-good runs-good two four bytes
 its-refusal = refl

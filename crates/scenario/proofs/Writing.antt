@@ -18,7 +18,7 @@ use Rattle.eikonal.specs.declared.Reply.{Reply}
 use Rattle.eikonal.specs.declared.Start.{Start}
 use Rattle.eikonal.specs.declared.refusals.Judged.{Judged}
 use Rattle.eikonal.proofs.Causes.{fulfilled, passed, neither, caused, spared, first, next}
-use Rattle.eikonal.proofs.Good.{and-true, or-false}
+use Rattle.eikonal.proofs.Good.{and-true, or-false, sound}
 use Rattle.eikonal.proofs.Judging.{judge-refuses}
 use Rattle.eikonal.proofs.Answers.{answered-number, answered-zero, answered-refused}
 use Rattle.scenario.specs.Bytes.{bytes-of}
@@ -26,7 +26,7 @@ use Rattle.scenario.specs.Runs.{runs-of}
 use Rattle.scenario.specs.File.{start-size, runs-end, file-size, start-bytes, head-of, front, file-of, ticks-good}
 use Rattle.scenario.specs.Calls.{filled, given-refusal, written, writer-refusal, Writes}
 use Rattle.scenario.specs.Inner.Begin.{given-by, Judges, Begins}
-use Rattle.scenario.proofs.Causes.{size-most, sound, rise-count}
+use Rattle.scenario.proofs.Causes.{size-most, rise-count}
 use Rattle.scenario.proofs.Answers.{filled-in, kept}
 use Rattle.scenario.proofs.Written.{starts-length, front-length, length-file}
 
@@ -125,7 +125,7 @@ module _ {ss : List ℕ} {cells begins : ℕ} {j : Judged} {xs : List Start} (js
   judges-length = written-length (given-by w h ss cells begins xs) t g ∙ ap (file-size (length (runs-of g ss))) judges-many
 
 module _ (w h t g : ℕ) (ss : List ℕ) (cells begins : ℕ) (j : Judged) (out : List ℕ) (x : Reply) where
-  pub begins-refused : (k : Refusal) → k .number ≢ 0 → x ≡ answer (k .number) 0
+  pub begins-refused : (k : Refusal) → k .number ≢ 0 → x ≡ answer k 0
       → ((xs : List Start) → Judges ss cells begins j xs → k ≡ writer-refusal (given-by w h ss cells begins xs) t g (length out))
       → Begins w h t g ss cells begins j out out x
   unfolding answer
@@ -134,13 +134,13 @@ module _ (w h t g : ℕ) (ss : List ℕ) (cells begins : ℕ) (j : Judged) (out 
     leaves = kept (x .number) _ out (λ z. n (sym (ap (λ u. u .number) q) ∙ z));
   }
 
-  pub begins-done : (need : ℕ) → x ≡ answer 0 need
+  pub begins-done : (need : ℕ) → x ≡ answer none need
       → ((xs : List Start) → Judges ss cells begins j xs → let p = given-by w h ss cells begins xs in
       (none ≡ writer-refusal p t g (length out)) × (length (written p t g) ≡ need))
       → (now : List ℕ) → now ≡ filled 0 (front (head-of w h t g ss cells) ss) out → Begins w h t g ss cells begins j out now x
   unfolding answer
   begins-done need q f now e = record {
-    answers = λ xs js. q ∙ ap (answer 0) (sym (f xs js .1)) ∙ sym (answered-zero none _ refl) ∙ ap₂ answered (f xs js .0) refl;
+    answers = λ xs js. q ∙ ap (answer none) (sym (f xs js .1)) ∙ sym (answered-zero none _ refl) ∙ ap₂ answered (f xs js .0) refl;
     leaves = e ∙ ap (λ u. filled u (front (head-of w h t g ss cells) ss) out) (sym (ap (λ u. u .number) q));
   }
 

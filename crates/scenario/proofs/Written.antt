@@ -12,7 +12,7 @@ use Rattle.eikonal.specs.Board.{Board, size}
 use Rattle.eikonal.specs.declared.Start.{Start}
 use Rattle.eikonal.specs.Refusals.{sides-good, any-above, starts-refusal, handed-refusal, board-refusal}
 use Rattle.eikonal.proofs.Causes.{fulfilled, passed}
-use Rattle.eikonal.proofs.Good.{sides-within}
+use Rattle.eikonal.proofs.Good.{sides-within, Sound, sound}
 use Rattle.scenario.specs.Bytes.{two, four, two-bytes, four-bytes, bytes-of}
 use Rattle.scenario.specs.declared.Head.{Head}
 use Rattle.scenario.specs.declared.Run.{Run}
@@ -26,7 +26,7 @@ use Rattle.scenario.proofs.GoodRuns as GoodRuns
 use Rattle.scenario.proofs.GoodRuns.{runs-of-good, runs-of-above, runs-of-count}
 use Rattle.scenario.proofs.Painted.{painted-runs}
 use Rattle.scenario.proofs.Causes as Causes
-use Rattle.scenario.proofs.Causes.{accepts, Sound, sound, rise-count, size-most, some-ticks}
+use Rattle.scenario.proofs.Causes.{accepts, rise-count, size-most, some-ticks}
 
 -- ---- a head, a run and a start come back from their bytes
 -- the numbers of a head fit their bytes

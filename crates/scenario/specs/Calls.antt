@@ -25,14 +25,14 @@ room-good x n q = leb (x .width * x .height) n && leb (x .starts) q
 unfoldable pub reader-refusal : List ℕ → (slows starts : ℕ) → Refusal
 reader-refusal f n q = or-else (file-refusal f) (cond (not (room-good (head-in f) n q)) (cause 14) none)
 
-unfoldable pub scenario : (number width height ticks ground starts : ℕ) → Scenario
-scenario k w h t g q = record { number = k; width = w; height = h; ticks = t; ground = g; starts = q }
+unfoldable pub scenario : Refusal → (width height ticks ground starts : ℕ) → Scenario
+scenario k w h t g q = record { number = k .number; width = w; height = h; ticks = t; ground = g; starts = q; place = k .place }
 
 unfoldable pub scenario-of : Head → Scenario
-scenario-of x = scenario 0 (x .width) (x .height) (x .ticks) (x .ground) (x .starts)
+scenario-of x = scenario none (x .width) (x .height) (x .ticks) (x .ground) (x .starts)
 
 unfoldable pub reader-answer : Refusal → List ℕ → Scenario
-reader-answer k f = cond (eqb (k .number) 0) (scenario-of (head-in f)) (scenario (k .number) 0 0 0 0 0)
+reader-answer k f = cond (eqb (k .number) 0) (scenario-of (head-in f)) (scenario k 0 0 0 0 0)
 
 pub record Reads (f slow slow-now cells cells-now begins begins-now : List ℕ) (x : Scenario) : Type 0 where
   pub answers : x ≡ reader-answer (reader-refusal f (length slow) (min (length cells) (length begins))) f

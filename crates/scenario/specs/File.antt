@@ -83,7 +83,7 @@ held f =
     let x = head-in f in
     board-of (x .width) (x .height) (painted (x .ground) 0 (x .width * x .height) (runs-in f)) (starts-in f)
 
--- WHY A FILE IS REFUSED: the causes in the table's order
+-- WHY A FILE IS REFUSED: the causes in the order in which they are looked for
 unfoldable pub ticks-good : ℕ → Bool
 ticks-good t = leb 1 t && leb t 65535
 
@@ -103,6 +103,6 @@ runs-refusal f =
     cond (any-above 4095 (g ∷ map (λ x. x .slow) (runs-in f))) (cause 5)
     (cond (not (runs-good (size (held f)) g 0 g (runs-in f))) (cause 6) none)
 
--- 7, 8, 9 are those of the board that it holds
+-- 7, 18, 8, 9 are those of the board that it holds
 unfoldable pub file-refusal : List ℕ → Refusal
 file-refusal f = or-else (head-refusal f) (or-else (runs-refusal f) (starts-refusal (held f)))

@@ -4,9 +4,10 @@ use mathlib.Core.Bool.{true}
 use mathlib.Core.List.{List, _++_}
 use Prim.Native.Nat.{ℕ, _+_, _*_, _≤_, _<_}
 use lib.ListN.{length, take, drop}
-use Rattle.eikonal.specs.Board.{Board, largest}
-use Rattle.eikonal.specs.Refusals.{board-refusal, by-lists}
+use Rattle.eikonal.specs.Board.{Board, size, largest}
+use Rattle.eikonal.specs.Refusals.{Handed, none, board-refusal, by-lists}
 use Rattle.eikonal.specs.Ledger.{answer}
+use Rattle.eikonal.specs.Promise.{First-at-fault}
 use Rattle.eikonal.specs.declared.Reply.{Reply}
 use Rattle.scenario.specs.Bytes.{Bytes}
 use Rattle.scenario.specs.File.{file-of, head-in, held, ticks-good, file-refusal}
@@ -38,7 +39,7 @@ Read-then-write =
     Reads f slow slow-now cells cells-now begins begins-now x → x .number ≡ 0 →
     Writes (by-lists (x .width) (x .height) (take (x .width * x .height) slow-now) (take (x .starts) cells-now) (take (x .starts) begins-now))
     (x .ticks) (x .ground) out out-now y →
-    length f ≤ length out → (y ≡ answer 0 (length f)) × (out-now ≡ f ++ drop (length f) out)
+    length f ≤ length out → (y ≡ answer none (length f)) × (out-now ≡ f ++ drop (length f) out)
 
 -- WRITTEN, THEN READ into lists that are long enough, a board is the same board
 unfoldable pub Write-then-read : Type 0
@@ -46,8 +47,19 @@ Write-then-read =
     (w h t g : ℕ) (slow cells begins out out-now : List ℕ) (y : Reply) (s s-now c c-now b b-now : List ℕ) (x : Scenario) →
     Writes (by-lists w h slow cells begins) t g out out-now y → y .number ≡ 0 → Reads (take (y .count) out-now) s s-now c c-now b b-now x →
     length slow ≤ length s → length cells ≤ length c → length cells ≤ length b →
-    (x ≡ scenario 0 w h t g (length cells)) × (s-now ≡ slow ++ drop (length slow) s)
+    (x ≡ scenario none w h t g (length cells)) × (s-now ≡ slow ++ drop (length slow) s)
     × (c-now ≡ cells ++ drop (length cells) c) × (b-now ≡ begins ++ drop (length begins) b)
+
+-- THE PLACE that the reader and the writer answer is that of the first start at fault
+unfoldable pub Reader-place : Type 0
+Reader-place =
+    (f slow slow-now cells cells-now begins begins-now : List ℕ) (x : Scenario) → Reads f slow slow-now cells cells-now begins begins-now x →
+    First-at-fault (size (held f)) (held f .starts) (x .number) (x .place)
+
+unfoldable pub Writer-place : Type 0
+Writer-place =
+    (p : Handed) (t g : ℕ) (out out-now : List ℕ) (y : Reply) → Writes p t g out out-now y →
+    First-at-fault (size (p .board)) (p .board .starts) (y .number) (y .place)
 
 -- THE TURN OF A TIME that is not never closes then, or less than a turn later: turn × ticks is exactly the time and the ticks to go
 unfoldable pub Turn-closes : Type 0

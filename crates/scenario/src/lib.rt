@@ -12,7 +12,7 @@ use eikonal::arrival::LARGEST;
 use eikonal::arrival::NEVER;
 use eikonal::refusals::side_good;
 
-// What a file holds besides its lists: number 0 and the rest, or a refusal's number and zeros.
+// What a file holds besides its lists: number 0, the rest and the place 0, or a refusal's number and place and zeros.
 #[repr(C)]
 pub struct Scenario {
     pub number: u32,
@@ -21,6 +21,7 @@ pub struct Scenario {
     pub ticks: u32,
     pub ground: u32,
     pub starts: u32,
+    pub place: usize,
 }
 
 // The turn of a time, and the ticks still to go until it closes: number 0 and both, or 3 and zeros.

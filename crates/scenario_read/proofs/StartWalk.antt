@@ -5,14 +5,15 @@ use mathlib.Core.List.{List, [], _∷_, _++_, map}
 use Prim.Native.Nat.{ℕ, suc, _+_, _*_, _-_, _≤_, _<_}
 use native.Mathlib.Omega.{arith}
 use native.Mathlib.Decide.{decLe}
-use native.Mathlib.Numerals.{add-one}
 use lib.Dec.{ltb, leb, eqb}
 use lib.ListN.{length, getD, take, drop, set, replicate, length-replicate, getD-replicate, List·getD-append}
 use lib.Seq.{getD-append-add}
-use borrow.Author.Tests.{lt-ltb, le-ltb, le-leb, lt-leb, ne-eqb, leb-true, ltb-true}
+use borrow.Author.Tests.{le-leb, lt-leb, ne-eqb, leb-true, ltb-true}
 use Rattle.eikonal.specs.Board.{Board, slowness}
 use Rattle.eikonal.specs.declared.Start.{Start}
-use Rattle.eikonal.specs.Refusals.{starts-rise, late, on-wall}
+use Rattle.eikonal.specs.Refusals.{on-wall}
+use Rattle.eikonal.specs.Inner.Judge.{starts-rise, judge-start, judge-by}
+use Rattle.eikonal.specs.declared.refusals.Judged.{Judged}
 use Rattle.eikonal.proofs.Good.{and-true}
 use Rattle.scenario.specs.declared.Run.{Run}
 use Rattle.scenario.specs.Bytes.{records}
@@ -31,13 +32,9 @@ module _ (f : List ℕ) (a count i : ℕ) (l : count ≤ i) where
   pub none : starts-onward f a count i ≡ []
   none = onward-none start-size start-in f a count i l
 
-  pub rise-none : (n m : ℕ) → starts-rise n m (starts-onward f a count i) ≡ true
-  unfolding starts-rise
-  rise-none n m = rw none
-
-  pub late-none : late (starts-onward f a count i) ≡ false
-  unfolding late
-  late-none = rw none
+  pub judged-none : (n : ℕ) (g : ℕ → ℕ) (j : Judged) → judge-by n g (starts-onward f a count i) j ≡ j
+  unfolding judge-by
+  judged-none n g j = rw none
 
   pub wall-none : (g : ℕ) (xs : List Run) → wall-among g xs (starts-onward f a count i) ≡ false
   unfolding wall-among
@@ -48,26 +45,10 @@ module _ (f : List ℕ) (a count i : ℕ) (x : Start) (l : i < count) (e : x ≡
   next : starts-onward f a count i ≡ x ∷ starts-onward f a count (i + 1)
   next = onward-next start-size start-in f a count i x l e
 
-  pub rise-low : (n m : ℕ) → x .cell < m → starts-rise n m (starts-onward f a count i) ≡ false
-  unfolding starts-rise
-  rise-low n m h = rw (next, lt-leb m (x .cell) h)
-
-  pub rise-off : (n m : ℕ) → m ≤ x .cell → n ≤ x .cell → starts-rise n m (starts-onward f a count i) ≡ false
-  unfolding starts-rise
-  rise-off n m h k = rw (next, le-leb m (x .cell) h, le-ltb (x .cell) n k)
-
-  pub rise-next : (n m : ℕ) → m ≤ x .cell → x .cell < n
-      → starts-rise n m (starts-onward f a count i) ≡ starts-rise n (x .cell + 1) (starts-onward f a count (i + 1))
-  unfolding starts-rise
-  rise-next n m h k = rw (next, le-leb m (x .cell) h, lt-ltb (x .cell) n k, add-one (x .cell))
-
-  pub late-here : 1000000 < x .time → late (starts-onward f a count i) ≡ true
-  unfolding late
-  late-here h = rw (next, lt-ltb 1000000 (x .time) h)
-
-  pub late-next : x .time ≤ 1000000 → late (starts-onward f a count i) ≡ late (starts-onward f a count (i + 1))
-  unfolding late
-  late-next h = rw (next, le-ltb 1000000 (x .time) h)
+  pub judged-next : (n : ℕ) (g : ℕ → ℕ) (j : Judged) → judge-by n g (starts-onward f a count i) j
+      ≡ judge-by n g (starts-onward f a count (i + 1)) (judge-start n (g (x .cell)) (x .cell) (x .time) j)
+  unfolding judge-by
+  judged-next n g j = rw next
 
   -- its cell, or its time, is entered into a list
   pub start-entered : (g : Start → ℕ) (old : List ℕ) → i < length old

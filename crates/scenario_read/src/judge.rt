@@ -3,11 +3,11 @@ ghost use mathlib.Core.Path.{_≡_};
 ghost use Rattle.eikonal.specs.Refusals.{starts-refusal};
 ghost use Rattle.scenario.specs.File.{head-in, held, head-refusal, runs-refusal, file-refusal};
 ghost use Rattle.scenario.specs.Calls.{scenario, scenario-of, room-good, reader-refusal, reader-answer};
-use super::starts::starts_late;
+use super::starts::judge_unwalled;
 use super::starts::starts_on_wall;
-use super::starts::starts_rise;
 use eikonal::Refusal;
 use eikonal::cause;
+use eikonal::refusals::judged_refusal;
 use scenario::HEAD;
 use scenario::Head;
 use scenario::Scenario;
@@ -57,18 +57,16 @@ fn runs_refusal(file: &[u8], head: Head) -> Refusal
     cause(0)
 }
 
-// 7, 8 and 9: each looks at all starts.
+// 7, 18, 8 and 9: each looks at all starts. Those that rise are walked along with the runs, to find walls.
 fn starts_refusal(file: &[u8], head: Head) -> Refusal
     requires { ⌜ (head-refusal (now file) .number ≡ 0) × (runs-refusal (now file) .number ≡ 0) × («head» ≡ head-in (now file)) ⌝ }
     ensures { λ r. ⌜ r ≡ starts-refusal (held (now (file .entry))) ⌝ }
 {
     let base = starts_base(head);
     let count = wide(head.starts);
-    if !starts_rise(file, base, count, board_size(head)) {
-        return cause(7);
-    }
-    if starts_late(file, base, count) {
-        return cause(8);
+    let refusal = judged_refusal(judge_unwalled(file, base, count, board_size(head)));
+    if refusal.number != 0 {
+        return refusal;
     }
     if starts_on_wall(file, wide(head.runs), base, count, head.ground) {
         return cause(9);
@@ -92,7 +90,7 @@ pub fn file_refusal(file: &[u8]) -> Refusal
 }
 
 fn refused(refusal: Refusal) -> Scenario
-    ensures { λ r. ⌜ r ≡ scenario (refusal .number) 0 0 0 0 0 ⌝ }
+    ensures { λ r. ⌜ r ≡ scenario refusal 0 0 0 0 0 ⌝ }
 {
     Scenario {
         number: refusal.number,
@@ -101,6 +99,7 @@ fn refused(refusal: Refusal) -> Scenario
         ticks: 0,
         ground: 0,
         starts: 0,
+        place: refusal.place,
     }
 }
 
@@ -123,6 +122,7 @@ fn scenario_of(head: Head) -> Scenario
         ticks: head.ticks,
         ground: head.ground,
         starts: head.starts,
+        place: 0,
     }
 }
 

@@ -4,50 +4,32 @@ ghost use mathlib.Core.Bool.{true};
 ghost use Prim.Native.Nat.{_+_, _*_, _≤_};
 ghost use lib.ListN.{length, drop};
 ghost use Rattle.eikonal.specs.Board.{size};
-ghost use Rattle.eikonal.specs.Refusals.{starts-rise, late};
+ghost use Rattle.eikonal.specs.Inner.Judge.{starts-rise, nothing-judged, judge-by, unwalled};
 ghost use Rattle.scenario.specs.Bytes.{records};
 ghost use Rattle.scenario.specs.File.{head-size, run-size, start-size, runs-end, run-in, start-in, held};
 ghost use Rattle.scenario.specs.Inner.Walk.{wall-among};
+use eikonal::refusals::Judged;
+use eikonal::refusals::judge_start;
+use eikonal::refusals::nothing_judged;
 use scenario::START;
 use scenario::runs::pass;
 use scenario::runs::slow_near;
 use scenario::runs::wide;
 use scenario::starts::start_at;
 
-// Whether the cells lie on a board of n cells, each above the one before.
-pub fn starts_rise(file: &[u8], base: usize, count: usize, n: usize) -> bool
+// The starts on a board of n cells, as if it had no walls: these are looked for where the starts rise.
+pub fn judge_unwalled(file: &[u8], base: usize, count: usize, n: usize) -> Judged
     requires { ⌜ base + start-size * count ≤ length (now file) ⌝ }
-    ensures { λ r. ⌜ r ≡ starts-rise n 0 (records start-size start-in count (drop base (now (file .entry)))) ⌝ }
+    ensures { λ r. ⌜ r ≡ judge-by n unwalled (records start-size start-in count (drop base (now (file .entry)))) nothing-judged ⌝ }
 {
-    let mut least = 0;
+    let mut judged = nothing_judged();
     let mut i = 0;
     while i < count {
-        let cell = wide(start_at(file, base + START * i).cell);
-        if cell < least {
-            return false;
-        }
-        if n <= cell {
-            return false;
-        }
-        least = cell + 1;
+        let start = start_at(file, base + START * i);
+        judged = judge_start(n, 1, start.cell, start.time, judged);
         i += 1;
     }
-    true
-}
-
-// Whether a start has a time above 1,000,000.
-pub fn starts_late(file: &[u8], base: usize, count: usize) -> bool
-    requires { ⌜ base + start-size * count ≤ length (now file) ⌝ }
-    ensures { λ r. ⌜ r ≡ late (records start-size start-in count (drop base (now (file .entry)))) ⌝ }
-{
-    let mut i = 0;
-    while i < count {
-        if start_at(file, base + START * i).time > 1000000 {
-            return true;
-        }
-        i += 1;
-    }
-    false
+    judged
 }
 
 // Whether a start lies on a wall. Starts and runs both rise by cell: one walk over both finds the run of each start.

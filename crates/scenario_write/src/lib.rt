@@ -45,10 +45,7 @@ pub fn begin_file(
         return eikonal::refused(eikonal::cause(14));
     }
     write::write_front(&mut out[..at], head, slow);
-    Reply {
-        number: 0,
-        count: need as u32,
-    }
+    eikonal::counted(need as u32)
 }
 
 // Writes the one file that fits a board, its ticks per turn, ground and starts, and answers its length; later bytes stay.

@@ -11,9 +11,9 @@ use borrow.Author.Tests.{leb-true, eq-eqb}
 use Rattle.eikonal.specs.Board.{size}
 use Rattle.eikonal.specs.Refusals.{cause, or-else, handed-refusal, board-refusal, by-lists, cells-of, begins-of}
 use Rattle.eikonal.specs.declared.Refusal.{Refusal}
-use Rattle.eikonal.proofs.Good.{and-true}
+use Rattle.eikonal.proofs.Good.{and-true, sound}
 use Rattle.scenario.specs.File.{head-size, head-in, starts-in, start-count, held, length-good, head-refusal, file-refusal}
-use Rattle.scenario.proofs.Causes.{Accepted, accepted, sound, rise-count}
+use Rattle.scenario.proofs.Causes.{Accepted, accepted, rise-count}
 use Rattle.scenario.proofs.Reading.{slow-length, count-starts}
 use Rattle.scenario.proofs.Composed.{slow-above, held-lists, held-handed}
 use Rattle.tablet.specs.Small.{sides-small, small-refusal}

@@ -11,7 +11,7 @@ use lib.ListN.{length, replicate}
 use borrow.Author.Tests.{eq-eqb, ne-eqb}
 use Rattle.eikonal.specs.Board.{Board, size}
 use Rattle.eikonal.specs.Tiles.{tile-count}
-use Rattle.eikonal.specs.Refusals.{Handed, handed-refusal, order-good, job-refusal}
+use Rattle.eikonal.specs.Refusals.{none, Handed, handed-refusal, order-good, job-refusal}
 use Rattle.eikonal.specs.Ledger.{Call, call-board, refusal, entered, counted, answer, ledger-answer, ledger-after, work-after}
 use Rattle.eikonal.specs.Entry.{lent, Says}
 use Rattle.eikonal.specs.declared.Refusal.{Refusal}
@@ -94,11 +94,11 @@ module _ (c : Call) (t : Task) (ts v v0 : List ℕ) (same : c .work ≡ length v
 
   -- its starts can be placed
   pub sowable : Sowable t (call-board c .starts) v0
-  sowable z = (rw (cells-are z) (size-most (fit z .given .good)), op .emptied z .placed, rw (cells-are z) (fit z .given .rise))
+  sowable z = (rw (cells-are z) (size-most (fit z .given .good)), op .emptied z .placed, rw (cells-are z) (fit z .given .starts .rise))
 
   module _ (v1 : List ℕ) (so : Sown t (call-board c .starts) v0 v1) where
     stands : t .refusal .number ≡ 0 → Begun (t .shape .cells) (call-board c .starts) v v1
-    stands z = begun (t .shape .cells) (call-board c .starts) v v0 v1 (sowable z .2) (fit z .given .timely) (op .emptied z) (so .sown z)
+    stands z = begun (t .shape .cells) (call-board c .starts) v v0 v1 (sowable z .2) (fit z .given .starts .early) (op .emptied z) (so .sown z)
 
     fitting : (z : t .refusal .number ≡ 0) → Fit (t .shape) (call-board c .slow) (call-board c .starts) ts v1
     unfolding size
@@ -144,7 +144,7 @@ module _ (c : Call) (t : Task) (ts v v0 : List ℕ) (same : c .work ≡ length v
           let g = en .gone-through z in
           let th = through z (x .count) us u (g .1) in
           record {
-            answers = g .0 ∙ ap (answer 0) (th .counts) ∙ sym (answered-zero (refusal c (length ts)) _ k);
+            answers = g .0 ∙ ap (answer none) (th .counts) ∙ sym (answered-zero (refusal c (length ts)) _ k);
             leaves = th .enters ∙ rw (eq-eqb (refusal c (length ts) .number) 0 k);
             works = th .wipes ∙ rw (eq-eqb (refusal c (length ts) .number) 0 k);
           }
@@ -152,7 +152,7 @@ module _ (c : Call) (t : Task) (ts v v0 : List ℕ) (same : c .work ≡ length v
           let k : refusal c (length ts) .number ≢ 0 = λ e. d (ap (λ (q : Refusal). q .number) (op .judged) ∙ e) in
           let r = en .turned-down d in
           record {
-            answers = r .0 ∙ ap (λ (q : Refusal). answer (q .number) 0) (op .judged) ∙ sym (answered-refused (refusal c (length ts)) _ k);
+            answers = r .0 ∙ ap (λ (q : Refusal). answer q 0) (op .judged) ∙ sym (answered-refused (refusal c (length ts)) _ k);
             leaves = r .1 ∙ rw (ne-eqb (refusal c (length ts) .number) 0 k);
             works = r .2 ∙ so .kept d ∙ op .kept d ∙ rw (ne-eqb (refusal c (length ts) .number) 0 k);
           }

@@ -7,7 +7,8 @@ use Prim.Native.Nat.{ℕ, _+_, _*_, _≤_, _<_}
 use native.Mathlib.Omega.{arith}
 use Rattle.eikonal.specs.Board.{Board, never, size, slowness, start-time, arrival}
 use Rattle.eikonal.specs.declared.Start.{Start}
-use Rattle.eikonal.specs.Refusals.{starts-rise, late}
+use Rattle.eikonal.specs.Refusals.{late}
+use Rattle.eikonal.specs.Inner.Judge.{starts-rise}
 use Rattle.eikonal.specs.Promise.{Neighbour}
 use Rattle.eikonal.specs.Inner.Good.{Good}
 use Rattle.eikonal.proofs.Local.{local-of, earlier-min, Answers, stays, comes, local-answers}

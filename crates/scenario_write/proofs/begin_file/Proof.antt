@@ -41,7 +41,7 @@ returns-2 c =
     begins-refused _ _ _ _ _ _ _ _ _ _ (j .judged-refusal .result) n (c .refused2 .ensures)
     (λ xs js. refuses-starts _ _ _ _ (z xs) _ (j .judged-refusal .ensures ∙ judges-starts js _ _ _ _ (z xs)) n)
 
--- none of 7, 8, 9
+-- none of 7, 18, 8, 9
 judged : (c : tie.Else2) → judged-refusal (c .before .before .before .before .before .before .before .before .args .judged) .number ≡ 0
 judged c = ap (λ u. u .number) (sym (c .before .before .judged-refusal .ensures)) ∙ c .if2 .left
 
@@ -77,7 +77,7 @@ returns-3 c =
     let j = l .before .before .before in
     let z = given (j .before .before .before) in
     let short = c .before .before .if3 .taken in
-    begins-refused _ _ _ _ _ _ _ _ _ _ (cause 14) (λ q. omega arith) (c .refused3 .ensures ∙ ap (λ u. answer (u .number) 0) (c .before .cause .ensures))
+    begins-refused _ _ _ _ _ _ _ _ _ _ (cause 14) (λ q. omega arith) (c .refused3 .ensures ∙ ap (λ u. answer u 0) (c .before .cause .ensures))
     (λ xs js. refuses-short _ _ _ _ (z xs) (judges-taken js _ _ _ _ (z xs) (judged j) .starts) (omega (arith, short, long l xs js)))
 
 -- the part that is lent on
@@ -96,17 +96,17 @@ write-front-requires c κs =
     let a = h .before .before .before .before .before .before .before .before .before .args in
     (length-take-le _ (a .out .now) (fits (c .before)) ∙ b .starts-base .ensures, (rw (h .head-for .ensures) refl, small (h .before) .0))
 
-cast-t21 : tie.Need-cast-t21
-cast-t21 c =
+cast-counted : tie.Need-cast-counted
+cast-counted c =
     let l = c .before .before .before .before .before in
     let j = l .before .before .before in
     let a = j .before .before .before .before .before .before .before .before .args in
     omega (arith, need l, runs-of-count (a .ground) (a .slow .now), small j)
 
 returns-4 : tie.Need-returns-4
-unfolding answer head-of
+unfolding head-of
 returns-4 c =
-    let f = c .before .before in
+    let f = c .before .before .before in
     let i = f .before .before in
     let l = i .before in
     let b = l .before in
@@ -117,7 +117,7 @@ returns-4 c =
     let x = head-of (a .width) (a .height) (a .ticks) (a .ground) (a .slow .now) (a .cells) in
     let size : length (front x (a .slow .now)) ≡ b .starts-base .result =
     front-length x (a .slow .now) ∙ sym (b .starts-base .ensures ∙ ap (λ u. runs-end (u .runs)) (h .head-for .ensures)) in
-    begins-done _ _ _ _ _ _ _ _ _ _ (l .file-length .result) refl
+    begins-done _ _ _ _ _ _ _ _ _ _ (l .file-length .result) (c .counted .ensures)
     (λ xs js. (
       refuses-none _ _ _ _ (z xs) (judges-taken js _ _ _ _ (z xs) (judged j) .starts) (omega (arith, i .if3 .left, long l xs js)),
       long l xs js,
@@ -129,4 +129,4 @@ begin-file-spec =
     tie.close
     (tie.spec
     (λ c κs. tt) (λ c κs. tt) returns (λ c κs. tt) (λ c κs. tt) returns-2 head-for-requires (λ c κs. tt) (λ c κs. tt) (λ c κs. tt)
-    (λ c κs. tt) returns-3 fits slice-aggregate-write-front write-front-requires cast-t21 (λ c. search needs) returns-4)
+    (λ c κs. tt) returns-3 fits slice-aggregate-write-front write-front-requires cast-counted (λ c κs. tt) (λ c. search needs) returns-4)

@@ -26,6 +26,9 @@ judges c =
       many = λ e. sym (ap length (lists-are-records (a .cells .now) (a .begins .now) e .0) ∙ length-map xs (λ x. x .cell));
     }
 
+judge-starts-requires : tie.Need-judge-starts-requires
+judge-starts-requires c κs = omega (arith, ap (λ u. u .seen) (c .nothing-judged .ensures))
+
 begin-file-requires : tie.Need-begin-file-requires
 begin-file-requires c κs = record { starts = _; judges = judges (c .before) }
 
@@ -65,5 +68,5 @@ pub write-scenario-spec : {M : Type 1} → statement M
 write-scenario-spec =
     tie.close
     (tie.spec
-    (λ c κs. tt) (λ c κs. tt) begin-file-requires (λ c. search needs) returns (λ c. search needs) mul-at sub-at put-starts-requires
+    (λ c κs. tt) judge-starts-requires begin-file-requires (λ c. search needs) returns (λ c. search needs) mul-at sub-at put-starts-requires
     (λ c. search needs) returns-2)

@@ -8,6 +8,7 @@ use borrow.Author.Needs.{needs}
 use borrow.Author.Tests.{lt-ltb, le-ltb, ltb-false}
 use lib.Dec.{ltb}
 use Rattle.eikonal.specs.Board.{never, largest, local}
+use Rattle.eikonal.specs.Refusals.{none}
 use Rattle.eikonal.specs.Ledger.{answer, answered}
 use Rattle.eikonal.specs.Entry.{seen, slowness-refusal, Local-says}
 use Rattle.eikonal.specs.Inner.Good.{Known}
@@ -36,23 +37,27 @@ uncut s l r u d h =
 
 -- the time of what the four count as
 says : (s l r u d a b e f x : ℕ) → s ≤ 4095 → a ≡ seen l → b ≡ seen r → e ≡ seen u → f ≡ seen d → x ≡ min never (local s a b e f)
-    → Local-says s l r u d (answer 0 x)
+    → Local-says s l r u d (answer none x)
 unfolding Local-says slowness-refusal answered
 says s l r u d a b e f x h p q g k t =
-    rw (le-ltb 4095 s h) (ap (answer 0) (t ∙ rw (p, q, g, k) (uncut s l r u d h)))
+    rw (le-ltb 4095 s h) (ap (answer none) (t ∙ rw (p, q, g, k) (uncut s l r u d h)))
 
 returns : tie.Need-returns
-unfolding Local-says slowness-refusal answered answer
-returns c = rw (lt-ltb 4095 (c .before .args .slowness) (omega arith))
+unfolding Local-says slowness-refusal answered
+returns c = rw (lt-ltb 4095 (c .before .before .before .args .slowness) (omega arith)) (rw (c .before .cause .ensures) at (c .refused .ensures))
 
 returns-2 : tie.Need-returns-2
-unfolding answer
+unfolding Local-says
 returns-2 c =
-    let k = c .before in
-    says _ _ _ _ _ _ _ _ _ _
+    let k = c .before .before in
+    c .counted .ensures
+    ∙ says _ _ _ _ _ _ _ _ _ _
     (k .before .before .before .before .if1 .left)
     (k .before .before .before .known .ensures) (k .before .before .known2 .ensures) (k .before .known3 .ensures) (k .known4 .ensures)
-    (c .arrival-before .ensures)
+    (c .before .arrival-before .ensures)
 
 pub local-rule-spec : {M : Type 1} → statement M
-local-rule-spec = tie.close (tie.spec returns (λ c κs. tt) (λ c κs. tt) (λ c κs. tt) (λ c κs. tt) (λ c κs. search needs) returns-2)
+local-rule-spec =
+    tie.close
+    (tie.spec
+    (λ c κs. tt) (λ c κs. tt) returns (λ c κs. tt) (λ c κs. tt) (λ c κs. tt) (λ c κs. tt) (λ c κs. search needs) (λ c κs. tt) returns-2)

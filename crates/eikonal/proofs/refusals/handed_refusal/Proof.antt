@@ -1,4 +1,4 @@
--- `eikonal::refusals::handed_refusal` meets its contract: the tests stand in the table's order.
+-- `eikonal::refusals::handed_refusal` meets its contract: the tests stand in the order of the causes.
 use mathlib.Core.Path.{_≡_, sym, ap, _∙_}
 use mathlib.Core.Bool.{true, false}
 use Prim.Native.Nat.{_*_, _≤_}

@@ -3,22 +3,28 @@ use mathlib.Core.Path.{_≡_}
 use mathlib.Core.Bool.{Bool}
 use Prim.Native.Nat.{ℕ}
 use native.Mathlib.Omega.{arith}
-use borrow.Author.Needs.{needs}
 use Rattle.eikonal.specs.declared.refusals.Judged.{Judged}
 use Rattle.eikonal.specs.Inner.Judge.{judge-start}
 use Rattle.eikonal.proofs.refusals.judge_start.Statement.{statement}
 use Rattle.eikonal.proofs.refusals.judge_start.Tie as tie
 
-abbrev judged : ℕ → Bool → Bool → Bool → Judged
-judged l o t w = record { least = l; off = o; late = t; walled = w }
+abbrev judged : (seen least off low : ℕ) → (late walled : Bool) → Judged
+judged k l i j t w = record { seen = k; least = l; off = i; low = j; late = t; walled = w }
 
--- records that differ in the least cell alone
-least-is : (l m : ℕ) (o t w : Bool) → l ≡ m → judged l o t w ≡ judged m o t w
-least-is l m o t w e = rw e
+-- records that differ in what was counted on
+counted-on : {k k′ l l′ : ℕ} (i j : ℕ) (t w : Bool) → k ≡ k′ → l ≡ l′ → judged k l i j t w ≡ judged k′ l′ i j t w
+counted-on i j t w p q = rw (p, q)
 
 returns : tie.Need-returns
 unfolding judge-start
-returns c = rw (c .before .before .is-late .ensures, c .before .before .before .before .is-off .ensures) (least-is _ _ _ _ _ (omega arith))
+returns c =
+    let t = c .before .before in
+    let o = t .before .before .before in
+    rw (o .onward .ensures, t .before .onward2 .ensures, t .is-late .ensures) (counted-on _ _ _ _ (omega arith) (omega arith))
 
 pub judge-start-spec : {M : Type 1} → statement M
-judge-start-spec = tie.close (tie.spec (λ c. search needs) (λ c κs. tt) (λ c κs. tt) returns)
+judge-start-spec =
+    tie.close
+    (tie.spec
+    (λ c. omega (arith, c .before .pre)) (λ c. omega arith) (λ c κs. omega (arith, c .before .pre))
+    (λ c κs. omega (arith, c .before .before .before .pre)) (λ c κs. tt) returns)

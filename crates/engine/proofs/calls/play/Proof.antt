@@ -1,5 +1,6 @@
 -- `engine::calls::play` meets its contract: each step leaves what the next one asks.
 use mathlib.Core.Path.{refl, ap, _∙_}
+use native.Mathlib.Omega.{arith}
 use borrow.Author.Needs.{needs}
 use borrow.Author.Tests.{eqb-true}
 use Rattle.eikonal.specs.Refusals.{starts-of, by-lists}
@@ -7,6 +8,9 @@ use Rattle.eikonal.specs.Inner.Judge.{judge}
 use Rattle.engine.proofs.Theory.Steps.{even, sowable, endable, says}
 use Rattle.engine.proofs.calls.play.Statement.{statement}
 use Rattle.engine.proofs.calls.play.Tie as tie
+
+judge-starts-requires : tie.Need-judge-starts-requires
+judge-starts-requires c κs = omega (arith, ap (λ u. u .seen) (c .nothing-judged .ensures))
 
 begin-requires : tie.Need-begin-requires
 begin-requires c κs =
@@ -47,4 +51,5 @@ returns c =
 
 pub play-spec : {M : Type 1} → statement M
 play-spec =
-    tie.close (tie.spec (λ c κs. tt) (λ c κs. tt) begin-requires seed-requires end-requires (λ c. search needs) (λ c. search needs) returns)
+    tie.close
+    (tie.spec (λ c κs. tt) judge-starts-requires begin-requires seed-requires end-requires (λ c. search needs) (λ c. search needs) returns)

@@ -10,8 +10,7 @@ use Rattle.records.proofs.Locals.{reads, and-reads, length-of, sets, resets-las
 use Rattle.records.proofs.Loops.{bare, full, frame, Come, come, around, tests, leaves}
 use Rattle.eikonal.specs.declared.Start.{Start}
 use Rattle.eikonal.specs.declared.refusals.Judged.{Judged}
-use Rattle.record_calls.proofs.Judging.{judged-to, judged-none, judged-more, judged-all}
-use Rattle.records.proofs.Split.{part-room}
+use Rattle.record_calls.proofs.Judging.{judged-to, judged-none, part-counts, judged-more, judged-all}
 use Rattle.eikonal.proofs.Start as Start-type
 use Rattle.eikonal.proofs.refusals.Judged as Judged-type
 use Rattle.eikonal.proofs.refusals.Judged.Laws as Judged-laws
@@ -79,8 +78,8 @@ module _ {M : Type 1} (𝓤 : URA M) (H : Heap 𝓤) (A : Atoms 𝓤) (W : Given
         shares W u32 κ0 r-slow 3 refl $
         move ! (3 ∷ 0 ∷ 1 ∷ 6 ∷ []) $
         calls W 𝓣 jp.ended (jp.clauses 𝓤 H A mem run) (κ0 & tt) (q0 & tt) tt (r-slow & p & ((t .0) .has) & tt) (slice-vals r-slow & u-p ∷ [] & (t .1) ∷ [] & tt)
-        tt ! known-jp (asked 𝓤 (part-room p starts ((t .0) .place) e-p)) (and-reads ! 16 refl (and-reads ! 4 refl (and-reads ! 12 refl (no-more !)))) (λ u-k k
-        _.
+        tt ! known-jp (asked 𝓤 (part-counts slow starts ((t .0) .place) p ((t .0) .has) l (g-starts .0) e-p ((t .0) .is))) (and-reads ! 16 refl
+        (and-reads ! 4 refl (and-reads ! 12 refl (no-more !)))) (λ u-k k _.
         heard ! _ (λ e-k. lands-again ! Judged-type.the-row (structs.lawful Judged-type.the-type Judged-laws.the-laws 𝓤 H A W) k refl 13 refl (λ g-k.
         move ! (1 ∷ []) $ toss ! $
         resets-last ! (bin ! (reads ! 11 refl) (lit ! tt) (record { fits = next-part ((t .0) .place) (length starts) l (g-starts .1) .fits })) 11 refl

@@ -33,7 +33,7 @@ returns-2 c =
     let h = r .before in
     let f = h .before .before .before .before .before .args .file .now in
     let short = fails (r .room-good .ensures) (c .before .before .if2 .taken) in
-    c .refused2 .ensures ∙ ap (λ u. scenario (u .number) 0 0 0 0 0) (c .before .cause .ensures) ∙ sym (reader-refused (cause 14) f (λ q. omega arith))
+    c .refused2 .ensures ∙ ap (λ u. scenario u 0 0 0 0 0) (c .before .cause .ensures) ∙ sym (reader-refused (cause 14) f (λ q. omega arith))
     ∙ ap₂ reader-answer (next _ _ (cause 14) (fine (h .before)) (rw (← h .head-of .ensures, short))) refl
 
 returns-3 : tie.Need-returns-3
