@@ -57,6 +57,11 @@ int main(int, char **argv) {
     };
     for (const auto &b : all_boards()) {
         boards.emplace_back(b);
+        if (!b.down.empty() && !boards.back().lent[1]->takes_pairs()) {
+            std::printf("%s: %s has no pairs\n", b.name, argv[2]);
+            boards.pop_back();
+            continue;
+        }
         for (const Row &row : rows)
             if (row.measured(b)) add(boards.back(), row);
     }

@@ -1,4 +1,4 @@
-// The yardstick's boards a to e, and f to l: what is hard for a queue or for tiles.
+// The yardstick's boards a to f, and g to m: what is hard for a queue or for tiles.
 #pragma once
 #include "yardstick.hpp"
 
@@ -24,14 +24,14 @@ inline std::vector<yardstick::Board> all_boards() {
     auto slowest = [](int) { return 4095u; };
     auto at_0 = [](int) { return 0u; };
     auto at_random = [&](int) { return next(1000001); };
-    add("f 30% walls, 1-4095", [&](int c) { return c && next(10) < 3 ? 0u : 1 + next(4095); }, n, at_0);
-    add("g chequers 1, 4095", [](int c) { return (c / w + c % w) % 2 ? 4095u : 1u; }, n, at_0);
-    add("h 9363 late starts", [&](int) { return 1 + next(4095); }, 7, at_random);
-    add("i all start, random", slowest, 1, at_random);
-    add("j all start, falling", slowest, 1, [](int c) { return 1000000u - 15 * c; });
+    add("g 30% walls, 1-4095", [&](int c) { return c && next(10) < 3 ? 0u : 1 + next(4095); }, n, at_0);
+    add("h chequers 1, 4095", [](int c) { return (c / w + c % w) % 2 ? 4095u : 1u; }, n, at_0);
+    add("i 9363 late starts", [&](int) { return 1 + next(4095); }, 7, at_random);
+    add("j all start, random", slowest, 1, at_random);
+    add("k all start, falling", slowest, 1, [](int c) { return 1000000u - 15 * c; });
     // d's corridor, with the slowest cells for walls
-    add("k corridor 1 in 4095", [corridor = all[3].slow](int c) { return corridor[c] ? 1u : 4095u; }, n, at_0);
+    add("l corridor 1 in 4095", [corridor = all[3].slow](int c) { return corridor[c] ? 1u : 4095u; }, n, at_0);
     // each row slower than the one above, and begun before it
-    add("l rows 1-4081", [](int c) { return 1u + 16 * (c / w); }, w, [](int c) { return 1000000u - 3900 * (c / w); });
+    add("m rows 1-4081", [](int c) { return 1u + 16 * (c / w); }, w, [](int c) { return 1000000u - 3900 * (c / w); });
     return all;
 }

@@ -2,7 +2,7 @@
 #include "plain_scenario.h"
 #include <stdbool.h>
 
-enum { LONGEST_SIDE = 256, SLOWEST = 4095, LATEST_START = 1000000, HEAD = 16, RUN = 10, START = 8 };
+enum { LONGEST_SIDE = 256, SLOWEST = 4095, LATEST_START = 1000000, HEAD = 18, RUN = 12, START = 8 };
 
 static uint32_t two(const uint8_t *p) { return p[0] | (uint32_t)p[1] << 8; }
 static uint32_t four(const uint8_t *p) { return two(p) | two(p + 2) << 16; }
@@ -26,16 +26,20 @@ typedef struct {
 } parts;
 
 static parts parts_of(const uint8_t *file) {
-    parts f = {two(file), two(file + 2), two(file + 4), two(file + 6), four(file + 8), four(file + 12), 0, file + HEAD,
-        NULL};
+    parts f = {two(file), two(file + 2), two(file + 4), four(file + 6), four(file + 10), four(file + 14), 0,
+        file + HEAD, NULL};
     f.size = f.width * f.height;
     f.starts = f.runs + RUN * (size_t)f.run_count;
     return f;
 }
 
-static bool any_run_above(const parts *f, uint32_t most) {
+static bool too_slow(uint32_t pair) { return (pair & 65535) > SLOWEST || pair >> 16 > SLOWEST; }
+static bool half_wall(uint32_t pair) { return ((pair & 65535) == 0) != (pair >> 16 == 0); }
+static bool late(uint32_t time) { return time > LATEST_START; }
+
+static bool any_run(const parts *f, bool (*bad)(uint32_t)) {
     for (const uint8_t *run = f->runs; run != f->starts; run += RUN)
-        if (two(run + 8) > most) return true;
+        if (bad(four(run + 8))) return true;
     return false;
 }
 
@@ -44,7 +48,7 @@ static bool runs_good(const parts *f) {
     uint32_t before = f->ground;
     for (const uint8_t *run = f->runs; run != f->starts; run += RUN) {
         const uint64_t offset = four(run), length = four(run + 4);
-        const uint32_t slowness = two(run + 8);
+        const uint32_t slowness = four(run + 8);
         if (length == 0 || offset < end || offset + length > f->size || slowness == f->ground) return false;
         if (offset == end && slowness == before) return false;
         end = offset + length;
@@ -78,7 +82,7 @@ static refusal cells_in_file(const parts *f) {
 
 static bool any_start_late(const parts *f) {
     for (uint32_t i = 0; i < f->start_count; i++)
-        if (four(f->starts + START * (size_t)i + 4) > LATEST_START) return true;
+        if (late(four(f->starts + START * (size_t)i + 4))) return true;
     return false;
 }
 
@@ -89,18 +93,19 @@ static bool any_start_on_wall(const parts *f) {
         const uint32_t cell = four(f->starts + START * (size_t)i);
         while (run != f->starts && four(run) + four(run + 4) <= cell) run += RUN;
         const bool in_run = run != f->starts && four(run) <= cell;
-        if ((in_run ? two(run + 8) : f->ground) == 0) return true;
+        if ((in_run ? four(run + 8) : f->ground) == 0) return true;
     }
     return false;
 }
 
 static refusal file_refusal(const uint8_t *file, size_t file_len) {
     if (file_len < HEAD) return cause(1);
-    if (file_len != HEAD + RUN * (uint64_t)four(file + 8) + START * (uint64_t)four(file + 12)) return cause(1);
+    if (file_len != HEAD + RUN * (uint64_t)four(file + 10) + START * (uint64_t)four(file + 14)) return cause(1);
     const parts f = parts_of(file);
     if (!side_good(f.width) || !side_good(f.height)) return cause(2);
     if (f.ticks == 0) return cause(3);
-    if (f.ground > SLOWEST || any_run_above(&f, SLOWEST)) return cause(5);
+    if (too_slow(f.ground) || any_run(&f, too_slow)) return cause(5);
+    if (half_wall(f.ground) || any_run(&f, half_wall)) return cause(21);
     if (!runs_good(&f)) return cause(6);
     const refusal cells = cells_in_file(&f);
     if (cells.number) return cells;
@@ -112,7 +117,7 @@ static refusal file_refusal(const uint8_t *file, size_t file_len) {
 static void read_slow(const parts *f, uint32_t *slow) {
     uint32_t cell = 0;
     for (const uint8_t *run = f->runs; run != f->starts; run += RUN) {
-        const uint32_t offset = four(run), end = offset + four(run + 4), slowness = two(run + 8);
+        const uint32_t offset = four(run), end = offset + four(run + 4), slowness = four(run + 8);
         while (cell < offset) slow[cell++] = f->ground;
         while (cell < end) slow[cell++] = slowness;
     }
@@ -134,9 +139,9 @@ murgolab_scenario plain_read_scenario(const uint8_t *file, size_t file_len, uint
     return (murgolab_scenario){0, f.width, f.height, f.ticks, f.ground, f.start_count, 0};
 }
 
-static bool any_above(const uint32_t *list, size_t length, uint32_t most) {
+static bool any(const uint32_t *list, size_t length, bool (*bad)(uint32_t)) {
     for (size_t i = 0; i < length; i++)
-        if (list[i] > most) return true;
+        if (bad(list[i])) return true;
     return false;
 }
 
@@ -147,7 +152,7 @@ static refusal starts_refusal(const uint32_t *slow, size_t size, const uint32_t 
     for (size_t i = 0; i < count; i++)
         if (judge_cell(&found, &least, cells[i], size, i)) break;
     if (found.number) return found;
-    if (any_above(begins, count, LATEST_START)) return cause(8);
+    if (any(begins, count, late)) return cause(8);
     for (size_t i = 0; i < count; i++)
         if (slow[cells[i]] == 0) return cause(9);
     return cause(0);
@@ -160,7 +165,8 @@ murgolab_reply plain_write_scenario(uint32_t width, uint32_t height, uint32_t ti
     if (ticks == 0 || ticks > 65535) return (murgolab_reply){3, 0, 0};
     const size_t size = width * height;
     if (slow_len != size || cells_len != begins_len) return (murgolab_reply){4, 0, 0};
-    if (ground > SLOWEST || any_above(slow, size, SLOWEST)) return (murgolab_reply){5, 0, 0};
+    if (too_slow(ground) || any(slow, size, too_slow)) return (murgolab_reply){5, 0, 0};
+    if (half_wall(ground) || any(slow, size, half_wall)) return (murgolab_reply){21, 0, 0};
     const refusal r = starts_refusal(slow, size, cells, begins, cells_len);
     if (r.number) return (murgolab_reply){r.number, 0, r.place};
 
@@ -172,9 +178,9 @@ murgolab_reply plain_write_scenario(uint32_t width, uint32_t height, uint32_t ti
     put_two(out, width);
     put_two(out + 2, height);
     put_two(out + 4, ticks);
-    put_two(out + 6, ground);
-    put_four(out + 8, runs);
-    put_four(out + 12, (uint32_t)cells_len);
+    put_four(out + 6, ground);
+    put_four(out + 10, runs);
+    put_four(out + 14, (uint32_t)cells_len);
     out += HEAD;
     for (uint32_t from = 0, end; from < size; from = end) {
         const uint32_t slowness = slow[from];
@@ -182,7 +188,7 @@ murgolab_reply plain_write_scenario(uint32_t width, uint32_t height, uint32_t ti
         if (slowness == ground) continue;
         put_four(out, from);
         put_four(out + 4, end - from);
-        put_two(out + 8, slowness);
+        put_four(out + 8, slowness);
         out += RUN;
     }
     for (size_t i = 0; i < cells_len; i++, out += START) {

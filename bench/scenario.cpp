@@ -56,27 +56,32 @@ uint32_t write_alike(const Scenario &s, size_t length) {
 
 // Every refusal of the reader, at the end of the file where it can be.
 void check_readers(const Bytes &file) {
-    const size_t n = 65536, runs_end = 16 + 10 * n, end = file.size();
+    const size_t n = 65536, runs_end = 18 + 12 * n, end = file.size();
     std::set<uint32_t> given = {read_alike(file, n, n), read_alike(file, n + 1, n + 1), read_alike(file, n - 1, n),
         read_alike(file, n, n - 1), read_alike(Bytes(file.begin(), file.end() - 1), n, n)};
-    const std::pair<size_t, uint8_t> changes[] = {
-        {2, 1},             // height 257
-        {3, 0},             // height 0
-        {4, 0},             // no ticks
-        {runs_end - 1, 16}, // the last run's slowness above 4,095
-        {runs_end - 6, 2},  // its end beyond the board
-        {runs_end - 6, 0},  // its length 0
-        {end - 6, 1},       // the last start's cell off the board
-        {end - 8, 0xFE},    // that of the start before
-        {end - 2, 16},      // its time above 1,000,000
-        {runs_end - 2, 0},  // a wall under it
+    const std::pair<size_t, Bytes> changes[] = {
+        {2, {1}},                 // height 257
+        {3, {0}},                 // height 0
+        {4, {0}},                 // no ticks
+        {6, {0, 0}},              // the ground's g 0
+        {8, {0, 0}},              // the ground's h 0
+        {runs_end - 3, {16}},     // the last run's g above 4,095
+        {runs_end - 1, {16}},     // its h above 4,095
+        {runs_end - 4, {0, 0}},   // its g 0
+        {runs_end - 2, {0, 0}},   // its h 0
+        {runs_end - 8, {2}},      // its end beyond the board
+        {runs_end - 8, {0}},      // its length 0
+        {end - 6, {1}},           // the last start's cell off the board
+        {end - 8, {0xFE}},        // that of the start before
+        {end - 2, {16}},          // its time above 1,000,000
+        {runs_end - 4, Bytes(4)}, // a wall under it
     };
-    for (auto [at, value] : changes) {
+    for (const auto &[at, bytes] : changes) {
         Bytes damaged = file;
-        damaged[at] = value;
+        std::copy(bytes.begin(), bytes.end(), damaged.begin() + at);
         given.insert(read_alike(damaged, n, n));
     }
-    demand(given == std::set<uint32_t>{0, 1, 2, 3, 5, 6, 7, 8, 9, 14, 18}, "a refusal of the reader was not tried");
+    demand(given == std::set<uint32_t>{0, 1, 2, 3, 5, 6, 7, 8, 9, 14, 18, 21}, "a refusal of the reader was not tried");
 }
 
 void check_writers(const Scenario &s, size_t length) {
@@ -85,7 +90,12 @@ void check_writers(const Scenario &s, size_t length) {
         [](Scenario &d) { d.width = 257; },
         [](Scenario &d) { d.ticks = 65536; },
         [](Scenario &d) { d.begins.pop_back(); },
-        [](Scenario &d) { d.slow.back() = 4096; },
+        [](Scenario &d) { d.slow.back() = MURGOLAB_PAIR(4096, 1); },
+        [](Scenario &d) { d.slow.back() = MURGOLAB_PAIR(1, 4096); },
+        [](Scenario &d) { d.ground = MURGOLAB_PAIR(1, 4096); },
+        [](Scenario &d) { d.slow.back() = MURGOLAB_PAIR(1, 0); },
+        [](Scenario &d) { d.slow.back() = MURGOLAB_PAIR(0, 1); },
+        [](Scenario &d) { d.ground = MURGOLAB_PAIR(0, 1); },
         [](Scenario &d) { d.cells.back() = 65536; },
         [](Scenario &d) { d.cells.back() = d.cells.front(); },
         [](Scenario &d) { d.begins.back() = 1000001; },
@@ -96,7 +106,7 @@ void check_writers(const Scenario &s, size_t length) {
         damage(damaged);
         given.insert(write_alike(damaged, length));
     }
-    demand(given == std::set<uint32_t>{0, 2, 3, 4, 5, 7, 8, 9, 14, 18}, "a refusal of the writer was not tried");
+    demand(given == std::set<uint32_t>{0, 2, 3, 4, 5, 7, 8, 9, 14, 18, 21}, "a refusal of the writer was not tried");
 }
 
 } // namespace
@@ -104,8 +114,9 @@ void check_writers(const Scenario &s, size_t length) {
 int main(int, char **argv) {
     const int runs = std::atoi(argv[1]);
     const yardstick::Board b = longest();
-    const Scenario s{256, 256, ticks, ground, b.slow, b.cells, b.begins};
-    Bytes file(16 + 18 * 65536);
+    Scenario s{256, 256, ticks, MURGOLAB_PAIR(ground, ground), {}, b.cells, b.begins};
+    for (uint32_t slowness : b.slow) s.slow.push_back(MURGOLAB_PAIR(slowness, slowness));
+    Bytes file(18 + 20 * 65536);
     demand(write(plain_write_scenario, s, file).count == file.size(), "that is not the longest file");
     check_readers(file);
     check_writers(s, file.size());

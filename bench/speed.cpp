@@ -23,7 +23,8 @@ int main(int, char **argv) {
     constexpr size_t calls = std::size(rows);
     std::vector<std::vector<Took>> took(boards.size(), std::vector<Took>(calls));
     std::vector<Took> yard(boards.size());
-    Took rule, step[std::size(steps)];
+    constexpr size_t on_b = 1, on_f = 5; // the same but for unequal pairs
+    Took rule[2], step[std::size(steps)];
     std::vector<std::unique_ptr<Lent>> lent;
     for (const auto &b : boards) lent.emplace_back(this_tree(b));
     yardstick::FastMarching fast;
@@ -34,7 +35,8 @@ int main(int, char **argv) {
             for (size_t m = 0; m < calls; m++)
                 if (rows[m].measured(boards[i])) took[i][m].push_back(micros([&] { rows[m].play(*lent[i]); }));
         }
-        rule.push_back(micros([&] { sink = lent[1]->rule(); }));
+        rule[0].push_back(micros([&] { sink = lent[on_b]->rule(); }));
+        rule[1].push_back(micros([&] { sink = lent[on_f]->rule(); }));
         for (size_t m = 0; m < std::size(steps); m++)
             step[m].push_back(micros([&] { sink = steps[m].play(*lent[0]); }));
     }
@@ -53,7 +55,9 @@ int main(int, char **argv) {
                 std::printf(" %9.2f", ratio(took[i][m], march));
         std::printf("\n");
     }
-    std::printf("local rule on b: %.1f ns a call\n", 1000 * median(rule) / (254 * 256));
+    std::printf("march of f over that of b: %.2f\n", ratio(took[on_f][0], took[on_b][0]));
+    std::printf("local rule on b and f: %.1f and %.1f ns a call\n", 1000 * median(rule[0]) / (254 * 256),
+        1000 * median(rule[1]) / (254 * 256));
     for (size_t m = 0; m < std::size(steps); m++)
         std::printf("%s: %.1f ns a call\n", steps[m].name, 1000 * median(step[m]) / steps_calls);
     std::printf("\n");

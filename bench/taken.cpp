@@ -32,10 +32,10 @@ uint64_t taken(Lent &lent, uint32_t side) {
 } // namespace
 
 int main() {
-    std::printf("\ncells that tile runs by %u take, over those that the march reaches; k would take minutes\n", stride);
+    std::printf("\ncells that tile runs by %u take, over those that the march reaches; l would take minutes\n", stride);
     std::printf("%-20s %12s %15s\n", "board", "8x8", "1x1");
     for (const auto &b : all_boards()) {
-        if (b.name[0] == 'k') continue; // 4,000 rounds of 8x8 alter entries, and 32,899 of 1x1
+        if (b.name[0] == 'l') continue; // 4,000 rounds of 8x8 alter entries, and 32,899 of 1x1
         const std::unique_ptr<Lent> lent(this_tree(b));
         const double reached = lent->march();
         std::printf("%-20s %12.2f", b.name, taken(*lent, 8) / reached);

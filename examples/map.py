@@ -11,8 +11,12 @@ A map is text: a head, the line `map`, and the rows. Lines of the head, in any o
     ground 10            the slowness that the file stores once; best the one that most cells have
     . = 10               in rows this letter is a cell of slowness 10; slownesses are 0 to 4,095
     # = 0                .. a wall
+    f = 10:30            .. a cell of slowness 10 along the row and 30 down the column
     S = 10 start 0       .. a cell of slowness 10 where a front starts at time 0; times are 0 to 1,000,000
     start 4 2 500        a front starts in column 4 of row 2, counted from 0, at time 500
+
+One number is the slowness both ways; `10:30` has two, with no space between, wherever a slowness stands. A wall has
+both at 0, and no other cell has one of them at 0.
 
 Each row then has one letter a cell: any sign but a space and `/`. After `map numbers` in place of `map` it has one
 slowness a cell, with spaces between. There are 1 to 256 rows of 1 to 256 cells.
@@ -34,7 +38,8 @@ RANGES = {
     "width": (1, 256), "height": (1, 256), "column": (0, 255), "row": (0, 255),
 }
 LETTERS = "abcdefghijklmnopqrstuvwxyzABCDEFGHIJKLMNOPQRSTUVWXYZ"
-HEAD, RUN, START = struct.Struct("<HHHHII"), struct.Struct("<IIH"), struct.Struct("<II")
+HEAD, RUN, START = struct.Struct("<HHHHHII"), struct.Struct("<IIHH"), struct.Struct("<II")
+WALL = (0, 0)
 
 
 class Problem(Exception):
@@ -42,7 +47,8 @@ class Problem(Exception):
 
 
 class Board:
-    """What a map and a file both hold: slownesses row by row, starts as times by cell."""
+    """What a map and a file both hold: slownesses row by row, starts as times by cell. A slowness is a pair of numbers,
+    along the row and down the column."""
 
     def __init__(self, width, height, ticks, ground, slow, starts):
         self.width, self.height, self.ticks, self.ground = width, height, ticks, ground
@@ -70,21 +76,36 @@ def in_range(name, value):
     return number(name, str(value))
 
 
+def pair(name, word):
+    """The slowness that a word stands for: one number for both ways, or two."""
+    numbers = [number(name, part) for part in word.split(":", 1)]
+    along, down = numbers[0], numbers[-1]
+    if (along == 0) != (down == 0):
+        raise Problem(f"{name} `{word[:20]}` has one number that is 0, and a wall has two")
+    return along, down
+
+
+def word_for(slowness):
+    along, down = slowness
+    return str(along) if along == down else f"{along}:{down}"
+
+
 def head_line(words):
     """The name in a line of the head, and what the line gives it: a letter's slowness and start time, or none."""
     name, *rest = words
     if name in ("ticks", "ground"):
+        what, read = {"ticks": ("number", number), "ground": ("slowness", pair)}[name]
         if len(rest) != 1:
-            raise Problem(f"`{name}` has one number behind it")
-        return name, number(name, rest[0])
+            raise Problem(f"`{name}` has one {what} behind it")
+        return name, read(name, rest[0])
     if len(name) != 1 or rest[:1] != ["="]:
         raise Problem("not a line of a map's head; rows stand behind a line `map`")
     if name == "/":
         raise Problem("`/` is no letter: two of them begin a remark")
     if len(rest) == 2:
-        return name, (number("slowness", rest[1]), None)
+        return name, (pair("slowness", rest[1]), None)
     if len(rest) == 4 and rest[2] == "start":
-        return name, (number("slowness", rest[1]), number("start time", rest[3]))
+        return name, (pair("slowness", rest[1]), number("start time", rest[3]))
     raise Problem("a letter is `LETTER = SLOWNESS` or `LETTER = SLOWNESS start TIME`")
 
 
@@ -98,7 +119,7 @@ def start_line(words):
 def cells_of(row, letters):
     """Slowness and start time of each cell of a row; `letters` is none where rows are numbers."""
     if letters is None:
-        return [(number("slowness", word), None) for word in row.split()]
+        return [(pair("slowness", word), None) for word in row.split()]
     for letter in row:
         if letter.isspace():
             raise Problem("a space between the letters of a row")
@@ -173,26 +194,28 @@ def runs_of(board):
 
 def to_file(board):
     runs, starts = runs_of(board), sorted(board.starts.items())
-    head = HEAD.pack(board.width, board.height, board.ticks, board.ground, len(runs), len(starts))
-    return head + b"".join([RUN.pack(*run) for run in runs] + [START.pack(*start) for start in starts])
+    head = HEAD.pack(board.width, board.height, board.ticks, *board.ground, len(runs), len(starts))
+    body = [RUN.pack(cell, length, *slow) for cell, length, slow in runs] + [START.pack(*start) for start in starts]
+    return head + b"".join(body)
 
 
 def from_file(file):
     if len(file) < HEAD.size:
         raise Problem(f"a file of {len(file)} bytes is too short for a head")
-    *numbers, runs, starts = HEAD.unpack_from(file)
-    width, height, ticks, ground = map(in_range, ("width", "height", "ticks", "ground"), numbers)
+    *numbers, along, down, runs, starts = HEAD.unpack_from(file)
+    width, height, ticks = map(in_range, ("width", "height", "ticks"), numbers)
+    ground = pair("ground", f"{along}:{down}")
     behind_runs = HEAD.size + RUN.size * runs
     if len(file) != behind_runs + START.size * starts:
         raise Problem("the file is not as long as its head says")
     slow, end = [ground] * (width * height), 0
-    for place, (offset, length, slowness) in enumerate(RUN.iter_unpack(file[HEAD.size:behind_runs])):
+    for place, (offset, length, along, down) in enumerate(RUN.iter_unpack(file[HEAD.size:behind_runs])):
         if offset < end:
             raise Problem(f"run {place}, counted from 0, begins before the end of the one before")
         end = offset + length
         if end > len(slow):
             raise Problem(f"run {place}, counted from 0, passes the board's end")
-        slow[offset:end] = [in_range("slowness", slowness)] * length
+        slow[offset:end] = [pair("slowness", f"{along}:{down}")] * length
     begins = begins_of(list(START.iter_unpack(file[behind_runs:])), len(slow))
     return Board(width, height, ticks, ground, slow, begins)
 
@@ -210,22 +233,22 @@ def begins_of(records, size):
 
 def letters_for(board):
     """A letter for each slowness: `.` for the ground, `#` for walls; none where there are too many."""
-    others = sorted(set(board.slow) - {0, board.ground})
+    others = sorted(set(board.slow) - {WALL, board.ground})
     if len(others) > len(LETTERS):
         return None
-    return {board.ground: ".", 0: "#", **dict(zip(others, LETTERS))}
+    return {board.ground: ".", WALL: "#", **dict(zip(others, LETTERS))}
 
 
 def to_text(board):
-    lines = [f"ticks {board.ticks}", f"ground {board.ground}"]
+    lines = [f"ticks {board.ticks}", f"ground {word_for(board.ground)}"]
     letters = letters_for(board)
     for cell, time in sorted(board.starts.items()):
         lines.append(f"start {cell % board.width} {cell // board.width} {time}")
     if letters is None:
         lines.append("map numbers")
-        between, drawn = " ", str
+        between, drawn = " ", word_for
     else:
-        lines += [f"{letters[slow]} = {slow}" for slow in sorted(set(board.slow))]
+        lines += [f"{letters[slow]} = {word_for(slow)}" for slow in sorted(set(board.slow))]
         lines.append("map")
         between, drawn = "", letters.get
     for row in range(board.height):

@@ -7,12 +7,12 @@
 
 static const char *const refusals[] = {
     [0] = "accepted",
-    [1] = "file under 16 bytes, or not as long as its counts of runs and starts say",
+    [1] = "file under 18 bytes, or not as long as its counts of runs and starts say",
     [2] = "width or height not 1 to 256",
     [3] = "ticks per turn not 1 to 65,535",
     [4] = "slowness list not N long, or plain start lists of unequal length",
-    [5] = "a slowness, the ground's too, above 4,095",
-    [6] = "a run not sorted, overlapping, empty, past the board, or as slow as the ground or as a run it touches",
+    [5] = "a number of a slowness, the ground's too, above 4,095",
+    [6] = "a run not sorted, overlapping, empty, past the board, or of the pair of the ground or a run it touches",
     [7] = "start cell off the board",
     [8] = "start time above 1,000,000",
     [9] = "start on a wall",
@@ -21,8 +21,9 @@ static const char *const refusals[] = {
     [12] = "order does not name every tile once",
     [13] = "times list not N long",
     [14] = "work list under 4N long, or a list to be filled too short",
-    [15] = "tablet or rings: a side above 32, or for rings a file above 18,448 bytes",
+    [15] = "tablet or rings: a side above 32, or for rings a file above 20,498 bytes",
     [18] = "start not above the one before",
+    [21] = "one number of a slowness, the ground's too, 0 and the other not",
 };
 
 #endif

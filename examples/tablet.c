@@ -16,7 +16,7 @@ static uint32_t time_of(const uint8_t *out, uint32_t cell)
 
 int main(int count, char **words)
 {
-    static uint8_t file[16 + 18 * 65536 + 1], out[4 * SIDE * SIDE]; /* any scenario, and a byte to show a longer file */
+    static uint8_t file[18 + 20 * 65536 + 1], out[4 * SIDE * SIDE]; /* any scenario, and a byte to show a longer file */
     FILE *from = count == 2 ? fopen(words[1], "rb") : NULL;
     size_t length = from == NULL ? 0 : fread(file, 1, sizeof file, from);
     if (from == NULL || ferror(from)) {

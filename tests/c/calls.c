@@ -16,12 +16,27 @@ typedef struct {
     uint32_t slow[10], cells[3], begins[3], order[5];
 } game;
 
-/* Three by three, slowness 10, a wall at the end of the first row, one start at the top left; its times by hand. */
+/* Three by three, slowness 10 along the rows and 20 down the columns, a wall at the end of the first row, one start at
+ * the top left; its times by hand. */
+#define FURROW MURGOLAB_PAIR(10, 20)
 static const game good = {
-    3, 3, 2, 2, 20, 34, 9, 1, 1, 4, 9, 38,
-    {10, 10, 0, 10, 10, 10, 10, 10, 10, 10}, {0, 4, 5}, {0, 1000000, 0}, {3, 1, 0, 2, 3},
+    3, 3, 2, 2, 20, 52, 9, 1, 1, 4, 9, 38,
+    {FURROW, FURROW, 0, FURROW, FURROW, FURROW, FURROW, FURROW, FURROW, FURROW}, {0, 4, 5}, {0, 1000000, 0},
+    {3, 1, 0, 2, 3},
 };
-static const uint32_t solved[9] = {0, 10, MURGOLAB_NEVER, 10, 18, 28, 20, 26, 34};
+static const uint32_t solved[9] = {0, 10, MURGOLAB_NEVER, 20, 26, 36, 40, 45, 52};
+
+/* The same with the slowness 10 both ways. */
+static const uint32_t solved_even[9] = {0, 10, MURGOLAB_NEVER, 10, 18, 28, 20, 26, 34};
+static game even_game(void)
+{
+    game g = good;
+    size_t i;
+    for (i = 0; i < 10; i++)
+        g.slow[i] = i == 2 ? 0 : MURGOLAB_PAIR(10, 10);
+    g.bound = 34;
+    return g;
+}
 
 /* The game's lists as they are lent; starts are its cells and begins as records. */
 typedef struct {
@@ -146,12 +161,14 @@ static void accepted_games(void)
     /* two tiles, the last row being one; all stored times are 7, and each tile sees those of the other */
     static const uint32_t rows[9] = {0, 10, MURGOLAB_NEVER, 10, 16, 17, 17, 17, 17};
     uint32_t never[9];
-    game two_tiles = good, no_starts = good;
+    game two_tiles = even_game(), no_starts = good;
     size_t i;
     for (i = 0; i < 9; i++)
         never[i] = MURGOLAB_NEVER;
     accepted(MARCH, good, 8, solved);
-    accepted(RUN, good, 4, solved);
+    accepted(RUN, good, 5, solved);
+    accepted(MARCH, even_game(), 8, solved_even);
+    accepted(RUN, even_game(), 4, solved_even);
     two_tiles.across = 3;
     two_tiles.order_len = 2;
     two_tiles.order[0] = 1;
@@ -160,7 +177,7 @@ static void accepted_games(void)
     accepted(ROUND, two_tiles, 9, rows);
     starts(&no_starts, 0);
     accepted(MARCH, no_starts, 0, never);
-    accepted(RUN, no_starts, 2, never);
+    accepted(RUN, no_starts, 3, never);
 }
 
 static void refused_games(enum kind kind)
@@ -171,13 +188,19 @@ static void refused_games(enum kind kind)
     REFUSED(4, g.slow_len = 10);
     REFUSED(4, g.cells_len = 0);
     REFUSED(4, g.begins_len = 0);
-    REFUSED(5, g.slow[8] = 4096);
+    REFUSED(5, g.slow[8] = MURGOLAB_PAIR(4096, 1));
+    REFUSED(5, g.slow[8] = MURGOLAB_PAIR(1, 4096));
+    REFUSED(5, g.slow[0] = 10; g.slow[8] = MURGOLAB_PAIR(4096, 0));
+    REFUSED(5, g.slow[0] = MURGOLAB_PAIR(0, 65535); g.slow[8] = 10);
+    REFUSED(21, g.slow[8] = MURGOLAB_PAIR(10, 0));
+    REFUSED(21, g.slow[8] = MURGOLAB_PAIR(0, 10));
+    REFUSED(21, g.slow[0] = 4095; g.cells[0] = 9); /* a bare number */
     REFUSED_AT(7, 0, g.cells[0] = 9);
     REFUSED_AT(7, 2, starts(&g, 3); g.cells[2] = 9);
     REFUSED_AT(7, 2, starts(&g, 3); g.cells[1] = 0; g.cells[2] = MURGOLAB_NEVER);
     REFUSED_AT(18, 1, starts(&g, 3); g.cells[1] = 0);
     REFUSED_AT(18, 2, starts(&g, 3); g.cells[2] = 4; g.begins[0] = 1000001);
-    REFUSED(5, starts(&g, 3); g.cells[2] = 4; g.slow[8] = 4096);
+    REFUSED(5, starts(&g, 3); g.cells[2] = 4; g.slow[8] = MURGOLAB_PAIR(4096, 4096));
     REFUSED(8, g.begins[0] = 1000001);
     REFUSED(9, g.cells[0] = 2);
     REFUSED(10, g.bound = 300000001);
@@ -197,11 +220,11 @@ static void refused_games(enum kind kind)
         REFUSED(10, g.stride = 0);
 }
 
-/* The good game's file with a ground of 10 and 10 ticks, a late start added: one run, two starts. */
-enum { FILE_LENGTH = 16 + 10 + 16 };
+/* The good game's file with furrows for ground and 10 ticks, a late start added: one run, two starts. */
+enum { FILE_LENGTH = 18 + 12 + 16 };
 static const uint8_t good_file[FILE_LENGTH + 1] = {
-    3, 0, 3, 0, 10, 0, 10, 0, 1, 0, 0, 0, 2, 0, 0, 0,
-    2, 0, 0, 0, 1, 0, 0, 0, 0, 0,
+    3, 0, 3, 0, 10, 0, 10, 0, 20, 0, 1, 0, 0, 0, 2, 0, 0, 0,
+    2, 0, 0, 0, 1, 0, 0, 0, 0, 0, 0, 0,
     0, 0, 0, 0, 0, 0, 0, 0, 4, 0, 0, 0, 0x40, 0x42, 0x0F, 0,
     77,
 };
@@ -210,8 +233,9 @@ static void read_file(const uint8_t *bytes, size_t length, size_t slow_len, size
     uint32_t number, size_t place)
 {
     static const uint32_t garbage[10] = {5, 5, 5, 5, 5, 5, 5, 5, 5, 5};
-    uint32_t slow[10] = {10, 10, 0, 10, 10, 10, 10, 10, 10, 5}, cells[3] = {0, 4, 5}, begins[3] = {0, 1000000, 5};
-    murgolab_scenario s, want = {0, 3, 3, 10, 10, 2, 0}, none = {0, 0, 0, 0, 0, 0, 0};
+    uint32_t slow[10] = {FURROW, FURROW, 0, FURROW, FURROW, FURROW, FURROW, FURROW, FURROW, 5};
+    uint32_t cells[3] = {0, 4, 5}, begins[3] = {0, 1000000, 5};
+    murgolab_scenario s, want = {0, 3, 3, 10, FURROW, 2, 0}, none = {0, 0, 0, 0, 0, 0, 0};
     murgolab_start records[3];
     int form;
     records_of(cells, begins, records);
@@ -256,18 +280,25 @@ static void reading(void)
     read_good(FILE_LENGTH, 10, 3, 3, 0);
     read_good(0, 0, 0, 0, 1);
     read_good(0, 9, 2, 2, 1);
-    read_good(15, 9, 2, 2, 1);
+    read_good(17, 9, 2, 2, 1);
     read_good(FILE_LENGTH - 1, 9, 2, 2, 1);
     read_good(FILE_LENGTH + 1, 9, 2, 2, 1);
     read_with(0, 0, 2, 0);
     read_with(4, 0, 3, 0);
     read_with(7, 16, 5, 0);
-    read_with(20, 0, 6, 0);
-    read_with(26, 9, 7, 0);
-    read_with(34, 9, 7, 1);
-    read_with(26, 4, 18, 1);
-    read_with(40, 0x10, 8, 0);
-    read_with(34, 2, 9, 0);
+    read_with(9, 16, 5, 0);
+    read_with(27, 16, 5, 0);
+    read_with(29, 16, 5, 0);
+    read_with(6, 0, 21, 0);
+    read_with(8, 0, 21, 0);
+    read_with(26, 10, 21, 0);
+    read_with(28, 20, 21, 0);
+    read_with(22, 0, 6, 0);
+    read_with(30, 9, 7, 0);
+    read_with(38, 9, 7, 1);
+    read_with(30, 4, 18, 1);
+    read_with(44, 0x10, 8, 0);
+    read_with(38, 2, 9, 0);
     read_good(FILE_LENGTH, 8, 2, 2, 14);
     read_good(FILE_LENGTH, 9, 1, 2, 14);
     read_good(FILE_LENGTH, 9, 2, 1, 14);
@@ -303,27 +334,33 @@ static void write_file(game g, uint32_t ticks, uint32_t ground, size_t out_len, 
 }
 
 #define UNWRITTEN_AT(number, place, change) \
-    do { game g = two; change; write_file(g, 10, 10, FILE_LENGTH, number, place); } while (0)
+    do { game g = two; change; write_file(g, 10, FURROW, FILE_LENGTH, number, place); } while (0)
 #define UNWRITTEN(number, change) UNWRITTEN_AT(number, 0, change)
 
 static void writing(void)
 {
     game two = good;
     starts(&two, 2);
-    write_file(two, 10, 10, FILE_LENGTH, 0, 0);
-    write_file(two, 10, 10, FILE_LENGTH + 1, 0, 0);
-    write_file(two, 10, 10, FILE_LENGTH - 1, 14, 0);
-    write_file(two, 10, 10, 0, 14, 0);
-    write_file(two, 0, 10, FILE_LENGTH, 3, 0);
-    write_file(two, 65536, 10, FILE_LENGTH, 3, 0);
-    write_file(two, 10, 4096, FILE_LENGTH, 5, 0);
+    write_file(two, 10, FURROW, FILE_LENGTH, 0, 0);
+    write_file(two, 10, FURROW, FILE_LENGTH + 1, 0, 0);
+    write_file(two, 10, FURROW, FILE_LENGTH - 1, 14, 0);
+    write_file(two, 10, FURROW, 0, 14, 0);
+    write_file(two, 0, FURROW, FILE_LENGTH, 3, 0);
+    write_file(two, 65536, FURROW, FILE_LENGTH, 3, 0);
+    write_file(two, 10, MURGOLAB_PAIR(4096, 1), FILE_LENGTH, 5, 0);
+    write_file(two, 10, MURGOLAB_PAIR(1, 4096), FILE_LENGTH, 5, 0);
+    write_file(two, 10, MURGOLAB_PAIR(10, 0), FILE_LENGTH, 21, 0);
+    write_file(two, 10, MURGOLAB_PAIR(0, 20), FILE_LENGTH, 21, 0);
     UNWRITTEN(2, g.width = 257);
     UNWRITTEN(2, memset(&g, 0, sizeof g));
     UNWRITTEN(4, g.slow_len = 0);
     UNWRITTEN(4, g.slow_len = 8);
     UNWRITTEN(4, g.cells_len = 0);
     UNWRITTEN(4, g.begins_len = 0);
-    UNWRITTEN(5, g.slow[0] = 4096);
+    UNWRITTEN(5, g.slow[0] = MURGOLAB_PAIR(4096, 1));
+    UNWRITTEN(5, g.slow[0] = 10; g.slow[8] = MURGOLAB_PAIR(1, 4096));
+    UNWRITTEN(21, g.slow[0] = 10);
+    UNWRITTEN(21, g.slow[8] = MURGOLAB_PAIR(0, 10); g.cells[1] = 9);
     UNWRITTEN_AT(7, 1, g.cells[1] = 9);
     UNWRITTEN_AT(18, 1, g.cells[1] = 0);
     UNWRITTEN(8, g.begins[1] = 1000001);
@@ -369,12 +406,14 @@ static void tablet(void)
     tablet_with(0, 33, 15);
     tablet_with(2, 255, 15);
     tablet_with(4, 0, 3);
-    tablet_with(7, 16, 5);
-    tablet_with(20, 0, 6);
-    tablet_with(34, 9, 7);
-    tablet_with(26, 4, 18);
-    tablet_with(40, 0x10, 8);
-    tablet_with(34, 2, 9);
+    tablet_with(9, 16, 5);
+    tablet_with(8, 0, 21);
+    tablet_with(26, 10, 21);
+    tablet_with(22, 0, 6);
+    tablet_with(38, 9, 7);
+    tablet_with(30, 4, 18);
+    tablet_with(44, 0x10, 8);
+    tablet_with(38, 2, 9);
     tablet_call(good_file, FILE_LENGTH, 0, 0, 0, 0, 10);
     tablet_call(good_file, FILE_LENGTH, 300000001, 3, 3, 36, 10);
     tablet_call(good_file, FILE_LENGTH, 1, 0, 3, 0, 11);
@@ -398,10 +437,16 @@ static void turns(const char *what, murgolab_turn_reply r, uint32_t number, uint
 static void numbers(void)
 {
     const uint32_t n = MURGOLAB_NEVER;
-    answers("local rule of 0 and 4", murgolab_local_rule(10, 0, n, n, 4), 0, 9);
-    answers("local rule of never", murgolab_local_rule(10, n, n, 300000001, n), 0, n);
-    answers("local rule of a wall", murgolab_local_rule(0, 0, 0, 0, 0), 0, n);
-    answers("local rule of 4,096", murgolab_local_rule(4096, 0, 0, 0, 0), 5, 0);
+    answers("local rule of 0 and 4", murgolab_local_rule(10, 10, 0, n, n, 4), 0, 9);
+    answers("local rule along a furrow", murgolab_local_rule(10, 20, n, 0, n, n), 0, 10);
+    answers("local rule across a furrow", murgolab_local_rule(10, 20, n, n, n, 0), 0, 20);
+    answers("local rule both ways", murgolab_local_rule(10, 20, 0, n, 0, n), 0, 9);
+    answers("local rule of never", murgolab_local_rule(10, 20, n, n, 300000001, n), 0, n);
+    answers("local rule of a wall", murgolab_local_rule(0, 0, 0, 0, 0, 0), 0, n);
+    answers("local rule of 4,096 and 0", murgolab_local_rule(4096, 0, 0, 0, 0, 0), 5, 0);
+    answers("local rule of 1 and 4,096", murgolab_local_rule(1, 4096, 0, 0, 0, 0), 5, 0);
+    answers("local rule of 10 and 0", murgolab_local_rule(10, 0, 0, 0, 0, 0), 21, 0);
+    answers("local rule of 0 and 10", murgolab_local_rule(0, 10, 0, 0, 0, 0), 21, 0);
     answers("D of 255", murgolab_diagonal(255), 0, 181);
     answers("D of 256", murgolab_diagonal(256), 0, 182);
     answers("D of 4,095", murgolab_diagonal(4095), 0, 2896);

@@ -1,12 +1,13 @@
 //! Boards with plain start lists, as a caller hands them in: nothing here says that they are good.
 
+use crate::rule::parts;
 use crate::{Cause, Start, LATEST_START, LONGEST_SIDE, NEVER, SLOWEST};
 
 #[derive(Clone, Debug, PartialEq, Eq)]
 pub struct Board {
     pub width: u32,
     pub height: u32,
-    /// Slownesses by cell, 0 being a wall.
+    /// Slownesses by cell, pairs as `rule::pair` packs them, 0 being a wall.
     pub slow: Vec<u32>,
     /// Starts: their cells, and beside them their times.
     pub cells: Vec<u32>,
@@ -23,24 +24,46 @@ impl Board {
         (self.width * self.height) as usize
     }
 
-    /// Refusals 2, 4, 5, 7, 18, 8 and 9.
+    /// Refusals 2, 4, 5, 21, 7, 18, 8 and 9.
     pub fn judge(&self) -> Result<(), Cause> {
+        self.judge_sides()?;
+        self.judge_lengths()?;
+        judge_slownesses(&self.slow)?;
+        judge_starts(&self.slow, &self.cells, &self.begins)
+    }
+
+    /// Refusal 2.
+    pub fn judge_sides(&self) -> Result<(), Cause> {
         if !side_is_good(self.width) || !side_is_good(self.height) {
             return Err(2.into());
         }
+        Ok(())
+    }
+
+    /// Refusal 4, for sides that are good.
+    pub fn judge_lengths(&self) -> Result<(), Cause> {
         if self.slow.len() != self.size() || self.cells.len() != self.begins.len() {
             return Err(4.into());
         }
-        if self.slow.iter().any(|&s| s > SLOWEST) {
-            return Err(5.into());
-        }
-        judge_starts(&self.slow, &self.cells, &self.begins)
+        Ok(())
     }
 
     /// The starts as records, where both lists are as long.
     pub fn starts(&self) -> Vec<Start> {
         self.cells.iter().zip(&self.begins).map(|(&cell, &time)| Start { cell, time }).collect()
     }
+}
+
+/// Refusals 5 and 21; 5 looks at both numbers of every pair before 21 looks at any.
+pub fn judge_slownesses<'a>(slow: impl IntoIterator<Item = &'a u32>) -> Result<(), Cause> {
+    let pairs: Vec<[u32; 2]> = slow.into_iter().map(|&s| parts(s)).collect();
+    if pairs.iter().flatten().any(|&number| number > SLOWEST) {
+        return Err(5.into());
+    }
+    if pairs.iter().any(|[g, h]| (*g == 0) != (*h == 0)) {
+        return Err(21.into());
+    }
+    Ok(())
 }
 
 /// Refusals 7, 18, 8 and 9; each looks at the whole list.

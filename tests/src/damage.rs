@@ -3,20 +3,35 @@
 use crate::board::Board;
 use crate::calls::{Call, Kind};
 use crate::random::Random;
+use crate::rule::pair;
 use crate::scenario::Held;
 use crate::{LARGEST, LATEST_START, LONGEST_SIDE, NEVER, SLOWEST};
 
 const BAD_SIDES: [u32; 8] = [0, LONGEST_SIDE + 1, LONGEST_SIDE + 2, 1_000, 65_536, 65_537, 1 << 31, NEVER];
-const TOO_SLOW: [u32; 4] = [SLOWEST + 1, 65_536, 1 << 31, NEVER];
+/// Pairs of which a number is above 4,095; the other one is good, 0 or too slow too.
+pub const TOO_SLOW: [u32; 8] = [
+    pair(SLOWEST + 1, 10),
+    pair(10, SLOWEST + 1),
+    pair(SLOWEST + 1, 0),
+    pair(0, SLOWEST + 1),
+    pair(65_535, 1),
+    pair(1, 65_535),
+    pair(0, 32_768),
+    NEVER,
+];
+
+/// Pairs of which one number is 0 and the other is not. A caller who hands in one number s, as was once the way, hands
+/// in the pair (s, 0).
+pub const HALF_WALLS: [u32; 6] = [1, 10, SLOWEST, pair(0, 1), pair(0, 10), pair(0, SLOWEST)];
 
 /// The numbers of the table in the order in which they are looked for.
-pub const ORDER: [u32; 16] = [1, 2, 15, 3, 4, 5, 6, 7, 18, 8, 9, 10, 11, 12, 13, 14];
+pub const ORDER: [u32; 17] = [1, 2, 15, 3, 4, 5, 21, 6, 7, 18, 8, 9, 10, 11, 12, 13, 14];
 
 /// Those that a march, a round or a run can be refused by.
-pub const CALL_CAUSES: [u32; 12] = [2, 4, 5, 7, 18, 8, 9, 10, 11, 12, 13, 14];
+pub const CALL_CAUSES: [u32; 13] = [2, 4, 5, 21, 7, 18, 8, 9, 10, 11, 12, 13, 14];
 
 /// Those that the writer of scenario files can refuse by.
-pub const WRITER_CAUSES: [u32; 9] = [2, 3, 4, 5, 7, 18, 8, 9, 14];
+pub const WRITER_CAUSES: [u32; 10] = [2, 3, 4, 5, 21, 7, 18, 8, 9, 14];
 
 /// Which of several causes is given.
 pub fn first_of(causes: &[u32]) -> u32 {
@@ -40,18 +55,20 @@ pub fn spoil_writing(r: &mut Random, held: &mut Held, out: &mut usize, number: u
     match number {
         3 => held.ticks = r.pick(&[0, 65_536, 65_537, 1 << 31, NEVER]),
         5 if r.once_in(3) => held.ground = r.pick(&TOO_SLOW),
-        14 => *out = r.pick(&[0, 15, *out / 2, out.saturating_sub(1)]),
+        21 if r.once_in(3) => held.ground = r.pick(&HALF_WALLS),
+        14 => *out = r.pick(&[0, 17, *out / 2, out.saturating_sub(1)]),
         _ => spoil_board(r, &mut held.board, number),
     }
 }
 
-/// 2, 4, 5, 7, 18, 8 and 9.
+/// 2, 4, 5, 21, 7, 18, 8 and 9.
 fn spoil_board(r: &mut Random, board: &mut Board, number: u32) {
     match number {
         2 if r.once_in(2) => board.width = r.pick(&BAD_SIDES),
         2 => board.height = r.pick(&BAD_SIDES),
         4 => spoil_length(r, board),
         5 => *any_of(r, &mut board.slow) = r.pick(&TOO_SLOW),
+        21 => *any_of(r, &mut board.slow) = r.pick(&HALF_WALLS),
         7 => start_off_the_board(r, board),
         18 => starts_that_do_not_rise(r, board),
         8 => {
@@ -93,7 +110,7 @@ fn spoil_length(r: &mut Random, board: &mut Board) {
     }
     // an empty list stays empty for nobody: later damages pick an entry
     if board.slow.is_empty() {
-        board.slow.extend([10, 10]);
+        board.slow.extend([pair(10, 10), pair(10, 20)]);
     }
 }
 

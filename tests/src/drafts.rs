@@ -1,16 +1,18 @@
 //! Scenario files taken apart, so that they can be damaged in every way that the table names.
 
+use crate::damage::{HALF_WALLS, TOO_SLOW};
 use crate::random::Random;
 use crate::scenario::{file_of, Held};
-use crate::{LATEST_START, LONGEST_SIDE, NEVER, SLOWEST};
+use crate::{LATEST_START, LONGEST_SIDE, NEVER};
 
 #[derive(Clone, Debug)]
 pub struct Draft {
-    /// Width, height, ticks, ground.
-    pub head: [u16; 4],
+    /// Width, height, ticks.
+    pub head: [u16; 3],
+    pub ground: u32,
     /// Counts of runs and of starts, as the file states them.
     pub counts: [u32; 2],
-    pub runs: Vec<(u32, u32, u16)>,
+    pub runs: Vec<(u32, u32, u32)>,
     pub starts: Vec<(u32, u32)>,
     /// Bytes that are cut off the end, and bytes that are added behind it.
     pub cut: usize,
@@ -20,22 +22,23 @@ pub struct Draft {
 }
 
 /// The numbers of the table that a file can be refused by; 15 is the tablet's and that of `rings`.
-pub const FILE_CAUSES: [u32; 9] = [1, 2, 3, 5, 6, 7, 18, 8, 9];
+pub const FILE_CAUSES: [u32; 10] = [1, 2, 3, 5, 21, 6, 7, 18, 8, 9];
 
 impl Draft {
     pub fn of(held: &Held) -> Draft {
         let file = file_of(&held.board, held.ticks, held.ground);
         let two = |at: usize| u16::from_le_bytes([file[at], file[at + 1]]);
         let four = |at: usize| u32::from_le_bytes([file[at], file[at + 1], file[at + 2], file[at + 3]]);
-        let counts = [four(8), four(12)];
-        let first_start = 16 + 10 * counts[0] as usize;
-        let run = |i: u32| 16 + 10 * i as usize;
+        let counts = [four(10), four(14)];
+        let first_start = 18 + 12 * counts[0] as usize;
+        let run = |i: u32| 18 + 12 * i as usize;
         let start = |i: u32| first_start + 8 * i as usize;
         let slow = &held.board.slow;
         Draft {
-            head: [two(0), two(2), two(4), two(6)],
+            head: [two(0), two(2), two(4)],
+            ground: four(6),
             counts,
-            runs: (0..counts[0]).map(|i| (four(run(i)), four(run(i) + 4), two(run(i) + 8))).collect(),
+            runs: (0..counts[0]).map(|i| (four(run(i)), four(run(i) + 4), four(run(i) + 8))).collect(),
             starts: (0..counts[1]).map(|i| (four(start(i)), four(start(i) + 4))).collect(),
             cut: 0,
             tail: Vec::new(),
@@ -49,8 +52,8 @@ impl Draft {
         for number in self.head {
             file.extend_from_slice(&number.to_le_bytes());
         }
-        for count in self.counts {
-            file.extend_from_slice(&count.to_le_bytes());
+        for number in [self.ground].into_iter().chain(self.counts) {
+            file.extend_from_slice(&number.to_le_bytes());
         }
         for (offset, length, slowness) in &self.runs {
             file.extend_from_slice(&offset.to_le_bytes());
@@ -72,13 +75,8 @@ impl Draft {
             1 => self.spoil_length(r),
             2 => self.head[r.below(2) as usize] = r.pick(&[0, LONGEST_SIDE as u16 + 1, 511, 512, 32_768, 65_535]),
             3 => self.head[2] = 0,
-            5 => {
-                let above = r.pick(&[SLOWEST as u16 + 1, 8_191, 32_768, 65_535]);
-                match self.any_run(r) {
-                    Some(at) if !r.once_in(3) => self.runs[at].2 = above,
-                    _ => self.head[3] = above,
-                }
-            }
+            5 => *self.any_slowness(r) = r.pick(&TOO_SLOW),
+            21 => *self.any_slowness(r) = r.pick(&HALF_WALLS),
             6 => self.spoil_run(r),
             7 => self.start_off_the_board(r),
             18 => self.starts_that_do_not_rise(r),
@@ -94,6 +92,14 @@ impl Draft {
         }
     }
 
+    /// A run's, where there is one, more often than the ground's.
+    fn any_slowness(&mut self, r: &mut Random) -> &mut u32 {
+        match self.any_run(r) {
+            Some(at) if !r.once_in(3) => &mut self.runs[at].2,
+            _ => &mut self.ground,
+        }
+    }
+
     fn any_run(&self, r: &mut Random) -> Option<usize> {
         let count = self.runs.len() as u32;
         Some(r.below(count.max(1)) as usize).filter(|_| count > 0)
@@ -104,7 +110,7 @@ impl Draft {
         Some(r.below(count.max(1)) as usize).filter(|_| count > 0)
     }
 
-    fn add_run(&mut self, at: usize, run: (u32, u32, u16)) {
+    fn add_run(&mut self, at: usize, run: (u32, u32, u32)) {
         self.runs.insert(at, run);
         self.counts[0] = self.counts[0].wrapping_add(1);
     }
@@ -130,12 +136,12 @@ impl Draft {
     fn spoil_run(&mut self, r: &mut Random) {
         let at = match self.any_run(r) {
             Some(at) => at,
-            None => return self.add_run(0, (r.pick(&[0, self.size, NEVER]), 1, self.head[3])),
+            None => return self.add_run(0, (r.pick(&[0, self.size, NEVER]), 1, self.ground)),
         };
         let (offset, length, slowness) = self.runs[at];
         match r.below(9) {
             0 => self.runs[at].1 = 0,
-            1 => self.runs[at].2 = self.head[3],
+            1 => self.runs[at].2 = self.ground,
             2 => self.add_run(at, (offset, length, slowness)),
             3 if length > 1 => {
                 // one run as two that touch and have the same slowness

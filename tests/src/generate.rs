@@ -4,16 +4,25 @@ use crate::board::{Board, Grid};
 use crate::calls::{Call, Kind};
 use crate::march::solved;
 use crate::random::Random;
+use crate::rule::{equal, pair, parts};
 use crate::scenario::Held;
 use crate::tiles::{tile_count, up};
 use crate::{LARGEST, LATEST_START, LONGEST_SIDE, NEVER, SLOWEST};
 
-/// Slownesses of n cells: even ground, stretches, scattered ones, with few walls or many.
+/// An open cell's slowness: the two numbers of the pair are drawn apart, or they are equal.
+pub fn open(r: &mut Random, apart: bool, mut number: impl FnMut(&mut Random) -> u32) -> u32 {
+    let g = number(r);
+    pair(g, if apart { number(r) } else { g })
+}
+
+/// Slownesses of n cells: even ground, stretches, scattered ones, with few walls or many. On half of the boards the two
+/// numbers of a pair are drawn apart, on the others they are equal.
 pub fn slownesses(r: &mut Random, n: usize) -> Vec<u32> {
-    let style = r.below(7);
+    let (style, apart) = (r.below(7), r.once_in(2));
     let walls = r.pick(&[0, 0, 0, 5, 20, 40, 60]);
     let highest = r.spread(SLOWEST).max(1);
-    let (one, other) = (r.within(1, highest), r.within(1, SLOWEST));
+    let ten = if apart { r.pick(&[pair(10, 20), pair(20, 10)]) } else { equal(10) };
+    let (one, other) = (open(r, apart, |r| r.within(1, highest)), open(r, apart, |r| r.within(1, SLOWEST)));
     let mut stretch = 0;
     let mut last = one;
     let mut slow = Vec::with_capacity(n);
@@ -22,12 +31,12 @@ pub fn slownesses(r: &mut Random, n: usize) -> Vec<u32> {
             stretch -= 1;
         } else {
             last = match style {
-                0 => 10,
+                0 => ten,
                 1 => one,
-                2 => r.pick(&[1, SLOWEST]),
-                3 => r.within(1, SLOWEST),
+                2 => open(r, apart, |r| r.pick(&[1, SLOWEST])),
+                3 => open(r, apart, |r| r.within(1, SLOWEST)),
                 4 => r.pick(&[one, one, one, other]),
-                _ => r.within(1, highest),
+                _ => open(r, apart, |r| r.within(1, highest)),
             };
             if r.below(100) < walls {
                 last = 0;
@@ -72,9 +81,9 @@ pub fn board(r: &mut Random, longest: u32) -> Board {
     board_of(r, width, height)
 }
 
-/// One winding corridor from the top left, with the latest start there.
+/// One winding corridor from the top left, of equal pairs, with the latest start there.
 pub fn snake(width: u32, height: u32, slowness: u32) -> Board {
-    let mut slow = vec![slowness; (width * height) as usize];
+    let mut slow = vec![equal(slowness); (width * height) as usize];
     for row in (1..height).step_by(2) {
         let gap = if row % 4 == 1 { width - 1 } else { 0 };
         for column in (0..width).filter(|&column| column != gap) {
@@ -197,7 +206,7 @@ fn ticks(r: &mut Random) -> u32 {
 pub fn scenario(r: &mut Random, board: Board) -> Held {
     let ground = match r.below(5) {
         0 => 0,
-        1 => r.within(0, SLOWEST),
+        1 => neither(r, 0, 0),
         _ => r.pick(&board.slow),
     };
     Held { ticks: ticks(r), ground, board }
@@ -240,14 +249,14 @@ pub fn scenarios_of_extreme_sides(first_seed: u64, mut each: impl FnMut(&mut Ran
 
 /// The scenario with the longest file: a run and a start to each of 65,536 cells.
 pub fn longest_scenario() -> Held {
-    let slow = (0..65_536).map(|c| 1 + c % 4_094).collect();
+    let slow = (0..65_536).map(|c| pair(1 + c % 4_094, 1 + c % 4_095)).collect();
     let (cells, begins) = ((0..65_536).collect(), vec![LATEST_START; 65_536]);
-    Held { ticks: 65_535, ground: SLOWEST, board: Board { width: 256, height: 256, slow, cells, begins } }
+    Held { ticks: 65_535, ground: equal(SLOWEST), board: Board { width: 256, height: 256, slow, cells, begins } }
 }
 
 /// A scenario whose slownesses lie as said.
 fn laid_scenario(r: &mut Random, width: u32, height: u32, lay: Lay) -> Held {
-    let ground = r.pick(&[0, 10, 10, 4_095]);
+    let ground = r.pick(&[0, equal(10), pair(10, 20), equal(SLOWEST), pair(SLOWEST, 1)]);
     let slow = laid(r, (width * height) as usize, ground, lay);
     let (cells, begins) = starts(r, &slow);
     Held { ticks: ticks(r), ground, board: Board { width, height, slow, cells, begins } }
@@ -273,10 +282,18 @@ fn laid(r: &mut Random, n: usize, ground: u32, lay: Lay) -> Vec<u32> {
     slow
 }
 
-/// A slowness that is neither of two.
+/// A slowness that is neither of two; at times one number of its pair is.
 fn neither(r: &mut Random, one: u32, other: u32) -> u32 {
     loop {
-        let s = if r.once_in(4) { 0 } else { r.within(1, SLOWEST) };
+        let apart = r.once_in(2);
+        let drawn = open(r, apart, |r| r.within(1, SLOWEST));
+        let ([g, h], [near_g, near_h]) = (parts(drawn), parts(r.pick(&[one, other])));
+        let s = match r.below(8) {
+            0 | 1 => 0,
+            2 if near_g > 0 => pair(near_g, h),
+            3 if near_h > 0 => pair(g, near_h),
+            _ => drawn,
+        };
         if s != one && s != other {
             return s;
         }

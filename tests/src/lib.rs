@@ -8,8 +8,8 @@
 //!
 //! | Module | Holds |
 //! |---|---|
-//! | `rule` | the local rule and D by search, turn numbers by quotient and remainder |
-//! | `board` | boards with plain start lists, and refusals 2, 4, 5, 7, 18, 8, 9 |
+//! | `rule` | pairs, the local rule and D by search, turn numbers by quotient and remainder |
+//! | `board` | boards with plain start lists, and refusals 2, 4, 5, 21, 7, 18, 8, 9 |
 //! | `march` | the times of a whole board: by passes, and by an advancing front |
 //! | `tiles` | one round over tiles, a tile run with every round worked out, how many rounds a single tile takes |
 //! | `leap` | a tile run that skips idle rounds, written apart from `tiles` |
@@ -51,7 +51,7 @@ pub mod typed;
 pub const NEVER: u32 = u32::MAX;
 /// The largest horizon, bound and stride; a stored time above it counts as never.
 pub const LARGEST: u32 = 300_000_000;
-/// The largest slowness.
+/// The largest number of a pair.
 pub const SLOWEST: u32 = 4_095;
 /// The latest start.
 pub const LATEST_START: u32 = 1_000_000;

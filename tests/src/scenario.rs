@@ -1,7 +1,7 @@
 //! The scenario file: its reader and its writer.
 
-use crate::board::{judge_starts, side_is_good, Board};
-use crate::{Cause, Reply, SLOWEST};
+use crate::board::{judge_slownesses, judge_starts, side_is_good, Board};
+use crate::{Cause, Reply};
 
 /// What the reader answers: number 0 and what the file's head says, or a refusal's number, zeros and its place.
 #[repr(C)]
@@ -46,17 +46,17 @@ fn four(file: &[u8], at: usize) -> u32 {
     two(file, at) + 65_536 * two(file, at + 2)
 }
 
-/// Refusals 1, 2, 3, 5, 6, 7, 18, 8 and 9, or what the file holds. `longest` gives 15, directly after 2,
+/// Refusals 1, 2, 3, 5, 21, 6, 7, 18, 8 and 9, or what the file holds. `longest` gives 15, directly after 2,
 /// for a side above it.
 pub fn judge(file: &[u8], longest: Option<u32>) -> Result<Held, Cause> {
-    if file.len() < 16 {
+    if file.len() < 18 {
         return Err(1.into());
     }
-    let (run_count, start_count) = (u64::from(four(file, 8)), u64::from(four(file, 12)));
-    if file.len() as u64 != 16 + 10 * run_count + 8 * start_count {
+    let (run_count, start_count) = (u64::from(four(file, 10)), u64::from(four(file, 14)));
+    if file.len() as u64 != 18 + 12 * run_count + 8 * start_count {
         return Err(1.into());
     }
-    let (width, height, ticks, ground) = (two(file, 0), two(file, 2), two(file, 4), two(file, 6));
+    let (width, height, ticks, ground) = (two(file, 0), two(file, 2), two(file, 4), four(file, 6));
     if !side_is_good(width) || !side_is_good(height) {
         return Err(2.into());
     }
@@ -66,10 +66,8 @@ pub fn judge(file: &[u8], longest: Option<u32>) -> Result<Held, Cause> {
     if ticks == 0 {
         return Err(3.into());
     }
-    let runs: Vec<Run> = (0..run_count as usize).map(|i| run_at(file, 16 + 10 * i)).collect();
-    if ground > SLOWEST || runs.iter().any(|run| run.slowness > SLOWEST) {
-        return Err(5.into());
-    }
+    let runs: Vec<Run> = (0..run_count as usize).map(|i| run_at(file, 18 + 12 * i)).collect();
+    judge_slownesses(runs.iter().map(|run| &run.slowness).chain([&ground]))?;
     let size = u64::from(width * height);
     if !runs_are_good(&runs, size, ground) {
         return Err(6.into());
@@ -78,7 +76,7 @@ pub fn judge(file: &[u8], longest: Option<u32>) -> Result<Held, Cause> {
     for run in &runs {
         slow[run.offset as usize..(run.offset + run.length) as usize].fill(run.slowness);
     }
-    let first_start = 16 + 10 * run_count as usize;
+    let first_start = 18 + 12 * run_count as usize;
     let places = (0..start_count as usize).map(|i| first_start + 8 * i);
     let cells: Vec<u32> = places.clone().map(|at| four(file, at)).collect();
     let begins: Vec<u32> = places.map(|at| four(file, at + 4)).collect();
@@ -87,7 +85,7 @@ pub fn judge(file: &[u8], longest: Option<u32>) -> Result<Held, Cause> {
 }
 
 fn run_at(file: &[u8], at: usize) -> Run {
-    Run { offset: u64::from(four(file, at)), length: u64::from(four(file, at + 4)), slowness: two(file, at + 8) }
+    Run { offset: u64::from(four(file, at)), length: u64::from(four(file, at + 4)), slowness: four(file, at + 8) }
 }
 
 fn runs_are_good(runs: &[Run], size: u64, ground: u32) -> bool {
@@ -137,15 +135,16 @@ pub fn file_of(board: &Board, ticks: u32, ground: u32) -> Vec<u8> {
         }
     }
     let mut file = Vec::new();
-    for number in [board.width, board.height, ticks, ground] {
+    for number in [board.width, board.height, ticks] {
         file.extend_from_slice(&(number as u16).to_le_bytes());
     }
+    file.extend_from_slice(&ground.to_le_bytes());
     file.extend_from_slice(&(runs.len() as u32).to_le_bytes());
     file.extend_from_slice(&(board.cells.len() as u32).to_le_bytes());
     for (offset, length, slowness) in runs {
         file.extend_from_slice(&offset.to_le_bytes());
         file.extend_from_slice(&length.to_le_bytes());
-        file.extend_from_slice(&(slowness as u16).to_le_bytes());
+        file.extend_from_slice(&slowness.to_le_bytes());
     }
     for (cell, time) in board.cells.iter().zip(&board.begins) {
         file.extend_from_slice(&cell.to_le_bytes());
@@ -154,21 +153,20 @@ pub fn file_of(board: &Board, ticks: u32, ground: u32) -> Vec<u8> {
     file
 }
 
+/// Refusals 2, 3, 4, 5, 21, 7, 18, 8 and 9.
+fn judge_writing(board: &Board, ticks: u32, ground: u32) -> Result<(), Cause> {
+    board.judge_sides()?;
+    if ticks == 0 || ticks > 65_535 {
+        return Err(3.into());
+    }
+    board.judge_lengths()?;
+    judge_slownesses(board.slow.iter().chain([&ground]))?;
+    judge_starts(&board.slow, &board.cells, &board.begins)
+}
+
 /// What the call `write_scenario` answers, and what the lent list holds afterwards.
 pub fn write(board: &Board, ticks: u32, ground: u32, out: &mut [u8]) -> Reply {
-    let cause = board.judge().err();
-    let number = cause.map_or(0, |cause| cause.number);
-    if number == 2 {
-        return Reply::refused(2);
-    }
-    if ticks == 0 || ticks > 65_535 {
-        return Reply::refused(3);
-    }
-    // 5 is the ground's too, behind 4
-    if ground > SLOWEST && number != 4 {
-        return Reply::refused(5);
-    }
-    if let Some(cause) = cause {
+    if let Err(cause) = judge_writing(board, ticks, ground) {
         return Reply::refused(cause);
     }
     let file = file_of(board, ticks, ground);

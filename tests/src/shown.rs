@@ -13,7 +13,7 @@ pub const SHOWN_HORIZON: u32 = 6_000_000;
 /// The longest side that they take.
 pub const SHOWN_SIDE: u32 = 32;
 /// The longest file that `rings` takes.
-pub const SHOWN_FILE: usize = 18_448;
+pub const SHOWN_FILE: usize = 20_498;
 
 /// What the tablet's call answers, and what the lent output holds afterwards.
 pub fn tablet(file: &[u8], stride: u32, across: u32, down: u32, out: &mut [u8]) -> u64 {

@@ -1,20 +1,23 @@
-//! A scenario file typed by hand from document 01, and what it holds: neither is made by a program.
+//! A scenario file typed by hand from document 01 and card 10, and what it holds: neither is made by a program.
 
 use crate::board::Board;
+use crate::rule::pair;
 use crate::scenario::Held;
 
-/// Three by two, 10 ticks, ground 10; walls 1 and 2, cell 3 the slowest; starts 0 at 5 and 5 at 1,000,000.
+/// Three by two, 10 ticks, ground 10 along the row and 20 down the column; walls 1 and 2; cell 3 the slowest along the
+/// row and the fastest down the column; starts 0 at 5 and 5 at 1,000,000.
 #[rustfmt::skip]
-pub const FILE: [u8; 52] = [
-    3, 0, 2, 0, 10, 0, 10, 0, 2, 0, 0, 0, 2, 0, 0, 0,
-    1, 0, 0, 0, 2, 0, 0, 0, 0, 0,
-    3, 0, 0, 0, 1, 0, 0, 0, 0xFF, 0x0F,
+pub const FILE: [u8; 58] = [
+    3, 0, 2, 0, 10, 0, 10, 0, 20, 0, 2, 0, 0, 0, 2, 0, 0, 0,
+    1, 0, 0, 0, 2, 0, 0, 0, 0, 0, 0, 0,
+    3, 0, 0, 0, 1, 0, 0, 0, 0xFF, 0x0F, 1, 0,
     0, 0, 0, 0, 5, 0, 0, 0,
     5, 0, 0, 0, 0x40, 0x42, 0x0F, 0,
 ];
 
 pub fn held() -> Held {
-    let slow = vec![10, 0, 0, 4_095, 10, 10];
+    let ground = pair(10, 20);
+    let slow = vec![ground, 0, 0, pair(4_095, 1), ground, ground];
     let board = Board { width: 3, height: 2, slow, cells: vec![0, 5], begins: vec![5, 1_000_000] };
-    Held { ticks: 10, ground: 10, board }
+    Held { ticks: 10, ground, board }
 }

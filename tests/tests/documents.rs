@@ -5,6 +5,7 @@ use second_solver::board::Board;
 use second_solver::declared::{files, read, repository};
 use second_solver::pages::{blocks, rows};
 use second_solver::programs::{run, told};
+use second_solver::rule::{equal, pair};
 use second_solver::scenario::{judge, Held};
 use std::collections::BTreeMap;
 use std::fs;
@@ -101,11 +102,12 @@ fn the_scenario_page_has_the_bytes_of_its_files() {
     assert_eq!(bytes.len(), 2, "files on the page");
     assert_eq!(bytes[0], fs::read(repository().join("examples/three-by-three.scenario")).expect("the example"));
     let mut second = bytes.remove(1);
-    second[..16].copy_from_slice(&bytes[0][..16]);
-    second[8] = 2;
-    let slow = vec![10, 10, 10, 10, 0, 30, 30, 10, 10];
+    second[..18].copy_from_slice(&bytes[0][..18]);
+    second[10] = 2;
+    let (ground, furrow) = (equal(10), pair(10, 30));
+    let slow = vec![ground, ground, ground, ground, 0, furrow, furrow, ground, ground];
     let board = Board { width: 3, height: 3, slow, cells: vec![0], begins: vec![0] };
-    assert_eq!(judge(&second, None), Ok(Held { ticks: 10, ground: 10, board }));
+    assert_eq!(judge(&second, None), Ok(Held { ticks: 10, ground, board }));
 }
 
 /// The scenario page shows one block: what `rings` prints for the file of its first table.

@@ -140,7 +140,8 @@ fn rounds_go_on_where_the_stride_times_their_number_passes_32_bits() {
         let (length, other) = (r.within(30, 70), r.within(1, 2));
         let (width, height) = if r.once_in(2) { (length, other) } else { (other, length) };
         let mut board = board_of(&mut r, width, height);
-        board.slow.fill(r.within(1, 4_095));
+        let apart = r.once_in(2);
+        board.slow.fill(generate::open(&mut r, apart, |r| r.within(1, 4_095)));
         board.cells = vec![r.below(3)];
         board.begins = vec![r.spread(1_000_000)];
         let (across, down) = (r.within(1, 2), r.within(1, 2));

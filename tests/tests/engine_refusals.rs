@@ -8,6 +8,7 @@ use second_solver::ffi::engine::play;
 use second_solver::ffi::engine_records;
 use second_solver::generate::{self, garbage};
 use second_solver::random::Random;
+use second_solver::rule::{equal, pair};
 use second_solver::{Cause, Reply, LARGEST, NEVER};
 
 /// Plays a call that is spoilt by the causes, and answers the number that both solvers gave.
@@ -63,7 +64,8 @@ fn of_three_causes_the_first_in_order_is_given() {
 }
 
 fn good_board() -> Board {
-    Board { width: 3, height: 2, slow: vec![10, 20, 0, 4_095, 1, 10], cells: vec![0, 4], begins: vec![0, 1_000_000] }
+    let slow = vec![equal(10), pair(20, 10), 0, equal(4_095), pair(1, 4_095), pair(4_095, 1)];
+    Board { width: 3, height: 2, slow, cells: vec![0, 4], begins: vec![0, 1_000_000] }
 }
 
 fn number(board: Board, kind: Kind, times: usize, work: usize) -> u32 {
@@ -84,7 +86,23 @@ fn each_limit_passes_and_one_beyond_it_does_not() {
         march(board)
     };
     assert_eq!(march(good.clone()), 0);
-    assert_eq!(with(&|b| b.slow[3] = 4_096), 5);
+    for (slowness, want) in [
+        (pair(4_096, 4_095), 5),
+        (pair(4_095, 4_096), 5),
+        (pair(4_096, 0), 5),
+        (pair(0, 4_096), 5),
+        (pair(65_535, 1), 5),
+        (pair(1, 65_535), 5),
+        (NEVER, 5),
+        (pair(1, 0), 21),
+        (pair(0, 1), 21),
+        (pair(4_095, 0), 21),
+        (pair(0, 4_095), 21),
+        (pair(1, 4_095), 0),
+        (0, 0),
+    ] {
+        assert_eq!(with(&|b| b.slow[3] = slowness), want, "{}", slowness);
+    }
     assert_eq!(with(&|b| b.begins[1] = 1_000_001), 8);
     assert_eq!(with(&|b| b.cells[1] = 5), 0);
     assert_eq!(with(&|b| b.cells[1] = 6), 7);
@@ -93,12 +111,41 @@ fn each_limit_passes_and_one_beyond_it_does_not() {
     assert_eq!(with(&|b| b.cells[1] = 2), 9);
     assert_eq!(with(&|b| b.begins.truncate(1)), 4);
     assert_eq!(with(&|b| b.cells.truncate(1)), 4);
-    assert_eq!(with(&|b| b.slow.push(1)), 4);
+    assert_eq!(with(&|b| b.slow.push(equal(1))), 4);
     assert_eq!(with(&|b| b.slow.truncate(5)), 4);
     assert_eq!(number(good.clone(), Kind::March { horizon: LARGEST + 1 }, 6, 24), 10);
     for (times, work, want) in [(6, 24, 0), (6, 23, 14), (5, 24, 13), (7, 28, 13), (0, 0, 13), (6, 0, 14)] {
         assert_eq!(number(good.clone(), Kind::March { horizon: 9 }, times, work), want, "{} {}", times, work);
     }
+}
+
+/// Each cause looks at the whole list: a pair that is too slow is 5 whether the half wall stands before it or behind
+/// it, and a half wall is 21 whatever the starts are.
+#[test]
+fn a_pair_that_is_too_slow_beats_half_a_wall_wherever_it_stands_and_both_beat_the_starts() {
+    for half in [pair(10, 0), pair(0, 10), pair(4_095, 0), pair(0, 1)] {
+        for slow in [pair(4_096, 10), pair(10, 4_096), pair(4_096, 0), pair(0, 4_096), pair(65_535, 65_535)] {
+            for (half_at, slow_at) in [(0, 5), (5, 0), (0, 1), (4, 3)] {
+                let mut board = good_board();
+                board.slow[half_at] = half;
+                assert_eq!(march(board.clone()), 21, "{:?}", board);
+                board.cells[1] = 6;
+                board.begins[0] = 1_000_001;
+                assert_eq!(march(board.clone()), 21, "{:?}", board);
+                board.slow[slow_at] = slow;
+                assert_eq!(march(board.clone()), 5, "{:?}", board);
+            }
+        }
+    }
+}
+
+/// The lists of a caller who still hands in one number a cell.
+#[test]
+fn bare_slownesses_are_half_walls() {
+    for s in [1, 10, 4_095] {
+        assert_eq!(march(Board { slow: vec![s; 6], ..good_board() }), 21, "{}", s);
+    }
+    assert_eq!(march(Board { slow: vec![0, 0, 0, 0, 0, 10], ..good_board() }), 21);
 }
 
 #[test]
@@ -144,10 +191,11 @@ fn each_limit_of_tiles_and_strides_passes_and_one_beyond_it_does_not() {
 fn of_all_causes_the_first_in_order_is_given() {
     // a call, and the lengths of its times and its work
     type Mend = fn(&mut Call, &mut [usize; 2]);
-    let mends: [(Cause, Mend); 12] = [
+    let mends: [(Cause, Mend); 13] = [
         (2.into(), |call, _| call.board.width = 3),
         (4.into(), |call, _| call.board.begins.truncate(2)),
-        (5.into(), |call, _| call.board.slow[3] = 4_095),
+        (5.into(), |call, _| call.board.slow[3] = equal(4_095)),
+        (21.into(), |call, _| call.board.slow[5] = equal(10)),
         (Cause { number: 7, place: 1 }, |call, _| call.board.cells[1] = 2),
         (Cause { number: 18, place: 1 }, |call, _| call.board.cells[0] = 0),
         (8.into(), |call, _| call.board.begins[1] = 1_000_000),
@@ -169,7 +217,7 @@ fn of_all_causes_the_first_in_order_is_given() {
         (13.into(), |_, lengths| lengths[0] = 6),
         (14.into(), |_, lengths| lengths[1] = 24),
     ];
-    let slow = vec![10, 20, 0, 4_096, 1, 10];
+    let slow = vec![equal(10), pair(20, 10), 0, equal(4_096), equal(1), pair(10, 0)];
     let wrong = Board { width: 257, height: 2, slow, cells: vec![4, 6], begins: vec![0, 1_000_001, 0] };
     let above = LARGEST + 1;
     let round = Kind::Round { across: 0, down: 1, bound: above, order: vec![] };
@@ -197,7 +245,7 @@ fn of_all_causes_the_first_in_order_is_given() {
 fn sides_whose_product_wraps_are_refused_by_2() {
     let sides = [(65_536, 65_536, 0), (1 << 31, 2, 0), (65_537, 65_535, 0), (0, 0, 0), (0, 5, 0), (3, 0, 0)];
     for (width, height, size) in sides.into_iter().chain([(1_431_655_766, 3, 2), (257, 1, 257), (1, 257, 257)]) {
-        let board = Board { width, height, slow: vec![10; size], cells: vec![], begins: vec![] };
+        let board = Board { width, height, slow: vec![equal(10); size], cells: vec![], begins: vec![] };
         assert_eq!(number(board, Kind::March { horizon: 1 }, size, 4 * size), 2, "{} by {}", width, height);
     }
 }
@@ -205,7 +253,7 @@ fn sides_whose_product_wraps_are_refused_by_2() {
 /// A long order over the most tiles that there are, wrong in one place.
 #[test]
 fn an_order_of_65536_tiles_is_judged_to_its_last_entry() {
-    let board = Board { width: 256, height: 256, slow: vec![1; 65_536], cells: vec![], begins: vec![] };
+    let board = Board { width: 256, height: 256, slow: vec![equal(1); 65_536], cells: vec![], begins: vec![] };
     let mut r = Random::new(5);
     let mut order = generate::order(&mut r, 65_536);
     let round = |order: &[u32]| {

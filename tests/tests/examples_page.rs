@@ -51,5 +51,5 @@ fn the_map_is_drawn() {
     let mut python = Command::new("python3");
     let file = run(python.arg(repository().join("examples/map.py")).arg("file"), map.join("\n").as_bytes());
     let rings = printed(&mut Command::new(repository().join("target/bin/rings")), &file.stdout);
-    assert_eq!(rings, "5 3 10\n0 1 2 3 4\n1 - - - 5\n2 3 4 5 6\n", "{}", told(&file));
+    assert_eq!(rings, "5 3 10\n0 1 2 3 4\n1 - - - 5\n4 5 6 7 6\n", "{}", told(&file));
 }

@@ -68,7 +68,8 @@ fn the_readme_names_every_call_and_no_other() {
 fn the_header_compiles_alone_as_c_and_as_cpp() {
     let folder = empty_folder(env!("CARGO_TARGET_TMPDIR"), "header");
     let include = "#include \"murgolab.h\"\n".repeat(2);
-    let main = "int main(void) { return murgolab_diagonal(4096).number == MURGOLAB_SLOWNESS ? 0 : 1; }\n";
+    let main = "int main(void) { return MURGOLAB_PAIR(10, 4095) == 10 + 65536 * 4095u
+        && murgolab_diagonal(4096).number == MURGOLAB_SLOWNESS ? 0 : 1; }\n";
     for (compiler, standard, ending) in
         [("cc", "-std=c99", "c"), ("cc", "-std=c11", "c"), ("c++", "-std=c++11", "cpp"), ("c++", "-std=c++17", "cpp")]
     {
@@ -113,6 +114,8 @@ fn the_header_says_by_which_numbers_each_call_is_refused() {
         let in_order: Vec<u32> = ORDER.into_iter().filter(|number| numbers.contains(number)).collect();
         assert_eq!(numbers, in_order, "{} looks for them in another order", call);
         assert_eq!(numbers.contains(&7), numbers.contains(&18), "{} judges starts by 7 and 18, or not at all", call);
+        let takes_pairs = numbers.contains(&5) && call != "murgolab_diagonal";
+        assert_eq!(takes_pairs, numbers.contains(&21), "{} judges pairs by 5 and 21, or not at all", call);
         assert_eq!(numbers, refused_by(&text, call.trim_end_matches("_plain")), "{} with plain lists", call);
     }
 }

@@ -7,6 +7,7 @@ use second_solver::ffi::scenario;
 use second_solver::generate;
 use second_solver::programs::{printed, run, run_into_full, run_unread, told};
 use second_solver::random::Random;
+use second_solver::rule::{equal, pair, parts};
 use second_solver::scenario::Held;
 use second_solver::shown::rings;
 use std::fs;
@@ -41,7 +42,7 @@ fn made(way: &str, input: &[u8]) -> Vec<u8> {
 
 fn examples(ending: &str) -> Vec<PathBuf> {
     let found = files(&repository().join("examples"), ending);
-    assert!(found.len() >= 5, "{} examples end with {}", found.len(), ending);
+    assert!(found.len() >= 6, "{} examples end with {}", found.len(), ending);
     found
 }
 
@@ -118,7 +119,7 @@ fn random_scenario(seed: u64) -> Held {
 }
 
 fn written(held: &Held) -> Vec<u8> {
-    let mut out = vec![0; 16 + 18 * held.board.size()];
+    let mut out = vec![0; 18 + 20 * held.board.size()];
     let reply = scenario::write(&held.board, held.ticks, held.ground, &mut out);
     assert_eq!(reply.number, 0);
     out.truncate(reply.count as usize);
@@ -149,10 +150,18 @@ fn files_that_the_library_wrote_are_drawn_and_made_again() {
 /// A cell as a map draws it: its slowness, and its start's time where its letter says one.
 type Cell = (u32, Option<u32>);
 
+/// A slowness as people write it: an equal pair is one number mostly, and may be two.
+fn word_for(r: &mut Random, slowness: u32) -> String {
+    match parts(slowness) {
+        [g, h] if g == h && !r.once_in(4) => g.to_string(),
+        [g, h] => format!("{}:{}", g, h),
+    }
+}
+
 /// A map as the script's head tells people to draw one. Some starts are letters, some are lines.
 fn drawn(r: &mut Random, held: &Held) -> String {
     let board = &held.board;
-    let mut text = format!("// a remark\nground {}\n\nticks {}\n", held.ground, held.ticks);
+    let mut text = format!("// a remark\nground {}\n\nticks {}\n", word_for(r, held.ground), held.ticks);
     let mut cells: Vec<Cell> = board.slow.iter().map(|&slow| (slow, None)).collect();
     let by_numbers = r.once_in(4);
     for (&cell, &begin) in board.cells.iter().zip(&board.begins) {
@@ -172,12 +181,12 @@ fn drawn(r: &mut Random, held: &Held) -> String {
     text += if by_numbers { "map numbers\n" } else { "" };
     for cell in letters.iter().filter(|_| !by_numbers) {
         let start = cell.1.map_or(String::new(), |time| format!(" start {}", time));
-        text += &format!("{} = {}{}\n", letter(cell), cell.0, start);
+        text += &format!("{} = {}{}\n", letter(cell), word_for(r, cell.0), start);
     }
     text += if by_numbers { "" } else { "map\n" };
     for row in cells.chunks(board.width as usize) {
         if by_numbers {
-            let numbers: Vec<String> = row.iter().map(|cell| cell.0.to_string()).collect();
+            let numbers: Vec<String> = row.iter().map(|cell| word_for(r, cell.0)).collect();
             text += &numbers.join(" ");
         } else {
             text.extend(row.iter().map(letter));
@@ -247,7 +256,7 @@ fn the_script_says_which_line_of_a_map_it_refuses_and_why() {
         ("turns // so", "line 4: not a line of a map's head; rows stand behind a line `map`: turns // so"),
         ("map digits", "line 4: not a line"),
         ("ticks", "line 4: `ticks` has one number behind it: ticks"),
-        ("ground 10 20", "line 4: `ground` has one number behind it: ground 10 20"),
+        ("ground 10 20", "line 4: `ground` has one slowness behind it: ground 10 20"),
         ("ticks 10", "line 4: `ticks` is given twice: ticks 10"),
         ("ground 20", "line 4: `ground` is given twice: ground 20"),
         (". = 20", "line 4: `.` is given twice: . = 20"),
@@ -256,6 +265,13 @@ fn the_script_says_which_line_of_a_map_it_refuses_and_why() {
         ("# = 4096", "line 4: slowness `4096` is not a number from 0 to 4,095: # = 4096"),
         ("# = ٣", "line 4: slowness `٣` is not a number from 0 to 4,095: # = ٣"),
         (&digits, "line 4: slowness `99999999999999999999` is not a number from 0 to 4,095: # = 999"),
+        ("# = 4096:0", "line 4: slowness `4096` is not a number from 0 to 4,095: # = 4096:0"),
+        ("# = 10:4096", "line 4: slowness `4096` is not a number from 0 to 4,095: # = 10:4096"),
+        ("# = 10:0", "line 4: slowness `10:0` has one number that is 0, and a wall has two: # = 10:0"),
+        ("# = 0:10 start 0", "line 4: slowness `0:10` has one number that is 0, and a wall has two: # = 0:10 start 0"),
+        ("# = 10:", "line 4: slowness `` is not a number from 0 to 4,095: # = 10:"),
+        ("# = 1:2:3", "line 4: slowness `2:3` is not a number from 0 to 4,095: # = 1:2:3"),
+        ("# = 10 20", "line 4: a letter is `LETTER = SLOWNESS` or `LETTER = SLOWNESS start TIME`: # = 10 20"),
         ("# = 0 at 4", "line 4: a letter is `LETTER = SLOWNESS` or `LETTER = SLOWNESS start TIME`: # = 0 at 4"),
         (
             "S = 9 start 1000001",
@@ -273,6 +289,7 @@ fn the_script_says_which_line_of_a_map_it_refuses_and_why() {
         ("map\n..\n. .", "line 6: a space between the letters of a row: . ."),
         ("map\n..\n\n.", "line 7: a row of 1 cells, the first has 2: ."),
         ("map numbers\n1 2\n3 4096", "line 6: slowness `4096` is not a number from 0 to 4,095: 3 4096"),
+        ("map numbers\n1 2:3\n0:4 3", "line 6: slowness `0:4` has one number that is 0, and a wall has two: 0:4 3"),
         ("map numbers\n1 2\n3", "line 6: a row of 1 cells, the first has 2: 3"),
         (&wide, "line 5: width `257` is not a number from 1 to 256: ...."),
         (&high, "line 261: height `257` is not a number from 1 to 256: ."),
@@ -288,6 +305,8 @@ fn the_script_says_what_is_wrong_with_ticks_and_ground() {
         ("ticks 0", "line 1: ticks `0` is not a number from 1 to 65,535: ticks 0"),
         ("ticks 65536", "line 1: ticks `65536` is not a number from 1 to 65,535: ticks 65536"),
         ("ground 4096", "line 1: ground `4096` is not a number from 0 to 4,095: ground 4096"),
+        ("ground 10:4096", "line 1: ground `4096` is not a number from 0 to 4,095: ground 10:4096"),
+        ("ground 0:7", "line 1: ground `0:7` has one number that is 0, and a wall has two: ground 0:7"),
         ("ticks 10\n. = 1\nmap\n.", "the head has no line `ground`"),
         ("ground 10\n. = 1\nmap\n.", "the head has no line `ticks`"),
         ("", "the head has no line `ticks`"),
@@ -298,7 +317,7 @@ fn the_script_says_what_is_wrong_with_ticks_and_ground() {
 /// The ends of each range are fine.
 #[test]
 fn the_largest_and_the_least_of_everything_are_drawn() {
-    let wide = format!("ticks 65535\nground 4095\n. = 0\nS = 4095 start 1000000\nmap\n{}S\n", ".".repeat(255));
+    let wide = format!("ticks 65535\nground 4095:1\n. = 0\nS = 4095 start 1000000\nmap\n{}S\n", ".".repeat(255));
     let high = format!("ticks 1\nground 0\n. = 0\nstart 0 255 0\nmap\n{}", ".\n".repeat(256));
     for (drawn, sides) in [(wide, [0, 1, 1, 0]), (high, [1, 0, 0, 1])] {
         let file = made("file", drawn.as_bytes());
@@ -307,13 +326,30 @@ fn the_largest_and_the_least_of_everything_are_drawn() {
     }
 }
 
-/// Width, height, ticks, ground, then the counts of runs and starts; a run is of a first cell, a length and a slowness.
-fn file(head: [u16; 4], runs: &[(u32, u32, u16)], starts: &[[u32; 2]]) -> Vec<u8> {
+/// One number is the same both ways, and a pair whose numbers are equal is drawn as one.
+#[test]
+fn two_numbers_are_drawn_where_they_differ() {
+    let drawn = |pairs: &str| format!("ticks 10\nground 10\na = {}\nmap\na\n", pairs);
+    let [one, two, other] = ["20", "20:20", "20:30"].map(|pairs| made("file", drawn(pairs).as_bytes()));
+    assert_eq!(one, two);
+    assert_eq!(held_in(&one).board.slow, [equal(20)]);
+    assert_eq!(held_in(&other).board.slow, [pair(20, 30)]);
+    assert_eq!(made("text", &two), drawn("20").into_bytes());
+    assert_eq!(made("text", &other), drawn("20:30").into_bytes());
+    let numbers = "ticks 10\nground 5:6\nmap numbers\n5:6 5 6 6:5 0 0:0\n";
+    let held = held_in(&made("file", numbers.as_bytes()));
+    assert_eq!(held.ground, pair(5, 6));
+    assert_eq!(held.board.slow, [pair(5, 6), equal(5), equal(6), pair(6, 5), 0, 0]);
+}
+
+/// Width, height, ticks, the ground's two numbers, then the counts of runs and starts; a run is of a first cell, a
+/// length and two numbers.
+fn file(head: [u16; 5], runs: &[(u32, u32, [u16; 2])], starts: &[[u32; 2]]) -> Vec<u8> {
     let mut file: Vec<u8> = head.iter().flat_map(|number| number.to_le_bytes()).collect();
     file.extend([runs.len(), starts.len()].iter().flat_map(|&count| (count as u32).to_le_bytes()));
     for (first, length, slowness) in runs {
         file.extend([first, length].iter().flat_map(|number| number.to_le_bytes()));
-        file.extend(slowness.to_le_bytes());
+        file.extend(slowness.iter().flat_map(|number| number.to_le_bytes()));
     }
     file.extend(starts.iter().flatten().flat_map(|number| number.to_le_bytes()));
     file
@@ -321,20 +357,27 @@ fn file(head: [u16; 4], runs: &[(u32, u32, u16)], starts: &[[u32; 2]]) -> Vec<u8
 
 #[test]
 fn the_script_says_what_it_cannot_draw_of_a_file() {
-    let good = [2, 2, 10, 10];
-    made("text", &file(good, &[(1, 2, 5)], &[[0, 0], [3, 7]]));
+    let (good, five) = ([2, 2, 10, 10, 20], [5, 5]);
+    made("text", &file(good, &[(1, 2, five)], &[[0, 0], [3, 7]]));
     let cases = [
         (b"short".to_vec(), "a file of 5 bytes is too short for a head"),
-        (file([65_535; 4], &[], &[]), "width `65535` is not a number from 1 to 256"),
-        (file([1, 257, 10, 10], &[], &[]), "height `257` is not a number from 1 to 256"),
-        (file([0, 1, 10, 10], &[], &[]), "width `0` is not a number from 1 to 256"),
-        (file([2, 2, 0, 10], &[], &[]), "ticks `0` is not a number from 1 to 65,535"),
-        (file([2, 2, 10, 4_096], &[], &[]), "ground `4096` is not a number from 0 to 4,095"),
+        (file([65_535; 5], &[], &[]), "width `65535` is not a number from 1 to 256"),
+        (file([1, 257, 10, 10, 10], &[], &[]), "height `257` is not a number from 1 to 256"),
+        (file([0, 1, 10, 10, 10], &[], &[]), "width `0` is not a number from 1 to 256"),
+        (file([2, 2, 0, 10, 10], &[], &[]), "ticks `0` is not a number from 1 to 65,535"),
+        (file([2, 2, 10, 4_096, 0], &[], &[]), "ground `4096` is not a number from 0 to 4,095"),
+        (file([2, 2, 10, 10, 4_096], &[], &[]), "ground `4096` is not a number from 0 to 4,095"),
+        (file([2, 2, 10, 10, 0], &[], &[]), "ground `10:0` has one number that is 0, and a wall has two"),
         ([file(good, &[], &[]), vec![0]].concat(), "the file is not as long as its head says"),
-        (file(good, &[(0, 1, 4_096)], &[]), "slowness `4096` is not a number from 0 to 4,095"),
-        (file(good, &[(0, 1, 5), (3, 2, 5)], &[]), "run 1, counted from 0, passes the board's end"),
-        (file(good, &[(1, u32::MAX, 5)], &[]), "run 0, counted from 0, passes the board's end"),
-        (file(good, &[(1, 2, 5), (2, 1, 6)], &[]), "run 1, counted from 0, begins before the end of the one before"),
+        (file(good, &[(0, 1, [4_096, 5])], &[]), "slowness `4096` is not a number from 0 to 4,095"),
+        (file(good, &[(0, 1, [5, 4_096])], &[]), "slowness `4096` is not a number from 0 to 4,095"),
+        (file(good, &[(0, 1, [0, 5])], &[]), "slowness `0:5` has one number that is 0, and a wall has two"),
+        (file(good, &[(0, 1, five), (3, 2, five)], &[]), "run 1, counted from 0, passes the board's end"),
+        (file(good, &[(1, u32::MAX, five)], &[]), "run 0, counted from 0, passes the board's end"),
+        (
+            file(good, &[(1, 2, five), (2, 1, [5, 6])], &[]),
+            "run 1, counted from 0, begins before the end of the one before",
+        ),
         (file(good, &[], &[[4, 0]]), "start 0, counted from 0, is off the board"),
         (file(good, &[], &[[2, 0], [1, 0], [4, 0], [5, 0]]), "start 2, counted from 0, is off the board"),
         (file(good, &[], &[[1, 0], [1, 1]]), "start 1, counted from 0, is not above the one before"),
@@ -348,7 +391,7 @@ fn the_script_says_what_it_cannot_draw_of_a_file() {
 fn the_script_names_the_start_that_the_library_names() {
     let mut r = Random::new(72_000_000);
     let mut starts = || (0..r.within(2, 6)).map(|_| [r.below(11), 0]).collect::<Vec<_>>();
-    let files: Vec<Vec<u8>> = (0..1_000).map(|_| file([3, 3, 10, 10], &[], &starts())).collect();
+    let files: Vec<Vec<u8>> = (0..1_000).map(|_| file([3, 3, 10, 10, 20], &[], &starts())).collect();
     let mut tally = Tally::default();
     for (file, told) in files.iter().zip(many(&["text"], &files)) {
         let s = scenario::read(file, &mut [0; 9], &mut [0; 6], &mut [0; 6]);
@@ -380,9 +423,9 @@ fn the_scripts_say_how_they_are_called() {
 /// A full device is a complaint of one line; a reader who has had enough is none.
 #[test]
 fn output_that_cannot_be_written_ends_the_scripts_badly_and_without_a_traceback() {
-    let slow = (0..65_536).map(|cell| cell % 4_096).collect();
+    let slow = (0..65_536).map(|cell| equal(cell % 4_096)).collect();
     let board = Board { width: 256, height: 256, slow, cells: vec![1], begins: vec![0] };
-    let held = Held { ticks: 10, ground: 1, board };
+    let held = Held { ticks: 10, ground: equal(1), board };
     let drawn = made("text", &written(&held));
     let shown = rings(&fs::read(repository().join("examples/maze.scenario")).expect("a scenario")).into_bytes();
     for (mut script, name, input) in [

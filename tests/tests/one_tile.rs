@@ -7,6 +7,7 @@ use second_solver::ffi::{engine, engine_records, tablet};
 use second_solver::generate::{self, garbage, snake};
 use second_solver::march::solved;
 use second_solver::random::Random;
+use second_solver::rule::equal;
 use second_solver::scenario::file_of;
 use second_solver::shown::{SHOWN_HORIZON, SHOWN_SIDE};
 use second_solver::tiles::{rounds_of_one_tile, tile_count, up};
@@ -47,7 +48,7 @@ fn rounds(board: &Board, tile: [u32; 2], stride: u32, horizon: u32) -> u64 {
 /// The rounds that the tablet's call answers with one tile.
 fn tablet_rounds(board: &Board, tile: [u32; 2], stride: u32) -> u64 {
     let out = vec![0xEE; 4 * board.size() + 3];
-    let (answer, out) = tablet_both(tablet::tablet_run, &file_of(board, 10, 10), stride, tile, &out, 0);
+    let (answer, out) = tablet_both(tablet::tablet_run, &file_of(board, 10, equal(10)), stride, tile, &out, 0);
     let left: Vec<u32> = out.chunks_exact(4).map(|b| u32::from_le_bytes([b[0], b[1], b[2], b[3]])).collect();
     assert_formula(answer / 256, board, &left, tile, stride, SHOWN_HORIZON);
     // no time of 1,024 cells is past 5,189,185, so for these strides the rounds are known beforehand
@@ -65,7 +66,9 @@ fn assert_typed(board: &Board, tile: [u32; 2], typed: &[(u32, u32, u64)]) {
     }
 }
 
+/// The slownesses are those of equal pairs.
 fn board(width: u32, height: u32, slow: Vec<u32>, starts: &[(u32, u32)]) -> Board {
+    let slow = slow.into_iter().map(equal).collect();
     let (cells, begins) = starts.iter().copied().unzip();
     Board { width, height, slow, cells, begins }
 }
@@ -213,7 +216,7 @@ fn the_tablets_call_takes_the_rounds_worked_by_hand() {
         let last_stride = [(3_999, 3_000_000, 2), (4_000, 3_000_000, 2), (4_001, 3_000_000, 3), (4_001, 3_000_001, 2)];
         for (slowness, stride, want) in last_stride.into_iter().chain([(4_000, 2_999_999, 3), (4_001, 1, 6_000_000)]) {
             let mut corridor = snake(32, 32, 4_000);
-            corridor.slow[1] = slowness;
+            corridor.slow[1] = equal(slowness);
             corridor.slow[960..986].fill(0);
             assert_eq!(tablet_rounds(&corridor, tile, stride), want, "slowness {}, stride {}", slowness, stride);
         }
@@ -246,7 +249,7 @@ fn span(r: &mut Random, times: &[u32]) -> (u32, u32, u32) {
 #[test]
 fn random_boards_take_k_rounds_or_one_more() {
     let mut seen = [[0; 2]; 3];
-    for seed in 90_000_000..90_003_000 {
+    for seed in 90_000_000..90_004_000 {
         let mut r = Random::new(seed);
         let board = generate::board(&mut r, 12);
         let times = solved(&Grid::new(&board));
@@ -271,7 +274,7 @@ fn random_files_take_k_rounds_or_one_more() {
         let mut stride = r.pick(&[5_999_999, 6_000_000, 6_000_001, LARGEST]);
         if r.once_in(3) {
             board = snake(SHOWN_SIDE, SHOWN_SIDE, 4_095);
-            board.slow[1] = r.within(1, 4_095);
+            board.slow[1] = equal(r.within(1, 4_095));
             board.begins[0] -= r.below(8_000);
             stride = beside(&mut r, &solved(&Grid::new(&board)), 3_145_000, 3_160_000);
         } else if r.once_in(2) {

@@ -10,6 +10,7 @@ use second_solver::ffi::{engine, engine_records, scenario, scenario_records};
 use second_solver::generate;
 use second_solver::lent::Lent;
 use second_solver::random::Random;
+use second_solver::rule::equal;
 use second_solver::scenario::{file_of, Held, Scenario};
 use second_solver::tiles::tile_count;
 use second_solver::{Cause, Start, LATEST_START, NEVER};
@@ -44,7 +45,7 @@ fn judged(board: &Board, seed: u64) -> Cause {
             causes.push(Cause { number: reply.number, place: reply.place });
         }
     }
-    let (held, file) = (Held { ticks: 10, ground: 10, board: board.clone() }, file_of(board, 10, 10));
+    let (held, file) = (Held { ticks: 10, ground: equal(10), board: board.clone() }, file_of(board, 10, equal(10)));
     for writer in WRITERS {
         let reply = write_both(writer, &held, &vec![0xEE; file.len()], seed).0;
         causes.push(Cause { number: reply.number, place: reply.place });
@@ -62,7 +63,7 @@ fn judged(board: &Board, seed: u64) -> Cause {
 /// An open board with starts in these cells.
 fn open(width: u32, height: u32, cells: Vec<u32>) -> Board {
     let begins = vec![0; cells.len()];
-    Board { width, height, slow: vec![10; (width * height) as usize], cells, begins }
+    Board { width, height, slow: vec![equal(10); (width * height) as usize], cells, begins }
 }
 
 fn off(place: usize) -> Cause {

@@ -9,6 +9,7 @@ use second_solver::ffi::{engine, engine_records, scenario, scenario_records};
 use second_solver::generate::{self, garbage};
 use second_solver::lent::Lent;
 use second_solver::random::Random;
+use second_solver::rule::{equal, pair};
 use second_solver::scenario::{Held, Scenario};
 use second_solver::tiles::tile_count;
 use second_solver::{Reply, Start, LARGEST};
@@ -74,7 +75,8 @@ const COUNTS: [usize; 16] = [0, 1, 2, 63, 64, 65, 127, 128, 129, 255, 256, 257, 
 
 /// An open board of 32 by 32 with so many starts, anywhere.
 fn crowded(r: &mut Random, count: usize) -> Board {
-    let slow: Vec<u32> = (0..1_024).map(|_| r.within(1, 400)).collect();
+    let apart = r.once_in(2);
+    let slow: Vec<u32> = (0..1_024).map(|_| generate::open(r, apart, |r| r.within(1, 400))).collect();
     let mut cells: Vec<u32> = (0..1_024).collect();
     r.shuffle(&mut cells);
     cells.truncate(count);
@@ -130,7 +132,7 @@ fn every_start_of_a_long_list_is_judged_and_used() {
 fn a_start_in_every_cell_of_the_largest_board_gives_the_same() {
     let cells: Vec<u32> = (0..65_536).collect();
     let begins = cells.iter().map(|c| c * 40_503 % 1_000_001).collect();
-    let board = Board { width: 256, height: 256, slow: vec![10; 65_536], cells, begins };
+    let board = Board { width: 256, height: 256, slow: vec![equal(10); 65_536], cells, begins };
     let run = Kind::Run { across: 8, down: 8, stride: 65_536, horizon: LARGEST, order: (0..1_024).collect() };
     let mut late = board.clone();
     late.begins[65_535] = 1_000_001;
@@ -210,12 +212,14 @@ fn files_are_written_the_same_in_both_forms() {
         let mut r = Random::new(seed);
         let Held { mut ticks, mut ground, mut board } = random_scenario(&mut r);
         let need = second_solver::scenario::file_of(&board, ticks, ground).len();
-        match r.below(12) {
+        match r.below(14) {
             0 => ticks = r.pick(&[0, 65_536]),
-            1 => ground = 4_096,
+            1 => ground = r.pick(&[pair(4_096, 1), pair(1, 4_096)]),
             2 => board.width = r.pick(&[0, 257]),
-            3 => board.slow.push(1),
-            4 => board.slow[0] = 4_096,
+            3 => board.slow.push(equal(1)),
+            4 => board.slow[0] = r.pick(&[pair(4_096, 1), pair(1, 4_096)]),
+            9 => ground = r.pick(&[pair(1, 0), pair(0, 1)]),
+            10 => board.slow[0] = r.pick(&[pair(1, 0), pair(0, 1)]),
             5 => {
                 board.cells.push(board.slow.len() as u32);
                 board.begins.push(0);

@@ -8,6 +8,7 @@ use second_solver::generate;
 use second_solver::march::{cut, solved};
 use second_solver::programs::{run, told};
 use second_solver::random::Random;
+use second_solver::rule::{equal, pair};
 use second_solver::scenario::{file_of, Held};
 use second_solver::shown::{self, SHOWN_FILE, SHOWN_HORIZON, SHOWN_SIDE};
 use second_solver::NEVER;
@@ -67,7 +68,7 @@ fn good_files_are_shown_as_the_second_solver_shows_them() {
 fn damaged_files_are_refused_as_the_second_solver_refuses_them() {
     let causes = [&FILE_CAUSES[..], &[15]].concat();
     let mut tally = Tally::default();
-    for seed in 66_000_000..66_004_000 {
+    for seed in 66_000_000..66_005_000 {
         let mut r = Random::new(seed);
         let mut draft = Draft::of(&random_scenario(&mut r, 8));
         for _ in 0..r.below(4) {
@@ -90,23 +91,44 @@ fn damaged_files_are_refused_as_the_second_solver_refuses_them() {
 fn a_start_at_fault_is_refused_by_the_number_alone() {
     for (cells, line) in [(vec![0, 9], "refused 7\n"), (vec![8, 0], "refused 18\n"), (vec![3, 3, 9], "refused 7\n")] {
         let begins = vec![0; cells.len()];
-        let board = Board { width: 3, height: 3, slow: vec![10; 9], cells, begins };
-        assert_eq!(shown(&file_of(&board, 10, 10), 0), line, "{:?}", board.cells);
+        let board = Board { width: 3, height: 3, slow: vec![equal(10); 9], cells, begins };
+        assert_eq!(shown(&file_of(&board, 10, equal(10)), 0), line, "{:?}", board.cells);
     }
+}
+
+/// 5 beats 21 wherever they stand, and 21 beats 6 and 7.
+#[test]
+fn a_pair_at_fault_is_refused_by_its_number() {
+    let good = Board { width: 3, height: 1, slow: [10, 20, 10].map(equal).to_vec(), cells: vec![0], begins: vec![0] };
+    let line = |slow: [u32; 3], ground: u32, cell: u32| {
+        shown(&file_of(&Board { slow: slow.to_vec(), cells: vec![cell], ..good.clone() }, 10, ground), 0)
+    };
+    let ten = equal(10);
+    for half in [pair(10, 0), pair(0, 10)] {
+        assert_eq!(line([ten, ten, half], ten, 3), "refused 21\n");
+        assert_eq!(line([ten; 3], half, 3), "refused 21\n");
+        for slow in [pair(4_096, 10), pair(10, 4_096), pair(0, 4_096), pair(4_096, 0)] {
+            for pairs in [[half, slow, ten], [slow, half, ten]] {
+                assert_eq!(line(pairs, ten, 0), "refused 5\n", "{:?}", pairs);
+            }
+            assert_eq!([line([half; 3], slow, 0), line([slow; 3], half, 0)], ["refused 5\n"; 2]);
+        }
+    }
+    assert_eq!(line([ten, pair(1, 4_095), ten], ten, 0), "3 1 10\n0 1 2\n");
 }
 
 /// 32 by 32, each cell a run and a start of its own.
 fn largest() -> Vec<u8> {
     let cells: Vec<u32> = (0..1_024).collect();
     let begins = cells.iter().map(|c| c * 977 % 1_000_001).collect();
-    let slow = cells.iter().map(|c| 4_094 + c % 2).collect();
-    let file = file_of(&Board { width: 32, height: 32, slow, cells, begins }, 7, 1);
+    let slow = cells.iter().map(|c| pair(4_094 + c % 2, 4_095)).collect();
+    let file = file_of(&Board { width: 32, height: 32, slow, cells, begins }, 7, equal(1));
     assert_eq!(file.len(), SHOWN_FILE);
     file
 }
 
 #[test]
-fn files_of_18448_bytes_pass_and_longer_ones_are_refused_by_15_first() {
+fn files_of_20498_bytes_pass_and_longer_ones_are_refused_by_15_first() {
     let mut file = largest();
     assert!(shown(&file, 0).starts_with("32 32 7\n"));
     assert_eq!(shown(&file[..SHOWN_FILE - 1], 0), "refused 1\n");
@@ -114,8 +136,8 @@ fn files_of_18448_bytes_pass_and_longer_ones_are_refused_by_15_first() {
     assert_eq!(shown(&file, 0), "refused 15\n");
     // as long as its head says, and still too long
     file.extend([0; 7]);
-    file[12] = 1;
-    file[13] = 4;
+    file[14] = 1;
+    file[15] = 4;
     assert_eq!(shown(&file, 0), "refused 15\n");
     for length in SHOWN_FILE - 1..=SHOWN_FILE + 1 {
         let want = if length > SHOWN_FILE { "refused 15\n" } else { "refused 1\n" };
@@ -131,7 +153,7 @@ fn more_than_a_pipe_holds_is_refused_by_15_and_nothing_by_1() {
     let mut large = largest();
     large.resize(200_000, 0);
     assert_eq!(shown(&large, 0), "refused 15\n");
-    for length in 0..16 {
+    for length in 0..18 {
         assert_eq!(shown(&vec![1; length], 0), "refused 1\n", "{} bytes", length);
     }
 }

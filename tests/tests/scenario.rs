@@ -7,12 +7,13 @@ use second_solver::drafts::{spoil_byte, Draft, FILE_CAUSES};
 use second_solver::ffi::scenario::{read, write};
 use second_solver::generate::{self, garbage, scenarios_of_extreme_sides};
 use second_solver::random::Random;
+use second_solver::rule::pair;
 use second_solver::scenario::{Held, Scenario};
 use second_solver::typed::{self, FILE};
 use second_solver::{Cause, NEVER};
 
 /// What the reader can refuse by.
-const READER_CAUSES: [u32; 10] = [1, 2, 3, 5, 6, 7, 18, 8, 9, 14];
+const READER_CAUSES: [u32; 11] = [1, 2, 3, 5, 21, 6, 7, 18, 8, 9, 14];
 
 /// Lists that hold anything, long enough for the scenario and some longer.
 fn roomy(r: &mut Random, held: &Held) -> Lists {
@@ -108,22 +109,25 @@ fn the_shortest_and_the_longest_sides_are_read_in_every_lay() {
 fn the_longest_file_is_read_to_its_end() {
     let held = generate::longest_scenario();
     let file = Draft::of(&held).bytes();
-    let (runs_end, end) = (16 + 10 * 65_536, 16 + 18 * 65_536);
+    let (runs_end, end) = (18 + 12 * 65_536, 18 + 20 * 65_536);
     assert_eq!(file.len(), end);
     let lists = marked(65_536, 65_536);
     assert!(read_and_write_again(&file, &lists, &mut Tally::default(), 0) == Some(held));
     let at_the_last = |number: u32| Cause { number, place: 65_535 };
-    let changes = [
-        (runs_end - 1, 0x10, 5.into()),   // the last run's slowness 4,128
-        (runs_end - 6, 2, 6.into()),      // its length 2
-        (end - 6, 1, at_the_last(7)),     // the last start's cell is 131,071
-        (end - 8, 0xFE, at_the_last(18)), // .. that of the start before
-        (end - 4, 0x41, 8.into()),        // its time 1,000,001
-        (runs_end - 2, 0, 9.into()),      // a wall under it
+    let changes: [(usize, &[u8], Cause); 9] = [
+        (runs_end - 3, &[0x10], 5.into()),       // the last run's g, 4,096 and more
+        (runs_end - 1, &[0x10], 5.into()),       // .. its h
+        (runs_end - 4, &[0, 0], 21.into()),      // no g alone
+        (runs_end - 2, &[0, 0], 21.into()),      // no h alone
+        (runs_end - 8, &[2], 6.into()),          // its length 2
+        (end - 6, &[1], at_the_last(7)),         // the last start's cell is 131,071
+        (end - 8, &[0xFE], at_the_last(18)),     // .. that of the start before
+        (end - 4, &[0x41], 8.into()),            // its time 1,000,001
+        (runs_end - 4, &[0, 0, 0, 0], 9.into()), // a wall under it
     ];
-    for (at, byte, cause) in changes {
+    for (at, bytes, cause) in changes {
         let mut damaged = file.clone();
-        damaged[at] = byte;
+        damaged[at..at + bytes.len()].copy_from_slice(bytes);
         assert_eq!(read_both(read, &damaged, &lists, at as u64).0, Scenario::refused(cause), "byte {}", at);
     }
 }
@@ -135,75 +139,134 @@ fn marked(slow: usize, starts: usize) -> Lists {
 #[test]
 fn a_file_typed_by_hand_is_read() {
     let (answer, after) = read_both(read, &FILE, &marked(7, 3), 0);
-    assert_eq!(answer, Scenario { number: 0, width: 3, height: 2, ticks: 10, ground: 10, starts: 2, place: 0 });
+    let ground = pair(10, 20);
+    assert_eq!(answer, Scenario { number: 0, width: 3, height: 2, ticks: 10, ground, starts: 2, place: 0 });
     assert_eq!(held_by(&answer, &after), typed::held());
     assert_eq!((after.slow[6], after.cells[2], after.begins[2]), (77, 88, 99));
     let mut late = FILE;
-    late[48] = 0x41;
+    late[54] = 0x41;
     let (answer, after) = read_both(read, &late, &marked(7, 3), 0);
     assert_eq!((answer, after), (Scenario::refused(8), marked(7, 3)));
 }
 
-/// A byte of the typed file changed, and the number that document 01 has for it.
+/// The typed file with these bytes in it.
+fn changed(changes: &[(usize, &[u8])]) -> Vec<u8> {
+    let mut file = FILE.to_vec();
+    for (at, bytes) in changes {
+        file[*at..at + bytes.len()].copy_from_slice(bytes);
+    }
+    file
+}
+
+/// A byte of the typed file changed, and the number that document 01 or card 10 has for it.
 #[test]
 fn each_rule_of_the_file_has_its_number() {
-    let changes: [(usize, u8, u32); 24] = [
+    let changes: [(usize, u8, u32); 32] = [
         (0, 0, 2),     // no width
         (3, 2, 2),     // height 514
         (4, 0, 3),     // no ticks
         (5, 255, 0),   // many ticks
-        (7, 0x10, 5),  // the ground's slowness 4,106
-        (6, 0, 6),     // the ground's slowness is that of a run
-        (8, 3, 1),     // a run more than there is
-        (12, 1, 1),    // a start less than there is
-        (15, 0x20, 1), // 2^29 starts more
-        (16, 0, 9),    // walls 0 and 1
-        (16, 2, 6),    // the first run runs into the second
-        (20, 0, 6),    // the first run is empty
-        (20, 1, 0),    // cell 2 is ground
-        (20, 3, 6),    // the first run runs into the second
-        (23, 0x80, 6), // the first run ends beyond 32 bits
-        (25, 0x10, 5), // a run's slowness 4,096
-        (26, 0, 6),    // the second run begins before the first
-        (26, 6, 6),    // the second run lies beyond the board
-        (30, 4, 6),    // the second run ends beyond the board
-        (30, 3, 0),    // the second run ends with the board
-        (34, 10, 0),   // slowness 3,850
-        (36, 5, 18),   // the same cell twice
-        (44, 6, 7),    // a start beyond the board
-        (44, 2, 9),    // a start on a wall
+        (7, 0x10, 5),  // the ground's g 4,106
+        (9, 0x10, 5),  // the ground's h 4,116
+        (9, 0xFF, 5),  // .. 65,300
+        (6, 0, 21),    // the ground's g 0
+        (8, 0, 21),    // the ground's h 0
+        (10, 3, 1),    // a run more than there is
+        (14, 1, 1),    // a start less than there is
+        (17, 0x20, 1), // 2^29 starts more
+        (18, 0, 9),    // walls 0 and 1
+        (18, 2, 6),    // the first run runs into the second
+        (22, 0, 6),    // the first run is empty
+        (22, 1, 0),    // cell 2 is ground
+        (22, 3, 6),    // the first run runs into the second
+        (25, 0x80, 6), // the first run ends far beyond the board
+        (27, 0x10, 5), // a run's g 4,096, its h 0
+        (29, 0x10, 5), // a run's h 4,096, its g 0
+        (26, 1, 21),   // a run's g 1, its h 0
+        (28, 1, 21),   // a run's h 1, its g 0
+        (30, 0, 6),    // the second run begins before the first
+        (30, 6, 6),    // the second run lies beyond the board
+        (34, 4, 6),    // the second run ends beyond the board
+        (34, 3, 0),    // the second run ends with the board
+        (38, 10, 0),   // its g 3,850
+        (40, 0, 21),   // its h 0
+        (41, 0x10, 5), // its h 4,097
+        (42, 5, 18),   // the same cell twice
+        (50, 6, 7),    // a start beyond the board
+        (50, 2, 9),    // a start on a wall
     ];
     for (at, byte, number) in changes {
-        let mut file = FILE;
-        file[at] = byte;
+        let file = changed(&[(at, &[byte])]);
         assert_eq!(read_both(read, &file, &marked(6, 2), 0).0.number, number, "byte {} is {}", at, byte);
     }
-    let mut touching = FILE;
-    touching[34..36].copy_from_slice(&[0, 0]); // two runs that touch, both of walls
-    assert_eq!(read_both(read, &touching, &marked(6, 2), 0).0.number, 6);
+}
+
+/// Runs and ground are the same if both numbers are: one that is another makes them differ.
+#[test]
+fn runs_differ_from_the_ground_and_from_each_other_if_either_number_does() {
+    type Change<'a> = (usize, &'a [u8]);
+    let wall = [0, 0, 0, 0];
+    let cases: [(&[Change], u32); 9] = [
+        (&[(6, &wall)], 6),                               // the ground is walls, as the first run
+        (&[(38, &[10, 0, 20, 0])], 6),                    // the second run is ground
+        (&[(38, &[10, 0, 21, 0])], 0),                    // .. but for its h
+        (&[(38, &[11, 0, 20, 0])], 0),                    // .. but for its g
+        (&[(38, &[20, 0, 10, 0])], 0),                    // .. with g and h in each other's place
+        (&[(38, &wall)], 6),                              // two runs that touch, both of walls
+        (&[(26, &[7, 0, 8, 0]), (38, &[7, 0, 8, 0])], 6), // .. both of one pair
+        (&[(26, &[7, 0, 8, 0]), (38, &[7, 0, 9, 0])], 0), // .. with another h
+        (&[(26, &[7, 0, 8, 0]), (38, &[6, 0, 8, 0])], 0), // .. with another g
+    ];
+    for (changes, number) in cases {
+        assert_eq!(read_both(read, &changed(changes), &marked(6, 2), 0).0.number, number, "{:?}", changes);
+    }
+}
+
+/// 5 looks at both numbers of the ground and of every run before 21 looks at any, and 21 at all before 6 does.
+#[test]
+fn in_ground_and_runs_5_is_looked_for_before_21_and_21_before_6_and_7() {
+    let (ground, first, second) = (6, 26, 38);
+    let half_walls = [[10, 0, 0, 0], [0, 0, 10, 0], [0xFF, 0x0F, 0, 0], [0, 0, 1, 0]];
+    let too_slow = [[0, 0x10, 10, 0], [10, 0, 0, 0x10], [0, 0x10, 0, 0], [0, 0, 0, 0x10], [0xFF; 4]];
+    let number = |changes: &[(usize, &[u8])]| read_both(read, &changed(changes), &marked(6, 2), 0).0.number;
+    for half_at in [ground, first, second] {
+        for half in &half_walls {
+            assert_eq!(number(&[(half_at, half)]), 21, "{:?} at {}", half, half_at);
+            // an empty run, a start beyond the board
+            assert_eq!(number(&[(half_at, half), (22, &[0]), (50, &[6])]), 21, "{:?} at {}", half, half_at);
+            for slow_at in [ground, first, second].into_iter().filter(|at| *at != half_at) {
+                for slow in &too_slow {
+                    let changes: [(usize, &[u8]); 3] = [(half_at, half), (slow_at, slow), (22, &[0])];
+                    assert_eq!(number(&changes), 5, "{:?}", changes);
+                }
+            }
+        }
+    }
 }
 
 /// All causes at once; each is taken away in turn.
 #[test]
 fn of_all_causes_the_first_in_order_is_given() {
-    let mut file = FILE.to_vec();
     // starts 5 and 6, the second too late
-    for (at, byte) in [(0, 0), (4, 0), (7, 0x10), (30, 0), (36, 5), (44, 6), (48, 0x41)] {
+    let all = [(0, 0), (4, 0), (7, 0x10), (40, 0), (34, 0), (42, 5), (50, 6), (54, 0x41)];
+    let mut file = FILE.to_vec();
+    for (at, byte) in all {
         file[at] = byte;
     }
     let answer = |file: &[u8], slow: usize| read_both(read, file, &marked(slow, 2), 0).0;
-    assert_eq!(answer(&file[..51], 5), Scenario::refused(1));
+    assert_eq!(answer(&file[..57], 5), Scenario::refused(1));
     // .. then 5 and 2, then 0 and 2, which is a wall, then 0 and 5
     let (off, not_rising) = (Cause { number: 7, place: 1 }, Cause { number: 18, place: 1 });
     let mends = [
         (2.into(), 0, FILE[0]),
         (3.into(), 4, FILE[4]),
         (5.into(), 7, FILE[7]),
-        (6.into(), 30, FILE[30]),
-        (off, 44, 2),
-        (not_rising, 36, FILE[36]),
-        (8.into(), 48, FILE[48]),
-        (9.into(), 44, FILE[44]),
+        (21.into(), 40, FILE[40]),
+        (6.into(), 34, FILE[34]),
+        (off, 50, 2),
+        (not_rising, 42, FILE[42]),
+        (8.into(), 54, FILE[54]),
+        (9.into(), 50, FILE[50]),
     ];
     for (cause, at, byte) in mends {
         assert_eq!(answer(&file, 5), Scenario::refused(cause));
@@ -233,7 +296,7 @@ fn every_change_of_a_single_byte_is_judged_alike() {
             read_and_write_again(&file, &marked(300, 2), &mut tally, at as u64);
         }
     }
-    assert_eq!(tally.calls(), 52 * 256);
+    assert_eq!(tally.calls(), 58 * 256);
     tally.assert_each(&READER_CAUSES, 1);
 }
 
@@ -247,14 +310,14 @@ fn counts_that_wrap_do_not_fit() {
     let mut tally = Tally::default();
     for &runs in &counts {
         for &starts in &counts {
-            let low = (16 + 10 * u64::from(runs) + 8 * u64::from(starts)) as u32 as usize;
-            let fits_wrapped = (16..2_000).contains(&low) && runs.max(starts) > 3;
+            let low = (18 + 12 * u64::from(runs) + 8 * u64::from(starts)) as u32 as usize;
+            let fits_wrapped = (18..2_000).contains(&low) && runs.max(starts) > 3;
             wrapped += u32::from(fits_wrapped);
-            for length in (16..=72).chain(Some(low).filter(|_| fits_wrapped)) {
+            for length in (18..=80).chain(Some(low).filter(|_| fits_wrapped)) {
                 let mut file = FILE.to_vec();
                 file.resize(length, 0);
-                file[8..12].copy_from_slice(&runs.to_le_bytes());
-                file[12..16].copy_from_slice(&starts.to_le_bytes());
+                file[10..14].copy_from_slice(&runs.to_le_bytes());
+                file[14..18].copy_from_slice(&starts.to_le_bytes());
                 let number = read_both(read, &file, &marked(6, 4), 0).0.number;
                 assert!(number == 1 || runs.max(starts) <= 3, "{} runs, {} starts: {}", runs, starts, number);
                 tally.note(number);

@@ -7,6 +7,7 @@ use second_solver::damage::{spoil_writing, WRITER_CAUSES};
 use second_solver::ffi::scenario::{read, write};
 use second_solver::generate::{self, scenarios_of_extreme_sides};
 use second_solver::random::Random;
+use second_solver::rule::{equal, pair};
 use second_solver::scenario::{file_of, Held, Scenario};
 use second_solver::typed::{self, FILE};
 use second_solver::{Cause, Reply, NEVER};
@@ -81,8 +82,11 @@ fn the_longest_file_is_written_to_its_end() {
         change(&mut held.board);
         write_and_read(&mut Random::new(82_000_000), &held, out, 0).number
     };
-    let length = 16 + 18 * 65_536;
-    assert_eq!(number(&|b| b.slow[65_535] = 4_096, length), 5);
+    let length = 18 + 20 * 65_536;
+    assert_eq!(number(&|b| b.slow[65_535] = pair(4_096, 1), length), 5);
+    assert_eq!(number(&|b| b.slow[65_535] = pair(1, 4_096), length), 5);
+    assert_eq!(number(&|b| b.slow[65_535] = pair(1, 0), length), 21);
+    assert_eq!(number(&|b| b.slow[65_535] = pair(0, 1), length), 21);
     assert_eq!(number(&|b| b.cells[65_535] = 65_536, length), 7);
     assert_eq!(number(&|b| b.cells[65_535] = 65_534, length), 18);
     assert_eq!(number(&|b| b.begins[65_535] = 1_000_001, length), 8);
@@ -92,17 +96,17 @@ fn the_longest_file_is_written_to_its_end() {
 
 #[test]
 fn a_file_typed_by_hand_is_written() {
-    let (reply, out) = write_both(write, &typed::held(), &[0xEE; 60], 0);
-    assert_eq!((reply, &out[..52], &out[52..]), (Reply::accepted(52), &FILE[..], &[0xEE; 8][..]));
+    let (reply, out) = write_both(write, &typed::held(), &[0xEE; 66], 0);
+    assert_eq!((reply, &out[..58], &out[58..]), (Reply::accepted(58), &FILE[..], &[0xEE; 8][..]));
     let mut late = typed::held();
     late.board.begins[1] = 1_000_001;
-    assert_eq!(write_both(write, &late, &[0xEE; 60], 0), (Reply::refused(8), vec![0xEE; 60]));
+    assert_eq!(write_both(write, &late, &[0xEE; 66], 0), (Reply::refused(8), vec![0xEE; 66]));
 }
 
 #[test]
 fn a_list_of_every_length_is_written_or_refused_by_14() {
-    for length in 0..=60 {
-        let want = if length < 52 { Reply::refused(14) } else { Reply::accepted(52) };
+    for length in 0..=66 {
+        let want = if length < 58 { Reply::refused(14) } else { Reply::accepted(58) };
         assert_eq!(write_both(write, &typed::held(), &vec![0xEE; length], 0).0, want, "{} bytes", length);
     }
 }
@@ -111,28 +115,50 @@ fn a_list_of_every_length_is_written_or_refused_by_14() {
 #[test]
 fn of_all_causes_the_first_in_order_is_given() {
     let good = typed::held();
-    let mut held = Held { ticks: 65_536, ground: 4_096, board: Board { width: 257, ..good.board.clone() } };
+    let mut held = Held { ticks: 65_536, ground: equal(4_096), board: Board { width: 257, ..good.board.clone() } };
     held.board.slow.pop();
     held.board.cells = vec![5, 6];
     held.board.begins[1] = 1_000_001;
     let (off, not_rising) = (Cause { number: 7, place: 1 }, Cause { number: 18, place: 1 });
     type Repair = fn(&mut Held, &Held);
-    let repairs: [(Cause, Repair); 8] = [
+    let repairs: [(Cause, Repair); 9] = [
         (2.into(), |held, good| held.board.width = good.board.width),
         (3.into(), |held, good| held.ticks = good.ticks),
-        (4.into(), |held, good| held.board.slow = good.board.slow.clone()),
+        (4.into(), |held, good| held.board.slow = [&good.board.slow[..5], &[pair(10, 0)]].concat()),
         (5.into(), |held, good| held.ground = good.ground),
+        (21.into(), |held, good| held.board.slow = good.board.slow.clone()),
         (off, |held, _| held.board.cells[1] = 2), // a wall
         (not_rising, |held, good| held.board.cells[0] = good.board.cells[0]),
         (8.into(), |held, good| held.board.begins[1] = good.board.begins[1]),
         (9.into(), |held, good| held.board.cells[1] = good.board.cells[1]),
     ];
     for (cause, repair) in repairs {
-        assert_eq!(write_both(write, &held, &[0; 51], 0).0, Reply::refused(cause));
+        assert_eq!(write_both(write, &held, &[0; 57], 0).0, Reply::refused(cause));
         repair(&mut held, &good);
     }
-    assert_eq!(write_both(write, &held, &[0; 51], 0).0, Reply::refused(14));
-    assert_eq!(write_both(write, &held, &[0; 52], 0).0, Reply::accepted(52));
+    assert_eq!(write_both(write, &held, &[0; 57], 0).0, Reply::refused(14));
+    assert_eq!(write_both(write, &held, &[0; 58], 0).0, Reply::accepted(58));
+}
+
+/// 5 looks at the ground and at the whole list before 21 looks at either, and 21 is looked for before 7.
+#[test]
+fn in_ground_and_list_5_is_looked_for_before_21() {
+    for half in [pair(10, 0), pair(0, 10)] {
+        for slow in [pair(4_096, 10), pair(10, 4_096), pair(4_096, 0), pair(0, 4_096), NEVER] {
+            // the ground's place, and three of the list
+            for (half_at, slow_at) in
+                [(None, Some(0)), (None, Some(5)), (Some(0), None), (Some(0), Some(5)), (Some(5), Some(0))]
+            {
+                let mut held = typed::held();
+                held.board.cells[1] = 6;
+                let mut put = |at: Option<usize>, s: u32| {
+                    *at.map_or(&mut held.ground, |at| &mut held.board.slow[at]) = s;
+                    write_both(write, &held, &[0; 90], 0).0.number
+                };
+                assert_eq!([put(half_at, half), put(slow_at, slow)], [21, 5], "{:?} {:?}", half_at, slow_at);
+            }
+        }
+    }
 }
 
 #[test]
@@ -140,12 +166,26 @@ fn each_limit_passes_and_one_beyond_it_does_not() {
     let number = |change: &dyn Fn(&mut Held)| {
         let mut held = typed::held();
         change(&mut held);
-        write_both(write, &held, &[0; 80], 0).0.number
+        write_both(write, &held, &[0; 90], 0).0.number
     };
     for (ticks, want) in [(0, 3), (1, 0), (65_535, 0), (65_536, 3), (65_546, 3), (NEVER, 3)] {
         assert_eq!(number(&|held| held.ticks = ticks), want, "{} ticks", ticks);
     }
-    for (slowness, want) in [(0, 0), (4_095, 0), (4_096, 5), (65_546, 5), (NEVER, 5)] {
+    for (slowness, want) in [
+        (0, 0),
+        (equal(4_095), 0),
+        (pair(1, 4_095), 0),
+        (pair(4_096, 4_095), 5),
+        (pair(4_095, 4_096), 5),
+        (pair(4_096, 0), 5),
+        (pair(0, 4_096), 5),
+        (pair(65_535, 1), 5),
+        (NEVER, 5),
+        (pair(4_095, 0), 21),
+        (pair(0, 4_095), 21),
+        (pair(10, 0), 21),
+        (pair(0, 1), 21),
+    ] {
         assert_eq!(number(&|held| held.ground = slowness), want, "ground {}", slowness);
         assert_eq!(number(&|held| held.board.slow[4] = slowness), want, "slowness {}", slowness);
     }
@@ -157,5 +197,5 @@ fn each_limit_passes_and_one_beyond_it_does_not() {
     }
     assert_eq!(number(&|held| held.board.cells.truncate(1)), 4);
     assert_eq!(number(&|held| held.board.begins.push(0)), 4);
-    assert_eq!(number(&|held| held.board.slow.push(10)), 4);
+    assert_eq!(number(&|held| held.board.slow.push(equal(10))), 4);
 }

@@ -7,7 +7,7 @@ use second_solver::generate;
 use second_solver::leap::run_by_leaps;
 use second_solver::march::{cut, met, solved_by_front, solved_by_passes};
 use second_solver::random::Random;
-use second_solver::rule::{diagonal_step, local, local_by_search};
+use second_solver::rule::{diagonal_step, equal, local, local_by_search, pair, parts};
 use second_solver::scenario::{file_of, judge};
 use second_solver::shown::rings;
 use second_solver::tiles::{altered, round, run_every_round, Tiling};
@@ -15,7 +15,7 @@ use second_solver::{Cause, Reply, LARGEST, NEVER};
 
 /// Three by three, slowness 10, start cell 0 at 0.
 fn three_by_three() -> Board {
-    Board { width: 3, height: 3, slow: vec![10; 9], cells: vec![0], begins: vec![0] }
+    Board { width: 3, height: 3, slow: vec![equal(10); 9], cells: vec![0], begins: vec![0] }
 }
 
 const SOLVED: [u32; 9] = [0, 10, 20, 10, 18, 26, 20, 26, 34];
@@ -24,8 +24,10 @@ const SOLVED: [u32; 9] = [0, 10, 20, 10, 18, 26, 20, 26, 34];
 fn halving_finds_what_the_search_finds() {
     for seed in 0..100_000 {
         let mut r = Random::new(seed);
-        let s = r.spread(4_095);
-        let apart = r.spread(2 * s + 2);
+        let g = r.spread(4_095);
+        let h = if r.once_in(2) { g } else { r.spread(4_095) };
+        let s = if g == 0 || h == 0 { 0 } else { pair(g, h) };
+        let apart = r.spread(2 * g.max(h) + 2);
         let mut time = || if r.once_in(5) { NEVER } else { 1_000 + r.within(0, apart) };
         let (a, b, c, d) = (time(), time(), time(), time());
         assert_eq!(local(s, a, b, c, d), local_by_search(s, a, b, c, d), "seed {}", seed);
@@ -35,8 +37,17 @@ fn halving_finds_what_the_search_finds() {
 #[test]
 fn equal_times_add_the_diagonal_step() {
     for s in 1..=4_095 {
-        assert_eq!(local(s, 9, NEVER, 9, NEVER), 9 + diagonal_step(s), "slowness {}", s);
+        assert_eq!(local(equal(s), 9, NEVER, 9, NEVER), 9 + diagonal_step(s), "slowness {}", s);
     }
+}
+
+/// Every second board; the rest has equal pairs alone.
+#[test]
+fn half_of_the_random_boards_have_unequal_pairs() {
+    let is_unequal = |s: &u32| parts(*s)[0] != parts(*s)[1];
+    let boards = (0..4_000).map(|seed| generate::board(&mut Random::new(seed), 14));
+    let unequal = boards.filter(|board| board.slow.iter().any(is_unequal)).count();
+    assert!((1_600..2_400).contains(&unequal), "{} of 4,000", unequal);
 }
 
 #[test]
@@ -117,7 +128,7 @@ fn a_refused_call_alters_nothing_and_an_accepted_one_clears_its_work() {
 /// What card 2 has for lists of starts on nine cells, the last of which is a wall, by hand: number and place.
 #[test]
 fn lists_of_starts_are_judged_as_worked_by_hand() {
-    let slow = [10, 10, 10, 10, 10, 10, 10, 10, 0];
+    let slow = [[equal(10); 8].to_vec(), vec![0]].concat();
     let judged = |cells: &[u32], late: u32| judge_starts(&slow, cells, &vec![late; cells.len()]);
     for (cells, number, place) in [
         (&[9][..], 7, 0),
@@ -150,10 +161,10 @@ fn a_file_that_is_written_holds_the_board() {
 
 #[test]
 fn rings_of_the_three_by_three_board_are_those_worked_by_hand() {
-    let file = file_of(&three_by_three(), 10, 10);
-    assert_eq!(file.len(), 24);
+    let file = file_of(&three_by_three(), 10, equal(10));
+    assert_eq!(file.len(), 26);
     assert_eq!(rings(&file), "3 3 10\n0 1 2\n1 2 3\n2 3 4\n");
-    assert_eq!(rings(&file[..23]), "refused 1\n");
+    assert_eq!(rings(&file[..25]), "refused 1\n");
 }
 
 /// What a march gives to the second solver, with lists as long as they must be.
@@ -180,7 +191,7 @@ fn the_other_boards_are_those_worked_by_hand() {
         (0, 256, Reply::refused(2)),
     ] {
         let size = (width * height) as usize;
-        let board = Board { width, height, slow: vec![10; size], cells: vec![0], begins: vec![0] };
+        let board = Board { width, height, slow: vec![equal(10); size], cells: vec![0], begins: vec![0] };
         assert_eq!(marched(board, size).0, reply, "{} by {}", width, height);
     }
 }

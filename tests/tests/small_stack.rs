@@ -9,6 +9,7 @@ use second_solver::ffi::tablet::tablet_run;
 use second_solver::ffi::turn::turn;
 use second_solver::ffi::{engine, engine_records, scenario, scenario_records};
 use second_solver::random::Random;
+use second_solver::rule::{equal, pair};
 use second_solver::scenario::{file_of, Scenario};
 use second_solver::stacks::{on_a_stack_of, stack_of};
 use second_solver::tiles::tile_count;
@@ -40,20 +41,22 @@ fn one(reply: Reply) -> u64 {
 
 fn large_board(seed: u64, starts: u32) -> Board {
     let mut r = Random::new(seed);
-    let slow = (0..65_536).map(|_| r.within(1, 4_095)).collect();
+    let slow = (0..65_536).map(|_| pair(r.within(1, 4_095), r.within(1, 4_095))).collect();
     let cells: Vec<u32> = (0..starts).collect();
     let begins = cells.iter().map(|c| c * 40_503 % 1_000_001).collect();
     Board { width: 256, height: 256, slow, cells, begins }
 }
 
-/// Each cell a run and a start of its own: 1,179,664 bytes.
+const GROUND: u32 = equal(1);
+
+/// Each cell a run and a start of its own: 1,310,738 bytes.
 fn largest_file() -> (Board, Vec<u8>) {
     let mut board = large_board(3, 65_536);
     for (c, s) in board.slow.iter_mut().enumerate() {
-        *s = 4_094 + (c % 2) as u32;
+        *s = pair(4_094 + (c % 2) as u32, 4_095);
     }
-    let file = file_of(&board, 65_535, 1);
-    assert_eq!(file.len(), 16 + 18 * 65_536);
+    let file = file_of(&board, 65_535, GROUND);
+    assert_eq!(file.len(), 18 + 20 * 65_536);
     (board, file)
 }
 
@@ -102,7 +105,7 @@ fn engine_cases() -> Vec<Case> {
 /// The reader's answer, which must be that of the largest file.
 fn as_reply(answer: Scenario) -> Reply {
     let Scenario { number, width, height, ticks, ground, starts, place } = answer;
-    assert_eq!([width, height, ticks, ground], [256, 256, 65_535, 1]);
+    assert_eq!([width, height, ticks, ground], [256, 256, 65_535, GROUND]);
     Reply { number, count: starts, place }
 }
 
@@ -115,8 +118,8 @@ fn scenario_cases() -> Vec<Case> {
     let (mut same_slow, mut starts) = (vec![0; 65_536], vec![Start { cell: 0, time: 0 }; 65_536]);
     let read_plain = move || one(as_reply(scenario::read(&file, &mut slow, &mut cells, &mut begins)));
     let read = move || one(as_reply(scenario_records::read(&same_file, &mut same_slow, &mut starts)));
-    let write_plain = move || one(scenario::write(&board, 65_535, 1, &mut out));
-    let write = move || one(scenario_records::write(&same_board, 65_535, 1, &mut same_out));
+    let write_plain = move || one(scenario::write(&board, 65_535, GROUND, &mut out));
+    let write = move || one(scenario_records::write(&same_board, 65_535, GROUND, &mut same_out));
     vec![
         Case::new("murgolab_read_scenario_plain", told.clone(), read_plain),
         Case::new("murgolab_read_scenario", told.clone(), read),
@@ -132,9 +135,9 @@ fn tablet_cases() -> Vec<Case> {
         let mut board = large_board(4, 1_024);
         board.width = 32;
         board.height = 32;
-        board.slow = (0..1_024).map(|c| 4_094 + c % 2).collect();
-        let file = file_of(&board, 65_535, 1);
-        assert_eq!(file.len(), 18_448);
+        board.slow = (0..1_024).map(|c| pair(4_094 + c % 2, 4_095)).collect();
+        let file = file_of(&board, 65_535, GROUND);
+        assert_eq!(file.len(), 20_498);
         let mut out = vec![0; 4_096];
         cases.push(Case::new("murgolab_tablet_run", format!("tiles of {}", side), move || {
             let answer = tablet_run(&file, 65_536, side, side, &mut out);
@@ -151,8 +154,11 @@ fn tablet_cases() -> Vec<Case> {
 
 fn number_cases() -> Vec<Case> {
     vec![
-        Case::new("murgolab_local_rule", String::new(), || {
-            one(local_rule(4_095, [LARGEST, NEVER, LARGEST - 7, NEVER]))
+        Case::new("murgolab_local_rule", "an equal pair".to_string(), || {
+            one(local_rule([4_095, 4_095], [LARGEST, NEVER, LARGEST - 7, NEVER]))
+        }),
+        Case::new("murgolab_local_rule", "an unequal pair".to_string(), || {
+            one(local_rule([4_095, 4_094], [LARGEST, NEVER, LARGEST - 7, NEVER]))
         }),
         Case::new("murgolab_diagonal", "kept".to_string(), || one(diagonal(255))),
         Case::new("murgolab_diagonal", "worked out".to_string(), || one(diagonal(4_095))),

@@ -4,10 +4,11 @@
 //! added here is Rust: lists are made and handed over with their lengths, and refusals are errors.
 //!
 //! ```
-//! use murgolab::{march, tile_run, turn, Board, Start, Tiles};
+//! use murgolab::{march, tile_run, turn, Board, Slowness, Start, Tiles};
 //!
-//! // three by three cells of slowness 10, a front from the top left
-//! let board = Board { width: 3, height: 3, slow: vec![10; 9], starts: vec![Start { cell: 0, time: 0 }] };
+//! // three by three cells of slowness 10 both ways, a front from the top left
+//! let (slow, starts) = (vec![Slowness::equal(10); 9], vec![Start { cell: 0, time: 0 }]);
+//! let mut board = Board { width: 3, height: 3, slow, starts };
 //! let front = march(&board, 300_000_000)?;
 //! assert_eq!(front.times, [0, 10, 20, 10, 18, 26, 20, 26, 34]);
 //! assert_eq!(front.reached, 9);
@@ -19,6 +20,10 @@
 //! // the last cell is reached 6 ticks before turn 4, of 10 ticks, closes
 //! let last = turn(34, 10)?;
 //! assert_eq!((last.turn, last.to_go), (4, 6));
+//!
+//! // furrows along the rows: down a column it takes twice as long
+//! board.slow.fill(Slowness::new(10, 20));
+//! assert_eq!(march(&board, 300_000_000)?.times, [0, 10, 20, 20, 26, 34, 40, 45, 51]);
 //! # Ok::<(), murgolab::Refusal>(())
 //! ```
 //!
@@ -31,11 +36,13 @@
 
 mod refusal;
 mod scenario;
+mod slowness;
 mod sys;
 mod work;
 
 pub use refusal::Refusal;
 pub use scenario::{read_scenario, tablet_run, write_scenario, Scenario};
+pub use slowness::Slowness;
 pub use work::{march, one_round, tile_run, March, Run, Work};
 
 /// The mark for a time that does not come.
@@ -67,8 +74,8 @@ pub struct Board {
     pub width: u32,
     /// 1 to 256.
     pub height: u32,
-    /// Ticks to cross each cell straight, 0 to 4,095, 0 being a wall: width × height entries.
-    pub slow: Vec<u32>,
+    /// How slow a front is in each cell: width × height entries.
+    pub slow: Vec<Slowness>,
     /// Strictly rising by cell, none on a wall.
     pub starts: Vec<Start>,
 }
@@ -121,24 +128,32 @@ fn answer(reply: sys::Reply) -> Result<u32, Refusal> {
 }
 
 /// The time at a cell from its neighbours' times: the least whole t, not below the earlier of a and b,
-/// with p² + q² ≥ slowness². Here a is the earlier of left and right, b of above and below, p and q are
-/// what t is later than a and than b. Times above 300,000,000 count as never.
+/// with p² × h² + q² × g² ≥ g² × h². Here g is the slowness along the row and h that down the column, a is the
+/// earlier of left and right, b of above and below, p and q are what t is later than a and than b. Times above
+/// 300,000,000 count as never.
 ///
 /// ```
-/// use murgolab::{local_rule, NEVER};
-/// assert_eq!(local_rule(10, 0, NEVER, 4, NEVER), Ok(9));
-/// assert_eq!(local_rule(0, 0, 0, 0, 0), Ok(NEVER));
+/// use murgolab::{local_rule, Slowness, NEVER};
+/// assert_eq!(local_rule(Slowness::equal(10), 0, NEVER, 4, NEVER), Ok(9));
+/// assert_eq!(local_rule(Slowness::WALL, 0, 0, 0, 0), Ok(NEVER));
+/// let furrow = Slowness::new(10, 20);
+/// assert_eq!(local_rule(furrow, 0, NEVER, NEVER, NEVER), Ok(10));
+/// assert_eq!(local_rule(furrow, NEVER, NEVER, 0, NEVER), Ok(20));
+/// assert_eq!(local_rule(furrow, 0, NEVER, 0, NEVER), Ok(9));
 /// ```
 ///
 /// # Errors
 ///
-/// [`Slowness`](Refusal::Slowness) for a slowness above 4,095.
-pub fn local_rule(slowness: u32, left: u32, right: u32, above: u32, below: u32) -> Result<u32, Refusal> {
+/// [`Slowness`](Refusal::Slowness) for a number above 4,095, [`HalfWall`](Refusal::HalfWall) for one that is 0 where
+/// the other is not.
+pub fn local_rule(slowness: Slowness, left: u32, right: u32, above: u32, below: u32) -> Result<u32, Refusal> {
+    let (g, h) = (slowness.along().into(), slowness.down().into());
     // SAFETY: numbers alone
-    answer(unsafe { sys::murgolab_local_rule(slowness, left, right, above, below) })
+    answer(unsafe { sys::murgolab_local_rule(g, h, left, right, above, below) })
 }
 
-/// D: what the rule adds where both sides are equal, the least d with 2d² ≥ slowness².
+/// D: what the rule adds where both sides are equal and the slowness is this number both ways, the least d with
+/// 2d² ≥ slowness².
 ///
 /// ```
 /// assert_eq!(murgolab::diagonal(7), Ok(5));
@@ -146,7 +161,7 @@ pub fn local_rule(slowness: u32, left: u32, right: u32, above: u32, below: u32) 
 ///
 /// # Errors
 ///
-/// [`Slowness`](Refusal::Slowness) for a slowness above 4,095.
+/// [`Slowness`](Refusal::Slowness) for a number above 4,095.
 pub fn diagonal(slowness: u32) -> Result<u32, Refusal> {
     // SAFETY: numbers alone
     answer(unsafe { sys::murgolab_diagonal(slowness) })

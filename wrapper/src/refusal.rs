@@ -6,8 +6,9 @@ use std::fmt;
 macro_rules! refusals {
     ($($number:literal => $name:ident, $words:literal $(, $place:ident)?;)*) => {
         /// Why a call was refused. Of several causes the one with the lowest number is given, save that
-        /// [`Refusal::SmallBoard`] comes directly after [`Refusal::SidesOfBoard`], and [`Refusal::StartOrder`] directly
-        /// after [`Refusal::StartCell`]. N is width × height.
+        /// [`Refusal::SmallBoard`] comes directly after [`Refusal::SidesOfBoard`], [`Refusal::HalfWall`] directly after
+        /// [`Refusal::Slowness`], and [`Refusal::StartOrder`] directly after [`Refusal::StartCell`]. N is width ×
+        /// height.
         ///
         /// Later versions may know more numbers, so a `match` needs an arm for the others.
         ///
@@ -16,16 +17,16 @@ macro_rules! refusals {
         /// let refusal = diagonal(4_096).unwrap_err();
         /// assert_eq!(refusal, Refusal::Slowness);
         /// assert_eq!(refusal.number(), 5);
-        /// assert_eq!(refusal.words(), "a slowness, the ground's too, above 4,095");
-        /// assert_eq!(refusal.to_string(), "refused by 5: a slowness, the ground's too, above 4,095");
+        /// assert_eq!(refusal.words(), "a number of a slowness, the ground's too, above 4,095");
+        /// assert_eq!(refusal.to_string(), "refused by 5: a number of a slowness, the ground's too, above 4,095");
         /// ```
         ///
         /// Where a start's cell is wrong, the refusal says which start:
         ///
         /// ```
-        /// use murgolab::{march, Board, Refusal, Start};
+        /// use murgolab::{march, Board, Refusal, Slowness, Start};
         /// let starts = [0, 4, 8, 8].map(|cell| Start { cell, time: 0 }).to_vec();
-        /// let mut board = Board { width: 3, height: 3, slow: vec![10; 9], starts };
+        /// let mut board = Board { width: 3, height: 3, slow: vec![Slowness::equal(10); 9], starts };
         /// let refusal = march(&board, 100).unwrap_err();
         /// assert_eq!(refusal, Refusal::StartOrder { place: Some(3) });
         /// assert_eq!(refusal.place(), Some(3));
@@ -96,12 +97,12 @@ macro_rules! refusals {
 }
 
 refusals! {
-    1 => FileLength, "file under 16 bytes, or not as long as its counts of runs and starts say";
+    1 => FileLength, "file under 18 bytes, or not as long as its counts of runs and starts say";
     2 => SidesOfBoard, "width or height not 1 to 256";
     3 => Ticks, "ticks per turn not 1 to 65,535";
     4 => ListLength, "slowness list not N long, or plain start lists of unequal length";
-    5 => Slowness, "a slowness, the ground's too, above 4,095";
-    6 => Run, "a run not sorted, overlapping, empty, past the board, or as slow as the ground or as a run it touches";
+    5 => Slowness, "a number of a slowness, the ground's too, above 4,095";
+    6 => Run, "a run not sorted, overlapping, empty, past the board, or of the pair of the ground or a run it touches";
     7 => StartCell, "start cell off the board", place;
     8 => StartTime, "start time above 1,000,000";
     9 => StartOnWall, "start on a wall";
@@ -110,8 +111,9 @@ refusals! {
     12 => Order, "order does not name every tile once";
     13 => TimesLength, "times list not N long";
     14 => Room, "work list under 4N long, or a list to be filled too short";
-    15 => SmallBoard, "tablet or rings: a side above 32, or for rings a file above 18,448 bytes";
+    15 => SmallBoard, "tablet or rings: a side above 32, or for rings a file above 20,498 bytes";
     18 => StartOrder, "start not above the one before", place;
+    21 => HalfWall, "one number of a slowness, the ground's too, 0 and the other not";
 }
 
 impl fmt::Display for Refusal {

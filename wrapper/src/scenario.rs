@@ -1,14 +1,14 @@
 //! Scenario files: reader, writer and the tablet's call.
 
-use crate::{accepted, answer, sys, Board, Refusal, Run, Start, Tiles, MOST_CELLS};
+use crate::{accepted, answer, sys, Board, Refusal, Run, Slowness, Start, Tiles, MOST_CELLS};
 
 /// What a scenario file holds. Callers build it, so it is not `#[non_exhaustive]`: see [`Board`].
 #[derive(Clone, Debug, PartialEq, Eq, Hash)]
 pub struct Scenario {
     /// Ticks per turn, 1 to 65,535.
     pub ticks: u32,
-    /// The slowness of cells that the file says nothing of, 0 to 4,095.
-    pub ground: u32,
+    /// The slowness of cells that the file says nothing of.
+    pub ground: Slowness,
     /// The board with its starts.
     pub board: Board,
 }
@@ -16,11 +16,12 @@ pub struct Scenario {
 /// What a scenario file holds. Any bytes may be handed in.
 ///
 /// ```
-/// use murgolab::{read_scenario, write_scenario, Board, Refusal, Scenario, Start};
-/// let board = Board { width: 2, height: 1, slow: vec![10, 0], starts: vec![Start { cell: 0, time: 7 }] };
-/// let scenario = Scenario { ticks: 10, ground: 10, board };
+/// use murgolab::{read_scenario, write_scenario, Board, Refusal, Scenario, Slowness, Start};
+/// let ground = Slowness::new(10, 20);
+/// let (slow, starts) = (vec![ground, Slowness::WALL], vec![Start { cell: 0, time: 7 }]);
+/// let scenario = Scenario { ticks: 10, ground, board: Board { width: 2, height: 1, slow, starts } };
 /// let file = write_scenario(&scenario)?;
-/// assert_eq!(file.len(), 16 + 10 + 8);
+/// assert_eq!(file.len(), 18 + 12 + 8);
 /// assert_eq!(read_scenario(&file), Ok(scenario));
 /// assert_eq!(read_scenario(&file[1..]), Err(Refusal::FileLength));
 /// # Ok::<(), Refusal>(())
@@ -29,17 +30,18 @@ pub struct Scenario {
 /// # Errors
 ///
 /// [`FileLength`](Refusal::FileLength), [`SidesOfBoard`](Refusal::SidesOfBoard), [`Ticks`](Refusal::Ticks),
-/// [`Slowness`](Refusal::Slowness), [`Run`](Refusal::Run), [`StartCell`](Refusal::StartCell),
-/// [`StartOrder`](Refusal::StartOrder), [`StartTime`](Refusal::StartTime), [`StartOnWall`](Refusal::StartOnWall).
+/// [`Slowness`](Refusal::Slowness), [`HalfWall`](Refusal::HalfWall), [`Run`](Refusal::Run),
+/// [`StartCell`](Refusal::StartCell), [`StartOrder`](Refusal::StartOrder), [`StartTime`](Refusal::StartTime),
+/// [`StartOnWall`](Refusal::StartOnWall).
 pub fn read_scenario(file: &[u8]) -> Result<Scenario, Refusal> {
     // a file with more starts than the largest board has cells is refused for their cells, before room is asked for
     let most_starts = MOST_CELLS.min(file.len() / 8);
-    let (mut slow, mut starts) = (vec![0; MOST_CELLS], vec![Start { cell: 0, time: 0 }; most_starts]);
+    let (mut slow, mut starts) = (vec![Slowness::WALL; MOST_CELLS], vec![Start { cell: 0, time: 0 }; most_starts]);
     // SAFETY: the lists are as long as said, and those lent for writing are borrowed alone
     #[rustfmt::skip]
     let said = unsafe {
         sys::murgolab_read_scenario(
-            file.as_ptr(), file.len(), slow.as_mut_ptr(), slow.len(), starts.as_mut_ptr(), starts.len(),
+            file.as_ptr(), file.len(), slow.as_mut_ptr().cast(), slow.len(), starts.as_mut_ptr(), starts.len(),
         )
     };
     accepted(said.number, Some(said.place))?;
@@ -48,34 +50,35 @@ pub fn read_scenario(file: &[u8]) -> Result<Scenario, Refusal> {
     board.slow.shrink_to_fit();
     board.starts.truncate(said.starts as usize);
     board.starts.shrink_to_fit();
-    Ok(Scenario { ticks: said.ticks, ground: said.ground, board })
+    Ok(Scenario { ticks: said.ticks, ground: said.ground.into(), board })
 }
 
 /// The one file of a scenario: what was read and is written again has the same bytes.
 ///
 /// ```
-/// use murgolab::{write_scenario, Board, Scenario};
-/// let board = Board { width: 1, height: 1, slow: vec![10], starts: vec![] };
-/// let file = write_scenario(&Scenario { ticks: 3, ground: 10, board })?;
-/// assert_eq!(file, [1, 0, 1, 0, 3, 0, 10, 0, 0, 0, 0, 0, 0, 0, 0, 0]);
+/// use murgolab::{write_scenario, Board, Scenario, Slowness};
+/// let ground = Slowness::new(10, 20);
+/// let board = Board { width: 1, height: 1, slow: vec![ground], starts: vec![] };
+/// let file = write_scenario(&Scenario { ticks: 3, ground, board })?;
+/// assert_eq!(file, [1, 0, 1, 0, 3, 0, 10, 0, 20, 0, 0, 0, 0, 0, 0, 0, 0, 0]);
 /// # Ok::<(), murgolab::Refusal>(())
 /// ```
 ///
 /// # Errors
 ///
 /// [`SidesOfBoard`](Refusal::SidesOfBoard), [`Ticks`](Refusal::Ticks), [`ListLength`](Refusal::ListLength),
-/// [`Slowness`](Refusal::Slowness), [`StartCell`](Refusal::StartCell), [`StartOrder`](Refusal::StartOrder),
-/// [`StartTime`](Refusal::StartTime), [`StartOnWall`](Refusal::StartOnWall).
+/// [`Slowness`](Refusal::Slowness), [`HalfWall`](Refusal::HalfWall), [`StartCell`](Refusal::StartCell),
+/// [`StartOrder`](Refusal::StartOrder), [`StartTime`](Refusal::StartTime), [`StartOnWall`](Refusal::StartOnWall).
 pub fn write_scenario(scenario: &Scenario) -> Result<Vec<u8>, Refusal> {
     let Scenario { ticks, ground, board } = scenario;
     // a run for each cell at most, and a start: more starts are refused for their cells, before room is asked for
-    let mut out = vec![0; 16 + 10 * board.size() + 8 * board.size().min(board.starts.len())];
+    let mut out = vec![0; 18 + 12 * board.size() + 8 * board.size().min(board.starts.len())];
     // SAFETY: the lists are as long as said, and the one lent for writing is borrowed alone
     #[rustfmt::skip]
     let reply = unsafe {
         sys::murgolab_write_scenario(
-            board.width, board.height, *ticks, *ground,
-            board.slow.as_ptr(), board.slow.len(), board.starts.as_ptr(), board.starts.len(),
+            board.width, board.height, *ticks, (*ground).into(),
+            board.slow.as_ptr().cast(), board.slow.len(), board.starts.as_ptr(), board.starts.len(),
             out.as_mut_ptr(), out.len(),
         )
     };
@@ -91,9 +94,10 @@ pub fn write_scenario(scenario: &Scenario) -> Result<Vec<u8>, Refusal> {
 /// the stride, rounded up, whatever the file holds: known before the call.
 ///
 /// ```
-/// use murgolab::{tablet_run, write_scenario, Board, Scenario, Start, Tiles};
-/// let board = Board { width: 3, height: 3, slow: vec![10; 9], starts: vec![Start { cell: 0, time: 0 }] };
-/// let file = write_scenario(&Scenario { ticks: 10, ground: 10, board })?;
+/// use murgolab::{tablet_run, write_scenario, Board, Scenario, Slowness, Start, Tiles};
+/// let ground = Slowness::equal(10);
+/// let board = Board { width: 3, height: 3, slow: vec![ground; 9], starts: vec![Start { cell: 0, time: 0 }] };
+/// let file = write_scenario(&Scenario { ticks: 10, ground, board })?;
 /// let run = tablet_run(&file, 65_536, Tiles { across: 8, down: 8 })?;
 /// assert_eq!(run.times, [0, 10, 20, 10, 18, 26, 20, 26, 34]);
 /// assert_eq!(run.rounds, 92);

@@ -29,7 +29,7 @@ pub struct Scenario {
 
 #[rustfmt::skip]
 extern "C" {
-    pub fn murgolab_local_rule(slowness: u32, left: u32, right: u32, above: u32, below: u32) -> Reply;
+    pub fn murgolab_local_rule(g: u32, h: u32, left: u32, right: u32, above: u32, below: u32) -> Reply;
     pub fn murgolab_diagonal(slowness: u32) -> Reply;
     pub fn murgolab_turn(time: u32, ticks: u32) -> TurnReply;
     pub fn murgolab_march(

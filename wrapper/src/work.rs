@@ -29,9 +29,10 @@ pub struct Run {
 /// The functions [`march`], [`one_round`] and [`tile_run`] are these calls with lists made for each.
 ///
 /// ```
-/// use murgolab::{Board, Start, Tiles, Work, NEVER};
+/// use murgolab::{Board, Slowness, Start, Tiles, Work, NEVER};
 ///
-/// let mut board = Board { width: 3, height: 3, slow: vec![10; 9], starts: vec![Start { cell: 0, time: 0 }] };
+/// let (slow, starts) = (vec![Slowness::equal(10); 9], vec![Start { cell: 0, time: 0 }]);
+/// let mut board = Board { width: 3, height: 3, slow, starts };
 /// let (mut work, mut times) = (Work::new(), vec![NEVER; board.size()]);
 /// for cell in 0..9 {
 ///     board.starts[0].cell = cell;
@@ -83,7 +84,7 @@ impl Work {
         #[rustfmt::skip]
         let reply = unsafe {
             sys::murgolab_march(
-                board.width, board.height, board.slow.as_ptr(), board.slow.len(),
+                board.width, board.height, board.slow.as_ptr().cast(), board.slow.len(),
                 board.starts.as_ptr(), board.starts.len(),
                 horizon,
                 times.as_mut_ptr(), times.len(), work.as_mut_ptr(), work.len(),
@@ -103,7 +104,7 @@ impl Work {
         #[rustfmt::skip]
         let reply = unsafe {
             sys::murgolab_one_round(
-                board.width, board.height, board.slow.as_ptr(), board.slow.len(),
+                board.width, board.height, board.slow.as_ptr().cast(), board.slow.len(),
                 board.starts.as_ptr(), board.starts.len(),
                 tiles.across, tiles.down, bound, order.as_ptr(), order.len(),
                 times.as_mut_ptr(), times.len(), work.as_mut_ptr(), work.len(),
@@ -130,7 +131,7 @@ impl Work {
         #[rustfmt::skip]
         let reply = unsafe {
             sys::murgolab_tile_run(
-                board.width, board.height, board.slow.as_ptr(), board.slow.len(),
+                board.width, board.height, board.slow.as_ptr().cast(), board.slow.len(),
                 board.starts.as_ptr(), board.starts.len(),
                 tiles.across, tiles.down, stride, horizon, order.as_ptr(), order.len(),
                 times.as_mut_ptr(), times.len(), work.as_mut_ptr(), work.len(),
@@ -143,8 +144,9 @@ impl Work {
 /// The time at which the front reaches each cell, up to the horizon, 0 to 300,000,000.
 ///
 /// ```
-/// use murgolab::{march, Board, Refusal, Start, NEVER};
-/// let mut board = Board { width: 4, height: 1, slow: vec![10, 10, 0, 10], starts: vec![Start { cell: 0, time: 5 }] };
+/// use murgolab::{march, Board, Refusal, Slowness, Start, NEVER};
+/// let slow = [10, 10, 0, 10].map(Slowness::equal).to_vec();
+/// let mut board = Board { width: 4, height: 1, slow, starts: vec![Start { cell: 0, time: 5 }] };
 /// let front = march(&board, 1_000)?;
 /// assert_eq!((front.times, front.reached), (vec![5, 15, NEVER, NEVER], 2));
 /// board.starts[0].cell = 2;
@@ -155,9 +157,9 @@ impl Work {
 /// # Errors
 ///
 /// For the board [`SidesOfBoard`](Refusal::SidesOfBoard), [`ListLength`](Refusal::ListLength),
-/// [`Slowness`](Refusal::Slowness), [`StartCell`](Refusal::StartCell), [`StartOrder`](Refusal::StartOrder),
-/// [`StartTime`](Refusal::StartTime) and [`StartOnWall`](Refusal::StartOnWall); for the horizon
-/// [`Range`](Refusal::Range).
+/// [`Slowness`](Refusal::Slowness), [`HalfWall`](Refusal::HalfWall), [`StartCell`](Refusal::StartCell),
+/// [`StartOrder`](Refusal::StartOrder), [`StartTime`](Refusal::StartTime) and [`StartOnWall`](Refusal::StartOnWall);
+/// for the horizon [`Range`](Refusal::Range).
 pub fn march(board: &Board, horizon: u32) -> Result<March, Refusal> {
     let mut times = vec![NEVER; board.size()];
     let reached = Work::new().march(board, horizon, &mut times)?;
@@ -169,8 +171,9 @@ pub fn march(board: &Board, horizon: u32) -> Result<March, Refusal> {
 /// wall, counts as never. Answers how many entries of `times` it alters.
 ///
 /// ```
-/// use murgolab::{one_round, Board, Start, Tiles, NEVER};
-/// let board = Board { width: 3, height: 3, slow: vec![10; 9], starts: vec![Start { cell: 0, time: 0 }] };
+/// use murgolab::{one_round, Board, Slowness, Start, Tiles, NEVER};
+/// let (slow, starts) = (vec![Slowness::equal(10); 9], vec![Start { cell: 0, time: 0 }]);
+/// let board = Board { width: 3, height: 3, slow, starts };
 /// let mut times = [NEVER; 9];
 /// assert_eq!(one_round(&board, Tiles { across: 2, down: 2 }, 20, &mut times), Ok(4));
 /// assert_eq!(times, [0, 10, NEVER, 10, 18, NEVER, NEVER, NEVER, NEVER]);
@@ -193,14 +196,16 @@ pub fn one_round(board: &Board, tiles: Tiles, bound: u32, times: &mut [u32]) -> 
 /// (K − 1) × stride and at most the horizon, else exactly K; for K = 1 that span starts at 0 and includes it.
 ///
 /// ```
-/// use murgolab::{march, tile_run, Board, Start, Tiles};
+/// use murgolab::{march, tile_run, Board, Slowness, Start, Tiles};
 /// let starts = vec![Start { cell: 0, time: 0 }, Start { cell: 99, time: 40 }];
-/// let board = Board { width: 10, height: 10, slow: (1..=100).collect(), starts };
+/// let slow = (1..=100).map(|s| Slowness::new(s, 101 - s)).collect();
+/// let board = Board { width: 10, height: 10, slow, starts };
 /// let run = tile_run(&board, Tiles { across: 3, down: 4 }, 25, 5_000)?;
 /// assert_eq!(run.times, march(&board, 5_000)?.times);
 /// assert!(run.rounds >= 200 && run.rounds <= 300);
 /// // one tile covers the board: K is 2, and the last cell is reached at 34
-/// let board = Board { width: 3, height: 3, slow: vec![10; 9], starts: vec![Start { cell: 0, time: 0 }] };
+/// let (slow, starts) = (vec![Slowness::equal(10); 9], vec![Start { cell: 0, time: 0 }]);
+/// let board = Board { width: 3, height: 3, slow, starts };
 /// assert_eq!(tile_run(&board, Tiles { across: 3, down: 3 }, 20, 34)?.rounds, 3);
 /// assert_eq!(tile_run(&board, Tiles { across: 3, down: 3 }, 20, 25)?.rounds, 2);
 /// # Ok::<(), murgolab::Refusal>(())

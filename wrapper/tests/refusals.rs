@@ -3,8 +3,10 @@
 use murgolab::*;
 
 fn board() -> Board {
-    Board { width: 3, height: 2, slow: vec![10, 10, 0, 10, 10, 10], starts: vec![at_0(0)] }
+    Board { width: 3, height: 2, slow: [10, 10, 0, 10, 10, 10].map(Slowness::equal).to_vec(), starts: vec![at_0(0)] }
 }
+
+const TEN: Slowness = Slowness::equal(10);
 
 fn at_0(cell: u32) -> Start {
     Start { cell, time: 0 }
@@ -15,7 +17,7 @@ const TILES: Tiles = Tiles { across: 2, down: 1 };
 /// What march, run, round and writer say of a board.
 fn refusals(board: &Board) -> [Option<Refusal>; 4] {
     let mut times = vec![NEVER; board.slow.len()];
-    let scenario = Scenario { ticks: 10, ground: 10, board: board.clone() };
+    let scenario = Scenario { ticks: 10, ground: TEN, board: board.clone() };
     [
         march(board, 100).err(),
         tile_run(board, TILES, 10, 100).err(),
@@ -29,12 +31,18 @@ type Change = dyn Fn(&mut Board);
 #[test]
 fn boards_are_judged_by_the_library() {
     assert_eq!(refusals(&board()), [None; 4]);
-    let cases: [(&Change, Refusal); 12] = [
+    let cases: [(&Change, Refusal); 18] = [
         (&|b| b.width = 0, Refusal::SidesOfBoard),
         (&|b| b.height = u32::MAX, Refusal::SidesOfBoard),
         (&|b| b.slow.clear(), Refusal::ListLength),
-        (&|b| b.slow.push(10), Refusal::ListLength),
-        (&|b| b.slow[5] = 4_096, Refusal::Slowness),
+        (&|b| b.slow.push(TEN), Refusal::ListLength),
+        (&|b| b.slow[5] = Slowness::equal(4_096), Refusal::Slowness),
+        (&|b| b.slow[5] = Slowness::new(4_096, 10), Refusal::Slowness),
+        (&|b| b.slow[5] = Slowness::new(10, 4_096), Refusal::Slowness),
+        (&|b| b.slow[5] = Slowness::new(10, 0), Refusal::HalfWall),
+        (&|b| b.slow[5] = Slowness::new(0, 4_095), Refusal::HalfWall),
+        (&|b| b.slow[5] = 10.into(), Refusal::HalfWall),
+        (&|b| (b.slow[0], b.slow[5]) = (10.into(), Slowness::new(1, u16::MAX)), Refusal::Slowness),
         (&|b| b.starts[0].cell = 6, Refusal::StartCell { place: Some(0) }),
         (&|b| b.starts.extend([0, 6, 7].map(at_0)), Refusal::StartCell { place: Some(2) }),
         (&|b| b.starts.push(at_0(0)), Refusal::StartOrder { place: Some(1) }),
@@ -66,22 +74,24 @@ fn numbers_and_tiles_are_judged_by_the_library() {
 
 #[test]
 fn files_are_judged_by_the_library() {
-    let file = write_scenario(&Scenario { ticks: 10, ground: 10, board: board() }).expect("a good board");
+    let file = write_scenario(&Scenario { ticks: 10, ground: TEN, board: board() }).expect("a good board");
     for length in 0..file.len() {
         assert_eq!(read_scenario(&file[..length]), Err(Refusal::FileLength));
         assert_eq!(tablet_run(&file[..length], 1, TILES), Err(Refusal::FileLength));
     }
-    // ticks, the one run's slowness
-    for (place, byte, refusal) in [(4, 0, Refusal::Ticks), (24, 10, Refusal::Run)] {
-        let mut damaged = file.clone();
+    // ticks, the one run's slowness along the row, then that down the column
+    let changes = [(4, 0, Refusal::Ticks), (26, 10, Refusal::HalfWall), (28, 10, Refusal::Run)];
+    let mut damaged = file.clone();
+    for (place, byte, refusal) in changes {
+        damaged[4] = file[4];
         damaged[place] = byte;
         assert_eq!(read_scenario(&damaged), Err(refusal));
         assert_eq!(tablet_run(&damaged, 1, TILES), Err(refusal));
     }
     assert_eq!(tablet_run(&file, 0, TILES), Err(Refusal::Range));
     assert_eq!(tablet_run(&file, 1, Tiles { across: 0, down: 1 }), Err(Refusal::SidesOfTile));
-    let wide = Board { width: 33, height: 1, slow: vec![10; 33], starts: vec![] };
-    let file = write_scenario(&Scenario { ticks: 10, ground: 10, board: wide }).expect("a good board");
+    let wide = Board { width: 33, height: 1, slow: vec![TEN; 33], starts: vec![] };
+    let file = write_scenario(&Scenario { ticks: 10, ground: TEN, board: wide }).expect("a good board");
     assert!(read_scenario(&file).is_ok());
     assert_eq!(tablet_run(&file, 1, TILES), Err(Refusal::SmallBoard));
 }
@@ -90,18 +100,19 @@ fn files_are_judged_by_the_library() {
 #[test]
 fn the_largest_scenario_goes_through_its_file() {
     let starts = (0..65_536).map(|cell| Start { cell, time: 1_000_000 - cell }).collect();
-    let board = Board { width: 256, height: 256, slow: (0..65_536).map(|c| 4_094 + c % 2).collect(), starts };
-    let scenario = Scenario { ticks: 65_535, ground: 0, board };
+    let slow = (0..65_536).map(|c| Slowness::new(4_095, 4_094 + c as u16 % 2)).collect();
+    let board = Board { width: 256, height: 256, slow, starts };
+    let scenario = Scenario { ticks: 65_535, ground: Slowness::WALL, board };
     let file = write_scenario(&scenario).expect("a good board");
-    assert_eq!(file.len(), 16 + 18 * 65_536);
+    assert_eq!(file.len(), 18 + 20 * 65_536);
     assert_eq!(read_scenario(&file), Ok(scenario));
 }
 
 /// A file of the board of [`board`] with these starts behind it.
 fn file_with(starts: &[Start]) -> Vec<u8> {
-    let held = Scenario { ticks: 10, ground: 10, board: Board { starts: vec![], ..board() } };
+    let held = Scenario { ticks: 10, ground: TEN, board: Board { starts: vec![], ..board() } };
     let mut file = write_scenario(&held).expect("a good board");
-    file[12..16].copy_from_slice(&(starts.len() as u32).to_le_bytes());
+    file[14..18].copy_from_slice(&(starts.len() as u32).to_le_bytes());
     file.extend(starts.iter().flat_map(|start| [start.cell, start.time]).flat_map(u32::to_le_bytes));
     file
 }
@@ -113,7 +124,7 @@ fn more_starts_than_cells_are_refused_for_their_cells() {
     for count in [7, 65_536, 65_537, 200_000] {
         let starts: Vec<Start> = (0..count).map(at_0).collect();
         assert_eq!(read_scenario(&file_with(&starts)), Err(refusal), "{} starts", count);
-        let scenario = Scenario { ticks: 10, ground: 10, board: Board { starts, ..board() } };
+        let scenario = Scenario { ticks: 10, ground: TEN, board: Board { starts, ..board() } };
         assert_eq!(write_scenario(&scenario), Err(refusal), "{} starts", count);
     }
 }
@@ -131,7 +142,7 @@ fn a_files_start_is_named_by_the_reader_and_not_by_the_tablet() {
 }
 
 /// The refusals in the order of the table, as they are without a place.
-const TABLE: [Refusal; 16] = [
+const TABLE: [Refusal; 17] = [
     Refusal::FileLength,
     Refusal::SidesOfBoard,
     Refusal::Ticks,
@@ -148,12 +159,13 @@ const TABLE: [Refusal; 16] = [
     Refusal::Room,
     Refusal::SmallBoard,
     Refusal::StartOrder { place: None },
+    Refusal::HalfWall,
 ];
 
 #[test]
 fn every_number_has_its_words() {
     let unknown = Refusal::of(u32::MAX, None).expect("a refusal").words();
-    for (number, refusal) in (1..=15).chain([18]).zip(TABLE) {
+    for (number, refusal) in (1..=15).chain([18, 21]).zip(TABLE) {
         let words = refusal.words();
         assert_eq!((refusal.number(), Refusal::of(number, None)), (number, Some(refusal)), "{}", words);
         assert_eq!(refusal.to_string(), format!("refused by {}: {}", number, words));
@@ -165,7 +177,7 @@ fn every_number_has_its_words() {
 
 #[test]
 fn of_a_start_at_fault_the_place_is_said_too() {
-    for (number, refusal) in (1..=15).chain([18]).zip(TABLE) {
+    for (number, refusal) in (1..=15).chain([18, 21]).zip(TABLE) {
         let placed = Refusal::of(number, Some(65_536)).expect("a refusal");
         assert_eq!((placed.number(), placed.words()), (number, refusal.words()));
         if [7, 18].contains(&number) {
@@ -181,7 +193,7 @@ fn of_a_start_at_fault_the_place_is_said_too() {
 #[test]
 fn a_number_to_come_is_a_refusal_too() {
     let cause = "a cause that this version of the wrapper does not know";
-    for number in [16, 17, 19, 24, 255, u32::MAX] {
+    for number in [16, 17, 19, 20, 24, 255, u32::MAX] {
         let refusal = Refusal::of(number, Some(3)).expect("a refusal");
         assert_eq!(refusal.number(), number);
         assert_eq!(refusal.to_string(), format!("refused by {}: {}", number, cause));

@@ -33,9 +33,10 @@ fn asked_for(work: impl FnOnce()) -> usize {
     ASKED.with(Cell::get) - before
 }
 
-/// Slownesses 1 to 40 with walls in between, and a start in the first cell.
+/// Slownesses 1 to 40 along the rows and down the columns, with walls in between, and a start in the first cell.
 fn board(width: u32, height: u32) -> Board {
-    let slow = (0..width * height).map(|c| if c % 7 == 3 { 0 } else { 1 + c * 31 % 40 }).collect();
+    let open = |c: u32| Slowness::new(1 + (c * 31 % 40) as u16, 1 + (c * 17 % 40) as u16);
+    let slow = (0..width * height).map(|c| if c % 7 == 3 { Slowness::WALL } else { open(c) }).collect();
     Board { width, height, slow, starts: vec![Start { cell: 0, time: 3 }] }
 }
 
@@ -107,25 +108,25 @@ fn a_loop_allocates_once() {
 /// A file of a million starts, and lists that are far too long for their board.
 #[test]
 fn what_is_allocated_is_bounded_by_the_largest_board() {
-    let mut file = vec![1, 0, 1, 0, 1, 0, 1, 0, 0, 0, 0, 0];
+    let mut file = vec![1, 0, 1, 0, 1, 0, 1, 0, 1, 0, 0, 0, 0, 0];
     file.extend(1_000_000u32.to_le_bytes());
-    file.resize(16 + 8 * 1_000_000, 0);
+    file.resize(18 + 8 * 1_000_000, 0);
     let reading = asked_for(|| assert_eq!(read_scenario(&file), Err(Refusal::StartOrder { place: Some(1) })));
     assert_eq!(reading, 65_536 * (4 + 8));
 
     let starts = vec![Start { cell: 0, time: 0 }; 1_000_000];
-    let long = Board { starts, slow: vec![1; 1_000_000], ..board(2, 2) };
+    let long = Board { starts, slow: vec![Slowness::equal(1); 1_000_000], ..board(2, 2) };
     let marching = asked_for(|| assert_eq!(march(&long, 9), Err(Refusal::ListLength)));
     assert_eq!(marching, 4 * (1 + 4) * 4);
-    let scenario = Scenario { ticks: 1, ground: 1, board: long };
+    let scenario = Scenario { ticks: 1, ground: Slowness::equal(1), board: long };
     let writing = asked_for(|| assert_eq!(write_scenario(&scenario), Err(Refusal::ListLength)));
-    assert_eq!(writing, 16 + 18 * 4);
+    assert_eq!(writing, 18 + 20 * 4);
 }
 
 /// What is read or written takes no more room than it needs.
 #[test]
 fn what_is_read_and_written_is_as_small_as_it_can_be() {
-    let scenario = Scenario { ticks: 10, ground: 1, board: board(3, 2) };
+    let scenario = Scenario { ticks: 10, ground: Slowness::equal(1), board: board(3, 2) };
     let file = write_scenario(&scenario).expect("a good board");
     let board = read_scenario(&file).expect("a good file").board;
     assert_eq!(file.capacity(), file.len());

@@ -1,6 +1,6 @@
 -- The local rule over weighted axes: a time passes if the sum of (weight × (time − axis's time))² is at least m².
 -- The weights are w and ws, so that there is one axis at least; f has the axes' times by number. Its laws are proved here once, for any number of axes:
--- the board's rule has two of weight 1 (Local.antt).
+-- the board's rule has two, of the weights h and g (Local.antt).
 use mathlib.Core.Path.{_≡_, refl}
 use mathlib.Core.Bool.{Bool, true, false, cond, _||_}
 use mathlib.Core.List.{List, [], _∷_}

@@ -1,88 +1,112 @@
 -- The local rule's answer, at most a limit, is the first time that passes.
-use mathlib.Core.Path.{_≡_, refl, sym, ap, ap₂, _∙_}
+use mathlib.Core.Path.{_≡_, refl, sym, ap, _∙_}
 use mathlib.Core.Bool.{true, false, true≢false}
 use Prim.Native.Nat.{ℕ, _+_, _*_, _-_, _≤_, _<_, min, max}
 use native.Mathlib.Omega.{arith}
 use native.Mathlib.Decide.{decLe, decLt}
-use native.Mathlib.Nat.{mul-le-mul}
+use native.Mathlib.Nat.{mul-le-mul, mul-le-mul-right}
 use lib.Dec.{leb}
 use borrow.Author.Tests.{le-leb, lt-leb}
-use Rattle.eikonal.specs.Board.{never, square, passes, local}
-use Rattle.eikonal.proofs.Local.{earlier-min, local-of, local-is, local-passes, passes-local, passes-on, step-passes}
+use Rattle.eikonal.specs.Board.{never, square, passes, local-of}
+use Rattle.eikonal.specs.Inner.Weighed.{weighed}
+use Rattle.eikonal.proofs.Local.{local-passes, passes-local, passes-on, along-passes, local-swap}
 
-module _ (s a b : ℕ) where
+-- what is cut at never first
+pub cut-twice : (l r x y : ℕ) → l ≤ never → x ≡ min never y → r ≡ min l x → r ≡ min l y
+cut-twice l r x y h e f = omega arith
+
+module _ (g h a b : ℕ) where
   -- it comes no earlier than v if one tick before v does not pass
-  not-before : (v : ℕ) → (1 ≤ s → passes s a b (v - 1) ≡ false) → min never v ≤ local-of s a b
-  not-before v f = elim (decLt (local-of s a b) (min never v)) [
-    | yes l ↦ (let q = local-passes s a b (local-of s a b) (omega arith) (omega arith) in
-        absurd (true≢false (sym (passes-on s a b (local-of s a b) a b (v - 1) (omega arith) (omega arith) (q .1)) ∙ f (q .0))))
+  not-before : (v : ℕ) → (1 ≤ g * h → passes g h a b (v - 1) ≡ false) → min never v ≤ local-of g h a b
+  not-before v f = elim (decLt (local-of g h a b) (min never v)) [
+    | yes l ↦ (let q = local-passes g h a b (local-of g h a b) (omega arith) (omega arith) in
+        absurd (true≢false (sym (passes-on g h a b (local-of g h a b) a b (v - 1) (omega arith) (omega arith) (q .1)) ∙ f (q .0))))
     | no l ↦ omega arith
   ]
 
   module _ (limit : ℕ) (fits : limit ≤ never) where
     -- a wall, or one tick before the limit does not pass
-    pub limit-stays : (1 ≤ s → passes s a b (limit - 1) ≡ false) → limit ≡ min limit (local-of s a b)
+    pub limit-stays : (1 ≤ g * h → passes g h a b (limit - 1) ≡ false) → limit ≡ min limit (local-of g h a b)
     limit-stays f = omega (arith, not-before limit f)
 
-    first-pass : (v : ℕ) → 1 ≤ s → passes s a b v ≡ true → passes s a b (v - 1) ≡ false → min limit v ≡ min limit (local-of s a b)
-    first-pass v h p f = omega (arith, high, not-before v (λ _. f))
+    first-pass : (v : ℕ) → 1 ≤ g * h → passes g h a b v ≡ true → passes g h a b (v - 1) ≡ false → min limit v ≡ min limit (local-of g h a b)
+    first-pass v o p f = omega (arith, high, not-before v (λ _. f))
       where
-        high : min limit (local-of s a b) ≤ v
+        high : min limit (local-of g h a b) ≤ v
         high = elim (decLt v limit) [
-          | yes l ↦ omega (arith, passes-local s a b v (omega arith) h p)
+          | yes l ↦ omega (arith, passes-local g h a b v (omega arith) o p)
           | no l ↦ omega arith
         ]
 
-short : (s p : ℕ) → p < s → p * p + 0 * 0 < s * s
-short s p k = omega (arith, mul-le-mul k k)
+-- ---- by the straight step x from the earlier axis, m, and y from the later, n
+module _ (x y m n : ℕ) (x-some : 1 ≤ x) (y-some : 1 ≤ y) (ordered : m ≤ n) where
+  both : 1 ≤ x * y
+  both = mul-le-mul x-some y-some
 
--- ---- by the earlier side m and the later h
-module _ (s a b m h : ℕ) (em : m ≡ min a b) (eh : h ≡ max a b) where
-  passes-gaps : (t p q : ℕ) → t - m ≡ p → t - h ≡ q → passes s a b t ≡ leb (s * s) (p * p + q * q)
+  passes-gaps : (t p q : ℕ) → t - m ≡ p → t - n ≡ q → passes x y m n t ≡ leb (x * x * (y * y)) (p * p * (y * y) + q * q * (x * x))
   unfolding passes square
-  passes-gaps t p q f g = elim (decLe a b) [
-    | yes l ↦ (let x : t - a ≡ p = omega arith in let y : t - b ≡ q = omega arith in rw (x, y))
-    | no l ↦ (let x : t - a ≡ q = omega arith in let y : t - b ≡ p = omega arith in rw (x, y) (ap (leb (s * s)) (omega arith)))
-  ]
+  passes-gaps t p q f g = rw (f, g)
 
-  -- up to the later side only the earlier counts
-  early : (t : ℕ) → t ≤ h → t - m < s → passes s a b t ≡ false
-  early t k g = passes-gaps t (t - m) 0 refl (omega arith) ∙ lt-leb _ _ (short s (t - m) g)
+  short : (p : ℕ) → p < x → p * p * (y * y) + 0 * 0 * (x * x) < x * x * (y * y)
+  short p k = omega (arith, mul-le-mul-right (y * y) (mul-le-mul k k), mul-le-mul y-some y-some)
+
+  -- up to the later axis only the earlier counts
+  early : (t : ℕ) → t ≤ n → t - m < x → passes x y m n t ≡ false
+  early t k g = passes-gaps t (t - m) 0 refl (omega arith) ∙ lt-leb _ _ (short (t - m) g)
 
   -- past it both
-  gaps-past : (e : ℕ) → passes s a b (h + e) ≡ leb (s * s) ((h - m + e) * (h - m + e) + e * e)
-  gaps-past e = passes-gaps (h + e) (h - m + e) e (omega arith) (omega arith)
-
-  gaps-before : (e : ℕ) → 1 ≤ e → (h + e - 1 - m ≡ h - m + e - 1) × (h + e - 1 - h ≡ e - 1)
-  gaps-before e n = (omega arith, omega arith)
+  gaps-past : (e : ℕ) → passes x y m n (n + e) ≡ leb (x * x * (y * y)) (weighed (y * y) (x * x) (n - m) e)
+  gaps-past e =
+      let s : (n - m + e) * (n - m + e) * (y * y) + e * e * (x * x) ≡ weighed (y * y) (x * x) (n - m) e = omega arith in
+      passes-gaps (n + e) (n - m + e) e (omega arith) (omega arith) ∙ ap (leb (x * x * (y * y))) s
 
   module _ (limit : ℕ) (fits : limit ≤ never) where
-    -- the limit lies at the later side or before
-    pub no-later : h - m < s → limit ≤ h → limit ≡ min limit (local-of s a b)
-    no-later k l = limit-stays s a b limit fits (λ _. early (limit - 1) (omega arith) (omega arith))
+    -- the limit lies at the later axis or before
+    pub no-later : n - m < x → limit ≤ n → limit ≡ min limit (local-of x y m n)
+    no-later k l = limit-stays x y m n limit fits (λ _. early (limit - 1) (omega arith) (omega arith))
 
-    -- the later side comes too late
-    pub straight : 1 ≤ s → s ≤ h - m → min limit (m + s) ≡ min limit (local-of s a b)
-    straight k g =
-        first-pass s a b limit fits (m + s) k (rw em (step-passes s a b)) (early (m + s - 1) (omega arith) (omega arith))
+    -- the later axis comes too late
+    pub straight : x ≤ n - m → min limit (m + x) ≡ min limit (local-of x y m n)
+    straight k =
+        first-pass x y m n limit fits (m + x) both (along-passes x y m n) (early (m + x - 1) (omega arith) (omega arith))
 
-    -- one tick before the limit is past the later side, by too few
-    pub too-early : h < limit
-        → (h - m + (limit - h - 1)) * (h - m + (limit - h - 1)) + (limit - h - 1) * (limit - h - 1) < s * s → limit ≡ min limit (local-of s a b)
+    -- one tick before the limit is past the later axis, by too few
+    pub too-early : n < limit → weighed (y * y) (x * x) (n - m) (limit - n - 1) < x * x * (y * y) → limit ≡ min limit (local-of x y m n)
     too-early k f =
-        let e : h + (limit - h - 1) ≡ limit - 1 = omega arith in
-        limit-stays s a b limit fits (λ _. rw (← e) (gaps-past (limit - h - 1) ∙ lt-leb _ _ f))
+        let e : n + (limit - n - 1) ≡ limit - 1 = omega arith in
+        limit-stays x y m n limit fits (λ _. rw (← e) (gaps-past (limit - n - 1) ∙ lt-leb _ _ f))
 
-    -- e ticks past the later side, before the limit, are enough, and e - 1 are not
-    pub slanted : (e : ℕ) → h + e < limit → 1 ≤ s → 1 ≤ e → s * s ≤ (h - m + e) * (h - m + e) + e * e
-        → (h - m + e - 1) * (h - m + e - 1) + (e - 1) * (e - 1) < s * s → h + e ≡ min limit (local-of s a b)
-    slanted e l k n p f =
-        let x : h + e ≡ min limit (h + e) = omega arith in
-        x
-        ∙ first-pass s a b limit fits (h + e) k (gaps-past e ∙ le-leb _ _ p)
-        (passes-gaps (h + e - 1) (h - m + e - 1) (e - 1) (gaps-before e n .0) (gaps-before e n .1) ∙ lt-leb _ _ f)
+    -- e ticks past the later axis, before the limit, are enough, and e - 1 are not
+    pub slanted : (e : ℕ) → n + e < limit → 1 ≤ e → x * x * (y * y) ≤ weighed (y * y) (x * x) (n - m) e
+        → weighed (y * y) (x * x) (n - m) (e - 1) < x * x * (y * y) → n + e ≡ min limit (local-of x y m n)
+    slanted e l i p f =
+        let z : n + e ≡ min limit (n + e) = omega arith in
+        let before : n + e - 1 ≡ n + (e - 1) = omega arith in
+        z
+        ∙ first-pass x y m n limit fits (n + e) both (gaps-past e ∙ le-leb _ _ p) (rw before (gaps-past (e - 1) ∙ lt-leb _ _ f))
 
--- the rule as code finds it, by the earlier of each pair
-pub by-pairs : (limit s l r u d a b : ℕ) → a ≡ min l r → b ≡ min u d → min limit (local-of s a b) ≡ min limit (local s l r u d)
-by-pairs limit s l r u d a b p q =
-    ap (min limit) (ap₂ (local-of s) (p ∙ sym (earlier-min l r)) (q ∙ sym (earlier-min u d)) ∙ sym (local-is s l r u d))
+-- ---- equal numbers: what is due and what two squares come to, both counted s² times
+pub scaled : (s x y : ℕ) → s * s ≤ x + y → s * s * (s * s) ≤ x * (s * s) + y * (s * s)
+scaled s x y h = omega (arith, mul-le-mul-right (s * s) h)
+
+pub scaled-short : (s x y : ℕ) → 1 ≤ s → x + y < s * s → x * (s * s) + y * (s * s) < s * s * (s * s)
+scaled-short s x y i h = omega (arith, mul-le-mul-right (s * s) h, mul-le-mul i i)
+
+pub weighed-scaled : (s d e : ℕ) → s * s ≤ weighed 1 1 d e → s * s * (s * s) ≤ weighed (s * s) (s * s) d e
+weighed-scaled s d e h = omega (arith, scaled s ((d + e) * (d + e)) (e * e) (omega arith))
+
+pub weighed-short : (s d e : ℕ) → 1 ≤ s → weighed 1 1 d e < s * s → weighed (s * s) (s * s) d e < s * s * (s * s)
+weighed-short s d e i h = omega (arith, scaled-short s ((d + e) * (d + e)) (e * e) i (omega arith))
+
+pub alike : (limit g h a b r : ℕ) → g ≡ h → r ≡ min limit (local-of g g a b) → r ≡ min limit (local-of g h a b)
+alike limit g h a b r e k = rw (← e) k
+
+-- and the earlier axis is the lesser of the two
+sorted : (s a b : ℕ) → local-of s s (min a b) (max a b) ≡ local-of s s a b
+sorted s a b = elim (decLe a b) [
+  | yes l ↦ (let m : min a b ≡ a = omega arith in let n : max a b ≡ b = omega arith in rw (m, n))
+  | no l ↦ (let m : min a b ≡ b = omega arith in let n : max a b ≡ a = omega arith in rw (m, n) (local-swap s s b a))
+]
+
+pub in-order : (limit s a b m n r : ℕ) → m ≡ min a b → n ≡ max a b → r ≡ min limit (local-of s s m n) → r ≡ min limit (local-of s s a b)
+in-order limit s a b m n r em en k = rw (← sorted s a b, ← em, ← en) k

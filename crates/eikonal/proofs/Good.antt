@@ -1,20 +1,21 @@
 -- A board that is not refused is Good.
 use mathlib.Core.Path.{_≡_, refl, ap, _∙_}
-use mathlib.Core.Bool.{Bool, true, false, cond, _&&_, _||_, false≢true, true≢false}
+use mathlib.Core.Bool.{Bool, Bool·beq, true, false, not, cond, _&&_, _||_, false≢true, true≢false}
 use mathlib.Core.List.{List, [], _∷_}
-use mathlib.Core.Logic.{inl, inr}
+use mathlib.Core.Logic.{_⊎_, inl, inr}
 use Prim.Native.Nat.{ℕ, zero, suc, _≤_}
 use native.Mathlib.Omega.{arith}
 use native.Mathlib.Nat.{mul-le-mul}
 use lib.Dec.{ltb, leb, eqb}
 use lib.ListN.{length, getD}
 use borrow.Author.Tests.{eqb-true, eqb-false, leb-true, ltb-false}
-use Rattle.eikonal.specs.Board.{Board, size, slowness, never, start-time}
+use Rattle.eikonal.specs.Board.{Board, size, slowness, along-row, down-column, never, start-time}
 use Rattle.eikonal.specs.declared.Start.{Start}
-use Rattle.eikonal.specs.Refusals.{Handed, handed, handed-refusal, starts-refusal, side-good, sides-good, any-above}
+use Rattle.eikonal.specs.Refusals.{Handed, handed, handed-refusal, starts-refusal, side-good, sides-good}
+use Rattle.eikonal.specs.Refusals.{steep, half-wall, any-pair, pairs-refusal, slows-refusal}
 use Rattle.eikonal.specs.Refusals.{first-off, first-low, late, on-wall, records-refusal}
 use Rattle.eikonal.specs.Promise.{board-good}
-use Rattle.eikonal.specs.Inner.Good.{Known, Good}
+use Rattle.eikonal.specs.Inner.Good.{Known, Pair, Good}
 use Rattle.eikonal.specs.Inner.Judge.{starts-rise}
 use Rattle.eikonal.proofs.Causes.{passed, fulfilled, faultless, neither}
 use Rattle.eikonal.proofs.Faults.{rises}
@@ -31,11 +32,30 @@ pub side : (n : ℕ) → side-good n ≡ true → (1 ≤ n) × (n ≤ 256)
 unfolding side-good
 side n e = let r = and-true (leb 1 n) (leb n 256) e in (leb-true 1 n (r .0), leb-true n 256 (r .1))
 
-none-above : (m : ℕ) (xs : List ℕ) → any-above m xs ≡ false → (c : ℕ) → getD xs c 0 ≤ m
-unfolding any-above
-none-above m [] e c = omega arith
-none-above m (x ∷ xs) e zero = ltb-false m x (or-false (ltb m x) (any-above m xs) e .0)
-none-above m (x ∷ xs) e (suc c) = none-above m xs (or-false (ltb m x) (any-above m xs) e .1) c
+-- no cell's pair is met by a test that none of the list's is met by: off the list it is the wall's
+none-pair : (p : (g h : ℕ) → Bool) (ss : List ℕ) → p 0 0 ≡ false → any-pair p ss ≡ false → (c : ℕ)
+    → p (along-row (getD ss c 0)) (down-column (getD ss c 0)) ≡ false
+unfolding any-pair along-row down-column
+none-pair p [] z e c = z
+none-pair p (s ∷ ss) z e zero = or-false (p (along-row s) (down-column s)) (any-pair p ss) e .0
+none-pair p (s ∷ ss) z e (suc c) = none-pair p ss z (or-false (p (along-row s) (down-column s)) (any-pair p ss) e .1) c
+
+-- what is neither 5 nor 21
+pub unflawed : (p q : Bool) → pairs-refusal p q .number ≡ 0 → (p ≡ false) × (q ≡ false)
+unfolding pairs-refusal
+unflawed p q e = let r = passed p _ _ e in (r .0, passed q _ _ (r .1) .0)
+
+pub to-pair : (g h : ℕ) → steep g h ≡ false → half-wall g h ≡ false → Pair g h
+unfolding steep half-wall
+to-pair g h e f =
+    let r = or-false (ltb 4095 g) (ltb 4095 h) e in
+    record { along-most = ltb-false 4095 g (r .0); down-most = ltb-false 4095 h (r .1); whole = go (eqb g 0) (eqb h 0) refl refl f }
+  where
+    go : (p q : Bool) → eqb g 0 ≡ p → eqb h 0 ≡ q → not (Bool·beq p q) ≡ false → ((g ≡ 0) × (h ≡ 0)) ⊎ ((1 ≤ g) × (1 ≤ h))
+    go true true a b e = inl (eqb-true g 0 a, eqb-true h 0 b)
+    go true false a b e = absurd (true≢false e)
+    go false true a b e = absurd (true≢false e)
+    go false false a b e = inr (omega (arith, eqb-false g 0 a), omega (arith, eqb-false h 0 b))
 
 none-late : (xs : List Start) → late xs ≡ false → (c : ℕ) → Known 1000000 (start-time c xs)
 unfolding late start-time
@@ -93,13 +113,14 @@ pub record Accepted (p : Handed) : Type 0 where
   pub starts : Sound (p .board)
 
 pub accepted : (p : Handed) → handed-refusal p .number ≡ 0 → Accepted p
-unfolding handed-refusal slowness
+unfolding handed-refusal slows-refusal steep half-wall slowness
 accepted p e =
     let b = p .board in
     let r2 = fulfilled (sides-good (b .wide) (b .high)) _ _ e in
     let r4 = fulfilled (p .paired && eqb (length (b .slow)) (size b)) _ _ (r2 .1) in
-    let r5 = passed (any-above 4095 (b .slow)) _ _ (r4 .1) in
-    let s = sound b (r5 .1) in
+    let r = neither (slows-refusal (b .slow)) _ (r4 .1) in
+    let f = unflawed (any-pair steep (b .slow)) (any-pair half-wall (b .slow)) (r .0) in
+    let s = sound b (r .1) in
     let sides = sides-within (b .wide) (b .high) (r2 .0) in
     let even = and-true (p .paired) (eqb (length (b .slow)) (size b)) (r4 .0) in
     record {
@@ -110,7 +131,7 @@ accepted p e =
         high-low = sides .2;
         high-high = sides .3;
         slow-length = eqb-true (length (b .slow)) (size b) (even .1);
-        slow-most = none-above 4095 (b .slow) (r5 .0);
+        pairs = λ c. to-pair _ _ (none-pair steep (b .slow) refl (f .0) c) (none-pair half-wall (b .slow) refl (f .1) c);
         starts-known = none-late (b .starts) (s .early);
         walls-free = none-on-wall b (b .starts) (s .free);
       };

@@ -1,6 +1,7 @@
 pub mod Levels
 pub mod Least
 pub mod Up
+pub mod Walls
 pub mod Axes
 pub mod Local
 pub mod LocalRule
@@ -10,7 +11,7 @@ pub mod Causes
 pub mod Faults
 pub mod Good
 pub mod Judging
-pub mod Above
+pub mod Pairs
 pub mod Rule
 pub mod Passes
 pub mod Clip

@@ -1,15 +1,16 @@
--- The local rule of a board: two axes of weight 1. Its laws are those of Axes.antt.
+-- The local rule of a board: two weighted axes. Its laws are those of Axes.antt.
 use mathlib.Core.Path.{_≡_, refl, sym, ap₂, _∙_, fun-ext}
-use mathlib.Core.Bool.{Bool, true, false, cond, _||_}
+use mathlib.Core.Bool.{Bool, true, false, cond}
 use mathlib.Core.List.{List, [], _∷_}
 use mathlib.Core.Logic.{_⊎_, _≢_}
-use Prim.Native.Nat.{ℕ, zero, suc, _+_, _*_, _-_, _≤_, _<_, min}
+use Prim.Native.Nat.{ℕ, zero, suc, _+_, _*_, _-_, _≤_, _<_, min, max}
 use native.Mathlib.Omega.{arith}
-use lib.Dec.{ltb, eqb}
-use borrow.Author.Tests.{ltb-true, ltb-false}
-use Rattle.eikonal.specs.Board.{never, earlier, least-from, passes, local}
+use native.Mathlib.Nat.{mul-le-mul-left}
+use lib.Dec.{ltb, leb}
+use borrow.Author.Tests.{ltb-true, ltb-false, le-leb}
+use Rattle.eikonal.specs.Board.{never, earlier, square, passes, local-of, local}
 use Rattle.eikonal.proofs.Least.{Least}
-use Rattle.eikonal.proofs.Axes.{earliest, pull, passes-axes, local-axes, Enough, axes-on, axes-late, axes-step, Answers-axes, axes-answers, axes-comes}
+use Rattle.eikonal.proofs.Axes.{earliest, pull, passes-axes, local-axes, Enough, axes-on, axes-late, axes-step, Answers-axes, axes-answers}
 use Rattle.eikonal.proofs.Axes.{axes-passes, passes-local-axes, axes-under, axes-agree}
 
 -- ---- the earlier of two
@@ -31,11 +32,11 @@ earlier-agree t a b x y p q =
 pub earlier-under : (t a b x y : ℕ) → min t a ≤ x → min t b ≤ y → min t (earlier a b) ≤ earlier x y
 earlier-under t a b x y p q = rw (earlier-min a b, earlier-min x y) (omega arith)
 
--- ---- two axes of weight 1
-abbrev pub second : List ℕ
-second = 1 ∷ []
+-- ---- two axes: that of the row has the weight h, that of the column g
+abbrev second : (g : ℕ) → List ℕ
+second g = g ∷ []
 
-unfoldable pub two : (a b : ℕ) → ℕ → ℕ
+unfoldable two : (a b : ℕ) → ℕ → ℕ
 two a b zero = a
 two a b (suc i) = b
 
@@ -45,84 +46,105 @@ unfolding two
 each P a b x y p q zero = p
 each P a b x y p q (suc i) = q
 
-enough : (s : ℕ) → Enough s s 1 second
+enough : (g h : ℕ) → Enough (max g h) (g * h) h (second g)
 unfolding Enough
-enough s = (omega arith, omega arith)
+enough g h =
+    let x : g ≤ max g h = omega arith in
+    let y : h ≤ max g h = omega arith in
+    (omega (arith, mul-le-mul-left h x), mul-le-mul-left g y)
 
-passes-is : (s a b t : ℕ) → passes s a b t ≡ passes-axes s 1 second (two a b) t
-unfolding passes passes-axes pull two
-passes-is s a b t =
-    let p : 1 * (t - a) ≡ t - a = omega arith in
-    let q : 1 * (t - b) ≡ t - b = omega arith in
-    rw (p, q)
+passes-is : (g h a b t : ℕ) → passes g h a b t ≡ passes-axes (g * h) h (second g) (two a b) t
+unfolding passes passes-axes pull two square
+passes-is g h a b t =
+    let due : g * g * (h * h) ≡ g * h * (g * h) = omega arith in
+    let sum : (t - a) * (t - a) * (h * h) + (t - b) * (t - b) * (g * g) ≡ h * (t - a) * (h * (t - a)) + g * (t - b) * (g * (t - b)) = omega arith in
+    ap₂ leb due sum
 
-earliest-is : (a b : ℕ) → earliest second (two a b) ≡ min a b
+earliest-is : (g a b : ℕ) → earliest (second g) (two a b) ≡ min a b
 unfolding earliest two
-earliest-is a b = refl
+earliest-is g a b = refl
 
--- the local rule, of the earlier sides
-unfoldable pub local-of : (s a b : ℕ) → ℕ
-local-of s a b = cond (eqb s 0 || eqb (earlier a b) never) never (least-from s (earlier a b) (λ t. passes s a b t))
+pub local-is : (g h l r u d : ℕ) → local g h l r u d ≡ local-of g h (earlier l r) (earlier u d)
+unfolding local
+local-is g h l r u d = refl
 
-pub local-is : (s l r u d : ℕ) → local s l r u d ≡ local-of s (earlier l r) (earlier u d)
-unfolding local local-of
-local-is s l r u d = refl
-
-axes-is : (s a b : ℕ) → local-of s a b ≡ local-axes s s 1 second (two a b)
+axes-is : (g h a b : ℕ) → local-of g h a b ≡ local-axes (max g h) (g * h) h (second g) (two a b)
 unfolding local-of local-axes
-axes-is s a b = rw (fun-ext (passes-is s a b), earlier-min a b, earliest-is a b)
+axes-is g h a b = rw (fun-ext (passes-is g h a b), earlier-min a b, earliest-is g a b)
+
+-- the axes the other way round
+passes-swap : (g h a b t : ℕ) → passes g h a b t ≡ passes h g b a t
+unfolding passes square
+passes-swap g h a b t =
+    let due : g * g * (h * h) ≡ h * h * (g * g) = omega arith in
+    let sum : (t - a) * (t - a) * (h * h) + (t - b) * (t - b) * (g * g) ≡ (t - b) * (t - b) * (g * g) + (t - a) * (t - a) * (h * h) = omega arith in
+    ap₂ leb due sum
 
 -- ---- the times that pass
-pub passes-on : (s a b v x y w : ℕ) → v - a ≤ w - x → v - b ≤ w - y → passes s a b v ≡ true → passes s x y w ≡ true
-passes-on s a b v x y w p q h =
-    passes-is s x y w
-    ∙ axes-on s 1 second (two a b) (two x y) v w (each (λ i j. v - i ≤ w - j) a b x y p q) (sym (passes-is s a b v) ∙ h)
+pub passes-on : (g h a b v x y w : ℕ) → v - a ≤ w - x → v - b ≤ w - y → passes g h a b v ≡ true → passes g h x y w ≡ true
+passes-on g h a b v x y w p q k =
+    passes-is g h x y w
+    ∙ axes-on (g * h) h (second g) (two a b) (two x y) v w (each (λ i j. v - i ≤ w - j) a b x y p q) (sym (passes-is g h a b v) ∙ k)
 
-pub passes-late : (s a b v : ℕ) → 1 ≤ s → passes s a b v ≡ true → min a b < v
-passes-late s a b v h k = rw (earliest-is a b) at (axes-late s 1 second (two a b) v h (sym (passes-is s a b v) ∙ k))
+pub passes-late : (g h a b v : ℕ) → 1 ≤ g * h → passes g h a b v ≡ true → min a b < v
+passes-late g h a b v l k =
+    rw (earliest-is g a b) at (axes-late (g * h) h (second g) (two a b) v l (sym (passes-is g h a b v) ∙ k))
 
-pub step-passes : (s a b : ℕ) → passes s a b (min a b + s) ≡ true
-step-passes s a b =
-    passes-is s a b (min a b + s) ∙ (rw (earliest-is a b) at (axes-step s s 1 second (enough s) (two a b)))
+-- so far from the earlier axis is enough, whichever it is; a straight step is, from either
+pub far-passes : (g h a b : ℕ) → passes g h a b (min a b + max g h) ≡ true
+far-passes g h a b =
+    passes-is g h a b (min a b + max g h) ∙ (rw (earliest-is g a b) at (axes-step (max g h) (g * h) h (second g) (enough g h) (two a b)))
+
+pub along-passes : (g h a b : ℕ) → passes g h a b (a + g) ≡ true
+unfolding passes square
+along-passes g h a b =
+    let x : a + g - a ≡ g = omega arith in
+    rw x (le-leb (g * g * (h * h)) (g * g * (h * h) + (a + g - b) * (a + g - b) * (g * g)) (omega arith))
+
+pub down-passes : (g h a b : ℕ) → passes g h a b (b + h) ≡ true
+down-passes g h a b = passes-swap g h a b (b + h) ∙ along-passes h g b a
 
 -- it stays never for a wall or where no side is reached; else it is the least that passes from the earlier side on
-pub data Answers (s a b : ℕ) : Type 0 where
-  stays : (s ≡ 0) ⊎ (min a b ≡ never) → local-of s a b ≡ never → Answers s a b
-  comes : 1 ≤ s → min a b ≢ never → Least (λ t. passes s a b t) (min a b) (min a b + s) (local-of s a b) → Answers s a b
+pub data Answers (g h a b : ℕ) : Type 0 where
+  stays : (g * h ≡ 0) ⊎ (min a b ≡ never) → local-of g h a b ≡ never → Answers g h a b
+  comes : 1 ≤ g * h → min a b ≢ never → Least (λ t. passes g h a b t) (min a b) (min a b + max g h) (local-of g h a b) → Answers g h a b
 
-pub local-answers : (s a b : ℕ) → Answers s a b
+pub local-answers : (g h a b : ℕ) → Answers g h a b
 unfolding earliest two
-local-answers s a b = go (axes-answers s s 1 second (enough s) (two a b))
+local-answers g h a b = go (axes-answers (max g h) (g * h) h (second g) (enough g h) (two a b))
   where
-    go : Answers-axes s s 1 second (enough s) (two a b) → Answers s a b
-    go (Answers-axes.stays z e) = stays z (axes-is s a b ∙ e)
-    go (Answers-axes.comes p n l) = comes p n (rw (fun-ext (passes-is s a b), axes-is s a b) l)
-
-pub local-comes : (s a b : ℕ) → 1 ≤ s → min a b ≢ never → local-of s a b ≡ least-from s (min a b) (λ t. passes s a b t)
-unfolding earliest two
-local-comes s a b h k =
-    axes-is s a b
-    ∙ axes-comes s s 1 second (enough s) (two a b) h k
-    ∙ rw (fun-ext (passes-is s a b), earliest-is a b)
+    go : Answers-axes (max g h) (g * h) h (second g) (enough g h) (two a b) → Answers g h a b
+    go (Answers-axes.stays z e) = stays z (axes-is g h a b ∙ e)
+    go (Answers-axes.comes p n l) = comes p n (rw (fun-ext (passes-is g h a b), axes-is g h a b) l)
 
 -- THE LAW: the answer is at most v, before never, just if v passes
-pub local-passes : (s a b v : ℕ) → v < never → local-of s a b ≤ v → (1 ≤ s) × (passes s a b v ≡ true)
-local-passes s a b v h k =
-    let r = axes-passes s s 1 second (enough s) (two a b) v h (rw (axes-is s a b) at k) in
-    (r .0, passes-is s a b v ∙ r .1)
+pub local-passes : (g h a b v : ℕ) → v < never → local-of g h a b ≤ v → (1 ≤ g * h) × (passes g h a b v ≡ true)
+local-passes g h a b v l k =
+    let r = axes-passes (max g h) (g * h) h (second g) (enough g h) (two a b) v l (rw (axes-is g h a b) at k) in
+    (r .0, passes-is g h a b v ∙ r .1)
 
-pub passes-local : (s a b v : ℕ) → v < never → 1 ≤ s → passes s a b v ≡ true → local-of s a b ≤ v
-passes-local s a b v h p k =
-    rw (axes-is s a b) (passes-local-axes s s 1 second (enough s) (two a b) v h p (sym (passes-is s a b v) ∙ k))
+pub passes-local : (g h a b v : ℕ) → v < never → 1 ≤ g * h → passes g h a b v ≡ true → local-of g h a b ≤ v
+passes-local g h a b v l p k =
+    rw (axes-is g h a b)
+    (passes-local-axes (max g h) (g * h) h (second g) (enough g h) (two a b) v l p (sym (passes-is g h a b v) ∙ k))
 
 -- MONOTONE and CAUSAL
-pub local-under : (s a b x y : ℕ) → min never a ≤ x → min never b ≤ y → min never (local-of s a b) ≤ local-of s x y
-local-under s a b x y p q =
-    rw (axes-is s a b, axes-is s x y)
-    (axes-under s s 1 second (enough s) (two a b) (two x y) (each (λ i j. min never i ≤ j) a b x y p q))
+pub local-under : (g h a b x y : ℕ) → min never a ≤ x → min never b ≤ y → min never (local-of g h a b) ≤ local-of g h x y
+local-under g h a b x y p q =
+    rw (axes-is g h a b, axes-is g h x y)
+    (axes-under (max g h) (g * h) h (second g) (enough g h) (two a b) (two x y) (each (λ i j. min never i ≤ j) a b x y p q))
 
-pub local-agree : (s a b x y t : ℕ) → t < never → min t a ≡ min t x → min t b ≡ min t y
-    → min (suc t) (local-of s a b) ≡ min (suc t) (local-of s x y)
-local-agree s a b x y t h p q =
-    rw (axes-is s a b, axes-is s x y)
-    (axes-agree s s 1 second (enough s) (two a b) (two x y) t h (each (λ i j. min t i ≡ min t j) a b x y p q))
+pub local-agree : (g h a b x y t : ℕ) → t < never → min t a ≡ min t x → min t b ≡ min t y
+    → min (suc t) (local-of g h a b) ≡ min (suc t) (local-of g h x y)
+local-agree g h a b x y t l p q =
+    rw (axes-is g h a b, axes-is g h x y)
+    (axes-agree (max g h) (g * h) h (second g) (enough g h) (two a b) (two x y) t l (each (λ i j. min t i ≡ min t j) a b x y p q))
+
+-- the rule, its axes the other way round
+pub local-swap : (g h a b : ℕ) → local-of g h a b ≡ local-of h g b a
+unfolding local-of
+local-swap g h a b =
+    let m : earlier a b ≡ earlier b a = rw (earlier-min a b, earlier-min b a) (omega arith) in
+    let far : max g h ≡ max h g = omega arith in
+    let both : g * h ≡ h * g = omega arith in
+    rw (fun-ext (passes-swap g h a b), m, far, both)

@@ -4,17 +4,18 @@ use mathlib.Core.Bool.{Bool, true, false, cond}
 use Prim.Native.Nat.{ℕ, suc, _+_, _-_, _/_, _%_, _≤_, _<_, min}
 use native.Mathlib.Omega.{arith}
 use borrow.Author.Tests.{eqb-false}
-use Rattle.eikonal.specs.Board.{Board, never, size, slowness, earlier, local, arrival, met, start-time}
+use Rattle.eikonal.specs.Board.{Board, never, size, slowness, earlier, local-of, local, arrival, met, start-time}
 use Rattle.eikonal.specs.Promise.{Neighbour}
 use Rattle.eikonal.specs.Inner.Good.{Good}
 use Rattle.eikonal.proofs.Good.{start-most}
-use Rattle.eikonal.proofs.Local.{local-of, earlier-min, earlier-agree, earlier-under, local-agree, local-under, Answers, stays, comes, local-answers}
-use Rattle.eikonal.proofs.Local.{passes-late, step-passes}
-use Rattle.eikonal.proofs.Rule.{earlier-seen, along, down}
+use Rattle.eikonal.proofs.Local.{earlier-min, earlier-agree, earlier-under, local-agree, local-under, Answers, stays, comes, local-answers}
+use Rattle.eikonal.proofs.Local.{passes-late, far-passes}
+use Rattle.eikonal.proofs.Rule.{earlier-seen, along, down, row-of, column-of, given}
+use Rattle.eikonal.proofs.Walls.{wall-given}
 use Rattle.eikonal.proofs.Grid.{left-near, right-near, above-near, below-near}
 
-pub arrival-is : (b : Board) (c : ℕ) (f : ℕ → ℕ) → arrival b c f ≡ local-of (slowness b c) (along b c f) (down b c f)
-unfolding arrival earlier-seen local local-of
+pub arrival-is : (b : Board) (c : ℕ) (f : ℕ → ℕ) → arrival b c f ≡ given b c f
+unfolding arrival earlier-seen local
 arrival-is b c f = refl
 
 -- a relation of times that the earlier of two keeps
@@ -54,7 +55,7 @@ module _ {b : Board} (good : Good b) (c : ℕ) (on : c < size b) (f g : ℕ → 
   arrival-agree t l h =
       let kept : Kept (λ x y. min t x ≡ min t y) = (refl, earlier-agree t) in
       rw (arrival-is b c f, arrival-is b c g)
-      (local-agree (slowness b c) _ _ _ _ t l (along-by (λ x y. min t x ≡ min t y) kept good c on f g h)
+      (local-agree (row-of b c) (column-of b c) _ _ _ _ t l (along-by (λ x y. min t x ≡ min t y) kept good c on f g h)
       (down-by (λ x y. min t x ≡ min t y) kept good c on f g h))
 
   -- MONOTONE
@@ -62,31 +63,27 @@ module _ {b : Board} (good : Good b) (c : ℕ) (on : c < size b) (f g : ℕ → 
   arrival-under h =
       let kept : Kept (λ x y. min never x ≤ y) = (omega arith, earlier-under never) in
       rw (arrival-is b c f, arrival-is b c g)
-      (local-under (slowness b c) _ _ _ _ (along-by (λ x y. min never x ≤ y) kept good c on f g h) (down-by (λ x y. min never x ≤ y) kept good c on f g h))
+      (local-under (row-of b c) (column-of b c) _ _ _ _ (along-by (λ x y. min never x ≤ y) kept good c on f g h)
+      (down-by (λ x y. min never x ≤ y) kept good c on f g h))
 
   -- and by the neighbours alone
   pub arrival-same : ((e : ℕ) → e < size b → Neighbour b c e → f e ≡ g e) → arrival b c f ≡ arrival b c g
   arrival-same h =
       let kept : Kept (λ x y. x ≡ y) = (refl, λ a b x y p q. ap₂ earlier p q) in
       rw (arrival-is b c f, arrival-is b c g)
-      (ap₂ (local-of (slowness b c)) (along-by (λ x y. x ≡ y) kept good c on f g h) (down-by (λ x y. x ≡ y) kept good c on f g h))
+      (ap₂ (local-of (row-of b c) (column-of b c)) (along-by (λ x y. x ≡ y) kept good c on f g h) (down-by (λ x y. x ≡ y) kept good c on f g h))
 
 -- a wall is not reached
 pub arrival-wall : (b : Board) (c : ℕ) (f : ℕ → ℕ) → slowness b c ≡ 0 → arrival b c f ≡ never
-arrival-wall b c f w = rw (arrival-is b c f) (go (local-answers (slowness b c) (along b c f) (down b c f)))
-  where
-    go : Answers (slowness b c) (along b c f) (down b c f) → local-of (slowness b c) (along b c f) (down b c f) ≡ never
-    go (stays z e) = e
-    go (comes p n l) = absurd (omega arith)
+arrival-wall b c f w = rw (arrival-is b c f) (wall-given b c f w)
 
 -- no arrival is at 0
 pub arrival-late : (b : Board) (c : ℕ) (f : ℕ → ℕ) → 1 ≤ arrival b c f
-arrival-late b c f = rw (arrival-is b c f) (go (local-answers (slowness b c) (along b c f) (down b c f)))
+arrival-late b c f = rw (arrival-is b c f) (go (local-answers (row-of b c) (column-of b c) (along b c f) (down b c f)))
   where
-    go : Answers (slowness b c) (along b c f) (down b c f) → 1 ≤ local-of (slowness b c) (along b c f) (down b c f)
+    go : Answers (row-of b c) (column-of b c) (along b c f) (down b c f) → 1 ≤ given b c f
     go (stays z e) = omega arith
-    go (comes p n l) =
-        omega (arith, passes-late (slowness b c) (along b c f) (down b c f) _ p (l .found (step-passes (slowness b c) (along b c f) (down b c f))))
+    go (comes p n l) = omega (arith, passes-late _ _ (along b c f) (down b c f) _ p (l .found (far-passes _ _ _ _)))
 
 -- a cell's time, with the cap that code has
 pub met-capped : {b : Board} → Good b → (c : ℕ) (f : ℕ → ℕ) → met b c f ≡ min (start-time c (b .starts)) (min never (arrival b c f))

@@ -10,9 +10,10 @@ use Rattle.eikonal.specs.Inner.Clip.{clip}
 use Rattle.eikonal.proofs.Levels.{order}
 use Rattle.eikonal.proofs.Good.{good, start-most}
 use Rattle.eikonal.proofs.Clip.{Clipped, kept, lost, clipped, cut-time}
-use Rattle.eikonal.proofs.Local.{local-of, Answers, stays, comes, local-answers, earlier-min, passes-late, step-passes}
-use Rattle.eikonal.proofs.Rule.{along, down, met-is}
+use Rattle.eikonal.proofs.Local.{Answers, stays, comes, local-answers, earlier-min, passes-late, far-passes}
+use Rattle.eikonal.proofs.Rule.{along, down, row-of, column-of, given, met-is}
 use Rattle.eikonal.proofs.Solution.{one-solution, times-below}
+use Rattle.eikonal.proofs.Walls.{wall, passable}
 use Rattle.eikonal.proofs.Grid.{neighbour-seen, Nearest, near, nearest}
 
 pub never-past-horizon : Never-past-horizon
@@ -27,7 +28,7 @@ never-past-horizon b h c e k l = rw (cut-time h (solved b) c (omega arith)) (go 
 module _ (b : Board) (legal : board-good b ≡ true) where
   -- the solution of a cell is the earlier of its start and the rule
   solved-met : (c : ℕ) → c < size b
-      → time (solved b) c ≡ min (start-time c (b .starts)) (local-of (slowness b c) (along b c (time (solved b))) (down b c (time (solved b))))
+      → time (solved b) c ≡ min (start-time c (b .starts)) (given b c (time (solved b)))
   unfolding One-solution Meets
   solved-met c h = one-solution b legal .0 .1 c h ∙ met-is b c (time (solved b)) ∙ earlier-min _ _
 
@@ -38,40 +39,39 @@ module _ (b : Board) (legal : board-good b ≡ true) where
       let r = joined-reached j in (
         h,
         go (times-below b e legal (r .0)) (r .1) (neighbour-seen (good b legal) (time (solved b)) c h e (r .0) n)
-            (local-answers (slowness b c) (along b c (time (solved b))) (down b c (time (solved b)))),
+            (local-answers (row-of b c) (column-of b c) (along b c (time (solved b))) (down b c (time (solved b)))),
       )
     where
       go : (time (solved b) e < 269369920) ⊎ (time (solved b) e ≡ never) → time (solved b) e < never
           → min (along b c (time (solved b))) (down b c (time (solved b))) ≤ time (solved b) e
-          → Answers (slowness b c) (along b c (time (solved b))) (down b c (time (solved b))) → time (solved b) c < never
+          → Answers (row-of b c) (column-of b c) (along b c (time (solved b))) (down b c (time (solved b))) → time (solved b) c < never
       go (inr p) q k a = absurd (omega arith)
-      go (inl p) q k (stays (inl z) a) = absurd (w z)
+      go (inl p) q k (stays (inl z) a) = absurd (omega (arith, passable (slowness b c) (good b legal .pairs c) w))
       go (inl p) q k (stays (inr z) a) = absurd (omega arith)
-      go (inl p) q k (comes i m l) = omega (arith, solved-met c h, l .high, good b legal .slow-most c)
+      go (inl p) q k (comes i m l) = omega (arith, solved-met c h, l .high, good b legal .pairs c .along-most, good b legal .pairs c .down-most)
 
   -- a cell that is reached has a start, or an earlier neighbour
   reached-joined : (t c : ℕ) → c < size b → time (solved b) c < t → t ≤ never → Joined b c
   reached-joined zero c h k l = absurd (omega arith)
   reached-joined (suc t) c h k l =
-      go (order (local-of (slowness b c) (along b c (time (solved b))) (down b c (time (solved b)))) (start-time c (b .starts))) (local-answers _ _ _)
+      go (order (given b c (time (solved b))) (start-time c (b .starts))) (local-answers _ _ _ _)
       (λ e. reached-joined t e)
     where
-      go : (local-of (slowness b c) (along b c (time (solved b))) (down b c (time (solved b))) < start-time c (b .starts))
-          ⊎ (start-time c (b .starts) ≤ local-of (slowness b c) (along b c (time (solved b))) (down b c (time (solved b))))
-          → Answers (slowness b c) (along b c (time (solved b))) (down b c (time (solved b)))
+      go : (given b c (time (solved b)) < start-time c (b .starts))
+          ⊎ (start-time c (b .starts) ≤ given b c (time (solved b)))
+          → Answers (row-of b c) (column-of b c) (along b c (time (solved b))) (down b c (time (solved b)))
           → ((e : ℕ) → e < size b → time (solved b) e < t → t ≤ never → Joined b e) → Joined b c
       go (inr i) a next =
           let s : start-time c (b .starts) ≢ never = λ z. omega (arith, solved-met c h) in
           begins c h (λ w. s (good b legal .walls-free c w)) s
       go (inl i) (stays z p) next = absurd (omega (arith, start-most (good b legal) c))
       go (inl i) (comes w m p) next =
-          let late = passes-late (slowness b c) (along b c (time (solved b))) (down b c (time (solved b))) _ w (p .found (step-passes _ _ _)) in
+          let late = passes-late _ _ (along b c (time (solved b))) (down b c (time (solved b))) _ w (p .found (far-passes _ _ _ _)) in
           by (nearest (good b legal) (time (solved b)) c h (omega (arith, solved-met c h))) late
         where
           by : Nearest (good b legal) (time (solved b)) c h
-              → min (along b c (time (solved b))) (down b c (time (solved b))) < local-of (slowness b c) (along b c (time (solved b)))
-              (down b c (time (solved b))) → Joined b c
-          by (near e on n f) late = goes-on c e h (λ z. omega arith) n (next e on (omega (arith, solved-met c h)) (omega arith))
+              → min (along b c (time (solved b))) (down b c (time (solved b))) < given b c (time (solved b)) → Joined b c
+          by (near e on n f) late = goes-on c e h (λ z. omega (arith, wall (slowness b c) z)) n (next e on (omega (arith, solved-met c h)) (omega arith))
 
 pub never-unjoined : Never-unjoined
 unfolding Never-unjoined

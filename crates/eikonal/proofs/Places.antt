@@ -16,7 +16,7 @@ use Rattle.eikonal.specs.declared.Reply.{Reply}
 use Rattle.eikonal.specs.declared.Job.{Job}
 use Rattle.eikonal.specs.declared.Job.the-variants.{March, Round, Run}
 use Rattle.eikonal.specs.Refusals.{Handed, cause, cause-at, none, or-else, on-board, first-off, first-low, late, on-wall}
-use Rattle.eikonal.specs.Refusals.{any-above, sides-good, order-good}
+use Rattle.eikonal.specs.Refusals.{steep, half-wall, any-pair, pairs-refusal, slows-refusal, sides-good, order-good}
 use Rattle.eikonal.specs.Refusals.{records-refusal, starts-refusal, handed-refusal, tiles-refusal, job-refusal, lists-refusal}
 use Rattle.eikonal.specs.Ledger.{Call, call-board, refusal, answer, answered, ledger-answer}
 use Rattle.eikonal.specs.Promise.{cell-at, All-on, All-rise, First-at-fault, Place-is-first, Steps, All-place, Every-place}
@@ -37,24 +37,34 @@ looked-for-before : (k : ℕ) → 1 ≤ k → k < 8 → (k ≡ 0) ⊎ (8 ≤ k) 
 looked-for-before k l h (inl z) = omega arith
 looked-for-before k l h (inr o) = omega arith
 
+-- the numbers that are looked for in front of the starts
+abbrev pub in-front : (number : ℕ) → Bool
+in-front k = eqb k 21 || (leb 1 k && ltb k 7)
+
 module _ (n : ℕ) (xs : List Start) where
   abbrev pub Tells : Refusal → Type 0
   Tells k = First-at-fault n xs (k .number) (k .place)
 
-  -- ---- in front of the starts: causes with a number below 7
-  plain : (k : ℕ) → leb 1 k && ltb k 7 ≡ true → Tells (cause k)
-  plain k e =
-      let r = and-true (leb 1 k) (ltb k 7) e in
-      let low = leb-true 1 k (r .0) in
-      let high = ltb-true k 7 (r .1) in
-      record {
-        off = λ q. absurd (omega arith);
-        low = λ q. absurd (omega arith);
-        right = λ o c. absurd (looked-for-before k low (omega arith) o);
-        rest = λ a b. refl;
-      }
+  -- ---- in front of the starts: causes with a number below 7, or 21
+  plain : (k : ℕ) → in-front k ≡ true → Tells (cause k)
+  plain k e = go (eqb k 21) refl e
+    where
+      go : (p : Bool) → eqb k 21 ≡ p → p || (leb 1 k && ltb k 7) ≡ true → Tells (cause k)
+      go true q e =
+          let z = eqb-true k 21 q in
+          record { off = λ r. absurd (omega arith); low = λ r. absurd (omega arith); right = λ o c d. absurd (d z); rest = λ a b. refl }
+      go false q e =
+          let r = and-true (leb 1 k) (ltb k 7) e in
+          let low = leb-true 1 k (r .0) in
+          let high = ltb-true k 7 (r .1) in
+          record {
+            off = λ q. absurd (omega arith);
+            low = λ q. absurd (omega arith);
+            right = λ o c d. absurd (looked-for-before k low (omega arith) o);
+            rest = λ a b. refl;
+          }
 
-  pub early : (p : Bool) (k : ℕ) (b : Refusal) → leb 1 k && ltb k 7 ≡ true → Tells b → Tells (cond p (cause k) b)
+  pub early : (p : Bool) (k : ℕ) (b : Refusal) → in-front k ≡ true → Tells b → Tells (cond p (cause k) b)
   early true k b e t = plain k e
   early false k b e t = t
 
@@ -65,9 +75,13 @@ module _ (n : ℕ) (xs : List Start) where
   pub unhidden : Hides none
   unhidden d = absurd (d refl)
 
-  pub hidden : (p : Bool) (k : ℕ) (b : Refusal) → leb 1 k && ltb k 7 ≡ true → Hides b → Hides (cond p (cause k) b)
+  pub hidden : (p : Bool) (k : ℕ) (b : Refusal) → in-front k ≡ true → Hides b → Hides (cond p (cause k) b)
   hidden true k b e t d = plain k e
   hidden false k b e t d = t d
+
+  pub hides-slows : (ss : List ℕ) → Hides (slows-refusal ss)
+  unfolding slows-refusal pairs-refusal
+  hides-slows ss = hidden (any-pair steep ss) _ _ refl (hidden (any-pair half-wall ss) _ none refl unhidden)
 
   pub behind : (a b : Refusal) → Hides a → Tells b → Tells (or-else a b)
   unfolding or-else
@@ -82,12 +96,12 @@ module _ (n : ℕ) (xs : List Start) where
   Right = All-on n xs (length xs) × All-rise xs (length xs)
 
   pub passes : Right → Tells none
-  passes r = record { off = λ q. absurd (omega arith); low = λ q. absurd (omega arith); right = λ a b. r; rest = λ a b. refl }
+  passes r = record { off = λ q. absurd (omega arith); low = λ q. absurd (omega arith); right = λ a b c. r; rest = λ a b. refl }
 
   pub tested : Right → (p : Bool) (k : ℕ) (b : Refusal) → eqb k 7 || eqb k 18 ≡ false → Tells b → Tells (cond p (cause k) b)
   tested r true k b e t =
       let d = or-false (eqb k 7) (eqb k 18) e in
-      record { off = λ q. absurd (eqb-false k 7 (d .0) q); low = λ q. absurd (eqb-false k 18 (d .1) q); right = λ a b. r; rest = λ a b. refl }
+      record { off = λ q. absurd (eqb-false k 7 (d .0) q); low = λ q. absurd (eqb-false k 18 (d .1) q); right = λ a b c. r; rest = λ a b. refl }
   tested r false k b e t = t
 
   pub after : (a b : Refusal) → Tells a → (Right → Tells b) → Tells (or-else a b)
@@ -95,7 +109,7 @@ module _ (n : ℕ) (xs : List Start) where
   after a b s t = go (eqb (a .number) 0) refl
     where
       go : (p : Bool) → eqb (a .number) 0 ≡ p → Tells (cond p b a)
-      go true e = let z = eqb-true (a .number) 0 e in t (s .right (inl z) (λ q. omega arith))
+      go true e = let z = eqb-true (a .number) 0 e in t (s .right (inl z) (λ q. omega arith) (λ q. omega arith))
       go false e = s
 
   -- ---- the records
@@ -116,7 +130,7 @@ module _ (n : ℕ) (xs : List Start) where
           record {
             off = λ z. (h, ltb-false _ n (there (on-board n) 0 xs h), λ i l. ltb-true _ n (before (on-board n) 0 xs i l));
             low = λ z. absurd (omega arith);
-            right = λ o c. absurd (looked-for-before 7 (omega arith) (omega arith) o);
+            right = λ o c d. absurd (looked-for-before 7 (omega arith) (omega arith) o);
             rest = λ a b. absurd (a refl);
           }
       go false e true f =
@@ -125,7 +139,7 @@ module _ (n : ℕ) (xs : List Start) where
           record {
             off = λ z. absurd (omega arith);
             low = λ z. (s .0, h, s .1, rise (first-low xs) (omega arith), on e);
-            right = λ a b. absurd (b refl);
+            right = λ a b c. absurd (b refl);
             rest = λ a b. absurd (b refl);
           }
       go false e false f =
@@ -136,7 +150,7 @@ module _ (n : ℕ) (xs : List Start) where
   pub tells-answer : (k : Refusal) (c : ℕ) → Tells k → First-at-fault n xs (answered k c .number) (answered k c .place)
   unfolding answer
   tells-answer k c t = elim (ℕ-discrete (k .number) 0) [
-    | yes z ↦ rw (answered-zero k c z) (passes (t .right (inl z) (λ q. omega arith)))
+    | yes z ↦ rw (answered-zero k c z) (passes (t .right (inl z) (λ q. omega arith) (λ q. omega arith)))
     | no d ↦ rw (answered-refused k c d) t
   ]
 
@@ -164,14 +178,15 @@ tells-starts b =
     let xs = b .starts in
     after n xs _ _ (tells-records n xs) (λ r. tested n xs r (on-wall b xs) _ none refl (passes n xs r))
 
--- a board as it is handed in: 2, 4 and 5 stand in front of them
+-- a board as it is handed in: 2, 4, 5 and 21 stand in front of them
 tells-handed : (p : Handed) → Tells (size (p .board)) (p .board .starts) (handed-refusal p)
 unfolding handed-refusal
 tells-handed p =
     let b = p .board in
-    let test = early (size b) (b .starts) in
-    test (not (sides-good (b .wide) (b .high))) _ _ refl
-    (test (not (p .paired && eqb (length (b .slow)) (size b))) _ _ refl (test (any-above 4095 (b .slow)) _ _ refl (tells-starts b)))
+    let n = size b in
+    let xs = b .starts in
+    early n xs (not (sides-good (b .wide) (b .high))) _ _ refl
+    (early n xs (not (p .paired && eqb (length (b .slow)) n)) _ _ refl (behind n xs _ _ (hides-slows n xs (b .slow)) (tells-starts b)))
 
 -- THE PLACE in the answer of a call
 pub place-is-first : Place-is-first

@@ -1,5 +1,5 @@
 -- THE PROMISES, gathered: each statement of specs/Promise.antt with its proof.
-use Rattle.eikonal.specs.Promise.{Place-is-first, Local-least, Diagonal-step, One-solution, Times-below, Never-past-horizon, Never-unjoined}
+use Rattle.eikonal.specs.Promise.{Place-is-first, Local-least, Old-rule, Diagonal-step, One-solution, Times-below, Never-past-horizon, Never-unjoined}
 use Rattle.eikonal.specs.Promise.{Round-is-solution, Run-is-march, Rounds-least, Few-rounds, Order-free, Run-order-free, Run-is-rounds, Every-list}
 use Rattle.eikonal.specs.Promise.{Every-place, Lists-keep}
 use Rattle.eikonal.specs.Promise.{Same-handed, Lists-are-records, Same-answers, Third-condition}
@@ -17,6 +17,9 @@ place-is-first = places.place-is-first
 -- the local rule
 pub local-least : Local-least
 local-least = local-rule.local-least
+
+pub old-rule : Old-rule
+old-rule = local-rule.old-rule
 
 pub diagonal-step : Diagonal-step
 diagonal-step = local-rule.diagonal-step

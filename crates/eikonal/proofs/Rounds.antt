@@ -23,8 +23,9 @@ use Rattle.eikonal.proofs.Up.{up-enough}
 use Rattle.eikonal.proofs.Clip.{clip-agree, clip-under, clip-late, clip-low, clip-same, clip-most, cut-time, cut-length, reached-count}
 use Rattle.eikonal.proofs.Altered.{altered-same}
 use Rattle.eikonal.proofs.Good.{good}
-use Rattle.eikonal.proofs.Local.{local-of, Answers, stays, comes, local-answers, earlier-min}
-use Rattle.eikonal.proofs.Rule.{along, down, met-is}
+use Rattle.eikonal.proofs.Local.{earlier-min}
+use Rattle.eikonal.proofs.Rule.{met-is}
+use Rattle.eikonal.proofs.Walls.{wall-given}
 use Rattle.eikonal.proofs.Passes.{never-time, rule, rule-on, rule-off, rule-under, levels, time-off, solved-by, solved-is, solved-length, solved-fixed}
 use Rattle.eikonal.proofs.Solution.{plain, plain-sound, solved-plain, solved-long, marched-long, one-solution-by}
 use Rattle.eikonal.proofs.LastRound.{is-last, last-says}
@@ -68,12 +69,8 @@ module _ (b : Board) (g : Good b) (tw th : ℕ) where
   wall-never : (c : ℕ) → slowness b c ≡ 0 → whole c ≡ never
   wall-never c w = whole-fixed c ∙ go (order c (size b))
     where
-      stay : Answers (slowness b c) (along b c whole) (down b c whole) → local-of (slowness b c) (along b c whole) (down b c whole) ≡ never
-      stay (stays q e) = e
-      stay (comes p n l) = absurd (omega arith)
-
       go : (c < size b) ⊎ (size b ≤ c) → rule b plain whole c ≡ never
-      go (inl h) = rule-on b plain whole c h ∙ met-is b c whole ∙ rw (earlier-min, g .walls-free c w, stay (local-answers _ _ _))
+      go (inl h) = rule-on b plain whole c h ∙ met-is b c whole ∙ rw (earlier-min, g .walls-free c w, wall-given b c whole w)
       go (inr h) = rule-off b plain whole c h
 
   march-time : (h c : ℕ) → h < never → time (marched b h) c ≡ clip h (whole c)

@@ -4,11 +4,11 @@ use mathlib.Core.Bool.{Bool, true, false, cond}
 use Prim.Native.Nat.{ℕ, suc, _+_, _-_, _/_, _%_, _≤_, _<_, min}
 use native.Mathlib.Omega.{arith}
 use lib.Dec.{eqb}
-use Rattle.eikonal.specs.Board.{Board, never, slowness, earlier, local, start-time, arrival, met}
+use Rattle.eikonal.specs.Board.{Board, never, slowness, along-row, down-column, earlier, local-of, local, start-time, arrival, met}
 use Rattle.eikonal.specs.Inner.Good.{Good}
 use Rattle.eikonal.proofs.Levels.{Agree, Under}
 use Rattle.eikonal.proofs.Good.{start-most}
-use Rattle.eikonal.proofs.Local.{earlier-min, local-of, earlier-agree, earlier-under, local-agree, local-under}
+use Rattle.eikonal.proofs.Local.{earlier-min, earlier-agree, earlier-under, local-agree, local-under}
 
 -- a side of a cell: never off the board
 cond-agree : (b : Bool) (t x y : ℕ) → min t x ≡ min t y → min t (cond b never x) ≡ min t (cond b never y)
@@ -37,21 +37,33 @@ along b c f = earlier-seen (eqb (c % b .wide) 0) (eqb (suc (c % b .wide)) (b .wi
 abbrev pub down : Board → (c : ℕ) → (ℕ → ℕ) → ℕ
 down b c f = earlier-seen (eqb (c / b .wide) 0) (eqb (suc (c / b .wide)) (b .high)) (c - b .wide) (c + b .wide) f
 
-pub met-is : (b : Board) (c : ℕ) (f : ℕ → ℕ) → met b c f ≡ earlier (start-time c (b .starts)) (local-of (slowness b c) (along b c f) (down b c f))
-unfolding met arrival earlier-seen local local-of
+-- the numbers of its pair
+abbrev pub row-of : Board → (c : ℕ) → ℕ
+row-of b c = along-row (slowness b c)
+
+abbrev pub column-of : Board → (c : ℕ) → ℕ
+column-of b c = down-column (slowness b c)
+
+abbrev pub given : Board → (c : ℕ) → (ℕ → ℕ) → ℕ
+given b c f = local-of (row-of b c) (column-of b c) (along b c f) (down b c f)
+
+pub met-is : (b : Board) (c : ℕ) (f : ℕ → ℕ) → met b c f ≡ earlier (start-time c (b .starts)) (given b c f)
+unfolding met arrival earlier-seen local
 met-is b c f = refl
 
 pub met-agree : (b : Board) (c t : ℕ) (f g : ℕ → ℕ) → t < never → Agree t f g → min (suc t) (met b c f) ≡ min (suc t) (met b c g)
 met-agree b c t f g h a =
     rw (met-is b c f, met-is b c g)
     (earlier-agree (suc t) _ _ _ _ refl
-    (local-agree (slowness b c) (along b c f) (down b c f) (along b c g) (down b c g) t h (sides-agree _ _ _ _ t f g a) (sides-agree _ _ _ _ t f g a)))
+    (local-agree (row-of b c) (column-of b c) (along b c f) (down b c f) (along b c g) (down b c g) t h
+    (sides-agree _ _ _ _ t f g a) (sides-agree _ _ _ _ t f g a)))
 
 pub met-under : (b : Board) (c : ℕ) (f g : ℕ → ℕ) → Under never f g → min never (met b c f) ≤ met b c g
 met-under b c f g a =
     rw (met-is b c f, met-is b c g)
     (earlier-under never _ _ _ _ (omega arith)
-    (local-under (slowness b c) (along b c f) (down b c f) (along b c g) (down b c g) (sides-under _ _ _ _ f g a) (sides-under _ _ _ _ f g a)))
+    (local-under (row-of b c) (column-of b c) (along b c f) (down b c f) (along b c g) (down b c g)
+    (sides-under _ _ _ _ f g a) (sides-under _ _ _ _ f g a)))
 
 pub met-most : {b : Board} → Good b → (c : ℕ) (f : ℕ → ℕ) → met b c f ≤ never
 met-most {b} g c f = rw (met-is b c f, earlier-min) (omega (arith, start-most g c))

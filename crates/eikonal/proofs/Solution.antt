@@ -3,17 +3,17 @@ use mathlib.Core.Path.{_≡_, refl, sym, _∙_}
 use mathlib.Core.Bool.{Bool, true, false, cond}
 use mathlib.Core.List.{List}
 use mathlib.Core.Logic.{_⊎_, inl, inr}
-use Prim.Native.Nat.{ℕ, zero, suc, _+_, _*_, _≤_, _<_}
+use Prim.Native.Nat.{ℕ, zero, suc, _+_, _*_, _≤_, _<_, max}
 use native.Mathlib.Omega.{arith}
 use lib.Dec.{ltb}
 use lib.ListN.{length}
-use Rattle.eikonal.specs.Board.{Board, never, size, slowness, start-time, met, time, solved, marched, Meets, earlier}
+use Rattle.eikonal.specs.Board.{Board, never, size, local-of, start-time, met, time, solved, marched, Meets, earlier}
 use Rattle.eikonal.specs.Promise.{One-solution, Times-below}
-use Rattle.eikonal.specs.Inner.Good.{Good, Known}
+use Rattle.eikonal.specs.Inner.Good.{Good, Known, Pair}
 use Rattle.eikonal.proofs.Levels.{order, worked}
 use Rattle.eikonal.proofs.Good.{good, size-most}
-use Rattle.eikonal.proofs.Local.{local-of, Answers, stays, comes, local-answers}
-use Rattle.eikonal.proofs.Rule.{earlier-seen, along, down, met-is}
+use Rattle.eikonal.proofs.Local.{Answers, stays, comes, local-answers}
+use Rattle.eikonal.proofs.Rule.{earlier-seen, along, down, row-of, column-of, met-is}
 use Rattle.eikonal.proofs.Passes.{Look, Sound, rule, rule-on, rule-off, time-off, solved-by, solved-is, solved-length, solved-fixed, solved-only}
 use Rattle.eikonal.proofs.Clip.{cut-length}
 
@@ -70,14 +70,17 @@ sides-known : (m : ℕ) (p q : Bool) (i j : ℕ) (f : ℕ → ℕ) → ((e : ℕ
 unfolding earlier-seen
 sides-known m p q i j f k = earlier-known m _ _ (cond-known p m never (f i) (inl refl) (k i)) (cond-known q m never (f j) (inl refl) (k j))
 
-pub local-known : (m s a b : ℕ) → s ≤ 4095 → Known m a → Known m b → Known (m + 4095) (local-of s a b)
-local-known m s a b h k l = go (local-answers s a b) k l
+pub local-known : (m g h a b : ℕ) → Pair g h → Known m a → Known m b → Known (m + 4095) (local-of g h a b)
+local-known m g h a b p k l = go (local-answers g h a b) k l
   where
-    go : Answers s a b → Known m a → Known m b → Known (m + 4095) (local-of s a b)
+    far : max g h ≤ 4095
+    far = omega (arith, p .along-most, p .down-most)
+
+    go : Answers g h a b → Known m a → Known m b → Known (m + 4095) (local-of g h a b)
     go (stays w e) k l = inl e
-    go (comes p n r) (inr k) l = inr (omega (arith, r .high))
-    go (comes p n r) (inl k) (inr l) = inr (omega (arith, r .high))
-    go (comes p n r) (inl k) (inl l) = absurd (n (omega arith))
+    go (comes o n r) (inr k) l = inr (omega (arith, r .high, far))
+    go (comes o n r) (inl k) (inr l) = inr (omega (arith, r .high, far))
+    go (comes o n r) (inl k) (inl l) = absurd (n (omega arith))
 
 known-up : (m n t : ℕ) → m ≤ n → Known m t → Known n t
 known-up m n t h (inl e) = inl e
@@ -88,7 +91,7 @@ met-known {b} g m c f h k =
     rw (met-is b c f)
     (earlier-known (m + 4095) _ _
     (known-up 1000000 (m + 4095) (start-time c (b .starts)) (omega arith) (g .starts-known c))
-    (local-known m (slowness b c) (along b c f) (down b c f) (g .slow-most c) (sides-known m _ _ _ _ f k) (sides-known m _ _ _ _ f k)))
+    (local-known m (row-of b c) (column-of b c) (along b c f) (down b c f) (g .pairs c) (sides-known m _ _ _ _ f k) (sides-known m _ _ _ _ f k)))
 
 rule-known : {b : Board} → Good b → (look : Look) (m c : ℕ) (f : ℕ → ℕ) → 995905 ≤ m → ((e : ℕ) → Known m (look f c e)) → Known (m + 4095) (rule b look f c)
 unfolding rule

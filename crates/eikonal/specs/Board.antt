@@ -2,7 +2,7 @@
 use mathlib.Core.Path.{_≡_}
 use mathlib.Core.Bool.{Bool, _||_, cond}
 use mathlib.Core.List.{List, [], _∷_}
-use Prim.Native.Nat.{ℕ, zero, suc, _+_, _*_, _-_, _/_, _%_, _<_}
+use Prim.Native.Nat.{ℕ, zero, suc, _+_, _*_, _-_, _/_, _%_, _<_, max}
 use lib.Dec.{ltb, leb, eqb}
 use lib.ListN.{length, getD, replicate}
 -- a Start, the code's own record: a front begins at a cell at a time
@@ -16,7 +16,7 @@ never = 4294967295
 abbrev pub largest : ℕ
 largest = 300000000
 
--- slownesses by cell, row by row; 0 is a wall
+-- slownesses by cell, row by row
 pub record Board : Type 0 where
   pub wide : ℕ
   pub high : ℕ
@@ -30,8 +30,15 @@ board-of w h ss xs = record { wide = w; high = h; slow = ss; starts = xs }
 unfoldable pub size : Board → ℕ
 size b = b .wide * b .high
 
+-- A SLOWNESS is a pair in one number, g + 65,536 h: g ticks to cross the cell along its row, h down its column. 0, both zero, is a wall
 unfoldable pub slowness : Board → (c : ℕ) → ℕ
 slowness b c = getD (b .slow) c 0
+
+unfoldable pub along-row : (slow : ℕ) → ℕ
+along-row s = s % 65536
+
+unfoldable pub down-column : (slow : ℕ) → ℕ
+down-column s = s / 65536
 
 unfoldable pub earlier : (a b : ℕ) → ℕ
 earlier a b = cond (ltb a b) a b
@@ -44,16 +51,17 @@ least-from (suc n) t f = cond (f t) t (least-from n (suc t) f)
 unfoldable pub square : ℕ → ℕ
 square a = a * a
 
--- THE LOCAL RULE: the least t, not below the earlier of a and b, with p² + q² at least s²
-unfoldable pub passes : (s a b t : ℕ) → Bool
-passes s a b t = leb (square s) (square (t - a) + square (t - b))
+-- THE LOCAL RULE: the least t, not below the earlier of a and b, with p² h² + q² g² at least g² h²
+unfoldable pub passes : (g h a b t : ℕ) → Bool
+passes g h a b t = leb (square g * square h) (square (t - a) * square h + square (t - b) * square g)
 
-unfoldable pub local : (s left right above below : ℕ) → ℕ
-local s l r u d =
-    let a = earlier l r in
-    let b = earlier u d in
+unfoldable pub local-of : (g h a b : ℕ) → ℕ
+local-of g h a b =
     let m = earlier a b in
-    cond (eqb s 0 || eqb m never) never (least-from s m (λ t. passes s a b t))
+    cond (eqb (g * h) 0 || eqb m never) never (least-from (max g h) m (λ t. passes g h a b t))
+
+unfoldable pub local : (g h left right above below : ℕ) → ℕ
+local g h l r u d = local-of g h (earlier l r) (earlier u d)
 
 -- D(s): the least d with 2 d² at least s²
 unfoldable pub diagonal : ℕ → ℕ
@@ -74,7 +82,7 @@ arrival b c f =
     let r = cond (eqb (suc col) w) never (f (suc c)) in
     let u = cond (eqb row 0) never (f (c - w)) in
     let d = cond (eqb (suc row) (b .high)) never (f (c + w)) in
-    local (slowness b c) l r u d
+    local (along-row (slowness b c)) (down-column (slowness b c)) l r u d
 
 -- a cell's time: the earlier of its start's and what the local rule gives
 unfoldable pub met : Board → (c : ℕ) → (seen : ℕ → ℕ) → ℕ

@@ -6,7 +6,7 @@ use Prim.Native.Nat.{ℕ}
 use lib.Dec.{ltb}
 use lib.ListN.{length}
 use Rattle.eikonal.specs.Board.{local, diagonal, never, largest}
-use Rattle.eikonal.specs.Refusals.{cause, none}
+use Rattle.eikonal.specs.Refusals.{cause, none, steep, half-wall, pairs-refusal}
 use Rattle.eikonal.specs.Ledger.{Call, answered, ledger-answer, ledger-after, work-after}
 use Rattle.eikonal.specs.declared.Refusal.{Refusal}
 use Rattle.eikonal.specs.declared.Reply.{Reply}
@@ -29,14 +29,16 @@ pub record Says (c : Call) (x : Reply) (before after : Lent) : Type 0 where
 unfoldable pub seen : ℕ → ℕ
 seen t = cond (ltb largest t) never t
 
--- a slowness above 4,095 is 5
-unfoldable pub slowness-refusal : ℕ → Refusal
-slowness-refusal s = cond (ltb 4095 s) (cause 5) none
+-- the local rule: 5, 21, or the time
+unfoldable pub pair-refusal : (g h : ℕ) → Refusal
+pair-refusal g h = pairs-refusal (steep g h) (half-wall g h)
 
--- the local rule: 5, or the time
-unfoldable pub Local-says : (s l r u d : ℕ) → Reply → Type 0
-Local-says s l r u d x = x ≡ answered (slowness-refusal s) (local s (seen l) (seen r) (seen u) (seen d))
+unfoldable pub Local-says : (g h l r u d : ℕ) → Reply → Type 0
+Local-says g h l r u d x = x ≡ answered (pair-refusal g h) (local g h (seen l) (seen r) (seen u) (seen d))
 
--- D: 5, or the step
+-- D, for both numbers of a pair alike: 5, or the step
+unfoldable pub step-refusal : ℕ → Refusal
+step-refusal s = cond (ltb 4095 s) (cause 5) none
+
 unfoldable pub Diagonal-says : (s : ℕ) → Reply → Type 0
-Diagonal-says s x = x ≡ answered (slowness-refusal s) (diagonal s)
+Diagonal-says s x = x ≡ answered (step-refusal s) (diagonal s)

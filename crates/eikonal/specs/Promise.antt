@@ -1,13 +1,13 @@
 -- What is promised. Each statement is a type; proofs/Promises.antt gathers their proofs.
 use mathlib.Core.Path.{_≡_}
-use mathlib.Core.Bool.{Bool, true, false}
+use mathlib.Core.Bool.{Bool, true, false, _||_, cond}
 use mathlib.Core.List.{List, [], _∷_, _++_}
 use mathlib.Core.Logic.{_⊎_, _≢_}
 use Prim.Native.Nat.{ℕ, zero, suc, _+_, _*_, _-_, _%_, _≤_, _<_, min, max}
-use lib.Dec.{eqb}
+use lib.Dec.{leb, eqb}
 use lib.ListN.{length, getD}
 use Rattle.eikonal.specs.Board.{Board, size, slowness, start-time, time, Meets, solved, marched, reached, diagonal, local, never, largest}
-use Rattle.eikonal.specs.Board.{all-never, passes, earlier}
+use Rattle.eikonal.specs.Board.{all-never, least-from, square, passes, earlier}
 use Rattle.eikonal.specs.declared.Start.{Start}
 use Rattle.eikonal.specs.Tiles.{Meets-in-tiles, solved-in-tiles, after-rounds, last-round, rounds, up}
 use Rattle.eikonal.specs.Refusals.{Handed, by-lists, by-records, starts-of, cells-of, begins-of, board-refusal, order-good}
@@ -38,8 +38,8 @@ pub record First-at-fault (n : ℕ) (xs : List Start) (number place : ℕ) : Typ
   -- 18: the cell there is not above the one before it, every earlier one is above its own, and none in the list is off the board
   pub low : number ≡ 18 → (1 ≤ place) × (place < length xs) × (cell-at xs place ≤ cell-at xs (place - 1))
       × All-rise xs place × All-on n xs (length xs)
-  -- 0, and all numbers that are looked for behind both: no start is at fault by either
-  pub right : (number ≡ 0) ⊎ (8 ≤ number) → number ≢ 18 → All-on n xs (length xs) × All-rise xs (length xs)
+  -- 0, and all numbers that are looked for behind both, as 21 is not: no start is at fault by either
+  pub right : (number ≡ 0) ⊎ (8 ≤ number) → number ≢ 18 → number ≢ 21 → All-on n xs (length xs) × All-rise xs (length xs)
   -- any number but these two, 0 too
   pub rest : number ≢ 7 → number ≢ 18 → place ≡ 0
 
@@ -50,18 +50,33 @@ Places c x = First-at-fault (size (call-board c)) (call-board c .starts) (x .num
 unfoldable pub Place-is-first : Type 0
 Place-is-first = (c : Call) (ts : List ℕ) → Places c (ledger-answer c ts)
 
--- ---- THE LOCAL RULE: its answer passes, and no earlier time does; it is at most a straight step away, and for equal sides D away
+-- ---- THE LOCAL RULE: its answer passes, and no earlier time does; it is at most a straight step away from either axis
 unfoldable pub Local-least : Type 0
 Local-least =
-    (s l r u d t : ℕ) → 1 ≤ s → s ≤ 4095 → earlier (earlier l r) (earlier u d) < never →
-    (passes s (earlier l r) (earlier u d) (local s l r u d) ≡ true)
-    × (local s l r u d ≤ earlier (earlier l r) (earlier u d) + s)
-    × (earlier (earlier l r) (earlier u d) ≤ t → t < local s l r u d → passes s (earlier l r) (earlier u d) t ≡ false)
+    (g h l r u d t : ℕ) → 1 ≤ g → 1 ≤ h → earlier (earlier l r) (earlier u d) < never →
+    (passes g h (earlier l r) (earlier u d) (local g h l r u d) ≡ true)
+    × (local g h l r u d ≤ earlier l r + g) × (local g h l r u d ≤ earlier u d + h)
+    × (earlier (earlier l r) (earlier u d) ≤ t → t < local g h l r u d → passes g h (earlier l r) (earlier u d) t ≡ false)
 
+-- WITH EQUAL NUMBERS it is the rule of one slowness: the least t, not below the earlier of a and b, with p² + q² at least s²
+unfoldable pub one-passes : (s a b t : ℕ) → Bool
+one-passes s a b t = leb (square s) (square (t - a) + square (t - b))
+
+unfoldable pub one-local : (s left right above below : ℕ) → ℕ
+one-local s l r u d =
+    let a = earlier l r in
+    let b = earlier u d in
+    let m = earlier a b in
+    cond (eqb s 0 || eqb m never) never (least-from s m (λ t. one-passes s a b t))
+
+unfoldable pub Old-rule : Type 0
+Old-rule = (s l r u d : ℕ) → local s s l r u d ≡ one-local s l r u d
+
+-- there, and for equal sides, it is D away
 unfoldable pub Diagonal-step : Type 0
 Diagonal-step =
     (s l r u d : ℕ) → 1 ≤ s → s ≤ 4095 → earlier l r ≡ earlier u d → earlier l r < never →
-    local s l r u d ≡ earlier l r + diagonal s
+    local s s l r u d ≡ earlier l r + diagonal s
 
 -- ---- THE SECOND CONDITION: just one set of times meets the rule, and it is the one worked out
 unfoldable pub One-solution : Type 0

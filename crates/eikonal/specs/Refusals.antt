@@ -1,10 +1,10 @@
--- Why boards, marches, rounds and tile runs are refused ("Turned down" of document 01, and Card 2): the causes in the order in which they are looked for.
-use mathlib.Core.Bool.{Bool, true, false, _&&_, _||_, not, cond}
+-- Why boards, marches, rounds and tile runs are refused ("Turned down" of document 01, Cards 2 and 10): the causes in the order in which they are looked for.
+use mathlib.Core.Bool.{Bool, Bool·beq, true, false, _&&_, _||_, not, cond}
 use mathlib.Core.List.{List, [], _∷_, map}
 use Prim.Native.Nat.{ℕ, zero, suc, _*_}
 use lib.Dec.{ltb, leb, eqb}
 use lib.ListN.{length}
-use Rattle.eikonal.specs.Board.{Board, board-of, size, slowness, largest}
+use Rattle.eikonal.specs.Board.{Board, board-of, size, slowness, along-row, down-column, largest}
 use Rattle.eikonal.specs.declared.Start.{Start}
 use Rattle.eikonal.specs.Tiles.{tile-count}
 use Rattle.eikonal.specs.declared.Refusal.{Refusal}
@@ -31,9 +31,24 @@ side-good n = leb 1 n && leb n 256
 unfoldable pub sides-good : (wide high : ℕ) → Bool
 sides-good w h = side-good w && side-good h
 
-unfoldable pub any-above : (most : ℕ) → List ℕ → Bool
-any-above m [] = false
-any-above m (x ∷ xs) = ltb m x || any-above m xs
+-- A PAIR that is no slowness: a number is above 4,095; one is 0 and the other not
+unfoldable pub steep : (g h : ℕ) → Bool
+steep g h = ltb 4095 g || ltb 4095 h
+
+unfoldable pub half-wall : (g h : ℕ) → Bool
+half-wall g h = not (Bool·beq (eqb g 0) (eqb h 0))
+
+unfoldable pub any-pair : (test : (g h : ℕ) → Bool) → (slow : List ℕ) → Bool
+any-pair p [] = false
+any-pair p (s ∷ ss) = p (along-row s) (down-column s) || any-pair p ss
+
+-- 5, then 21, of what was met
+unfoldable pub pairs-refusal : (steep half : Bool) → Refusal
+pairs-refusal p q = cond p (cause 5) (cond q (cause 21) none)
+
+-- each looks at the whole list
+unfoldable pub slows-refusal : (slow : List ℕ) → Refusal
+slows-refusal ss = pairs-refusal (any-pair steep ss) (any-pair half-wall ss)
 
 -- THE FIRST START AT FAULT by a test of its cell and of the least that it may be, which is one more than the cell before it:
 -- its place, or the list's length where none is at fault
@@ -99,12 +114,12 @@ cells-of xs = map (λ s. s .cell) xs
 unfoldable pub begins-of : List Start → List ℕ
 begins-of xs = map (λ s. s .time) xs
 
--- 2, 4, 5, 7, 18, 8, 9 of a board: plain lists of unequal length are 4 too
+-- 2, 4, 5, 21, 7, 18, 8, 9 of a board: plain lists of unequal length are 4 too
 unfoldable pub handed-refusal : Handed → Refusal
 handed-refusal p =
     let b = p .board in
     cond (not (sides-good (b .wide) (b .high))) (cause 2)
-    (cond (not (p .paired && eqb (length (b .slow)) (size b))) (cause 4) (cond (any-above 4095 (b .slow)) (cause 5) (starts-refusal b)))
+    (cond (not (p .paired && eqb (length (b .slow)) (size b))) (cause 4) (or-else (slows-refusal (b .slow)) (starts-refusal b)))
 
 abbrev pub board-refusal : Board → Refusal
 board-refusal b = handed-refusal (handed b true)

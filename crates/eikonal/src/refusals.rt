@@ -1,4 +1,4 @@
-// Whether a board is refused, and why: 2, 4, 5, 7, 18, 8 or 9.
+// Whether a board is refused, and why: 2, 4, 5, 21, 7, 18, 8 or 9.
 ghost use mathlib.Core.Path.{_≡_};
 ghost use mathlib.Core.Bool.{cond};
 ghost use mathlib.Core.List.{List};
@@ -7,7 +7,8 @@ ghost use lib.Dec.{ltb, eqb};
 ghost use lib.ListN.{length, getD};
 ghost use Rattle.eikonal.specs.Board.{board-of};
 ghost use Rattle.eikonal.specs.declared.Start.{Start};
-ghost use Rattle.eikonal.specs.Refusals.{cause-at, side-good, any-above, starts-of, handed, handed-refusal};
+ghost use Rattle.eikonal.specs.Refusals.{cause-at, side-good, steep, half-wall, pairs-refusal, starts-of, handed, handed-refusal};
+ghost use Rattle.eikonal.specs.Inner.Flaws.{flawless, with-pair, with-pairs};
 ghost use Rattle.eikonal.specs.Inner.Judge.{nothing-judged, onward, judge-start, judge, Countable, judged-refusal};
 use super::Refusal;
 use super::cause;
@@ -23,17 +24,69 @@ pub fn side_good(n: u32) -> bool
     n <= 256
 }
 
-// Every entry is looked at, with no way out of the loop, so that several are compared at a time.
-pub fn any_above(list: &[u32], most: u32) -> bool
-    ensures { λ r. ⌜ r ≡ any-above most (now (list .entry)) ⌝ }
+// What pairs looked at so far have: a number above 4,095, a single 0.
+pub struct Flaws {
+    pub steep: bool,
+    pub half: bool,
+}
+
+pub fn flawless() -> Flaws
+    ensures { λ r. ⌜ r ≡ flawless ⌝ }
 {
-    let mut found = false;
+    Flaws {
+        steep: false,
+        half: false,
+    }
+}
+
+pub fn is_steep(g: u32, h: u32) -> bool
+    ensures { λ r. ⌜ r ≡ steep g h ⌝ }
+{
+    (g > 4095) | (h > 4095)
+}
+
+pub fn is_half_wall(g: u32, h: u32) -> bool
+    ensures { λ r. ⌜ r ≡ half-wall g h ⌝ }
+{
+    (g == 0) != (h == 0)
+}
+
+// One slowness more.
+pub fn with_pair(slow: u32, so_far: Flaws) -> Flaws
+    ensures { λ r. ⌜ r ≡ with-pair slow «so_far» ⌝ }
+{
+    let g = slow % 65536;
+    let h = slow / 65536;
+    Flaws {
+        steep: so_far.steep | is_steep(g, h),
+        half: so_far.half | is_half_wall(g, h),
+    }
+}
+
+// Every entry is looked at, with no way out of the loop, so that several are compared at a time.
+pub fn with_pairs(slow: &[u32], so_far: Flaws) -> Flaws
+    ensures { λ r. ⌜ r ≡ with-pairs (now (slow .entry)) «so_far» ⌝ }
+{
+    let mut flaws = so_far;
     let mut i = 0;
-    while i < list.len() {
-        found = found | (list[i] > most);
+    while i < slow.len() {
+        flaws = with_pair(slow[i], flaws);
         i += 1;
     }
-    found
+    flaws
+}
+
+// 5, then 21.
+pub fn pairs_refusal(steep: bool, half: bool) -> Refusal
+    ensures { λ r. ⌜ r ≡ pairs-refusal steep half ⌝ }
+{
+    if steep {
+        return cause(5);
+    }
+    if half {
+        return cause(21);
+    }
+    cause(0)
 }
 
 // What the starts looked at so far leave: how many they are, the least cell that the next may have, the places of the first off the board and of
@@ -176,8 +229,10 @@ pub fn handed_refusal(
     if slow.len() != size {
         return cause(4);
     }
-    if any_above(slow, 4095) {
-        return cause(5);
+    let flaws = with_pairs(slow, flawless());
+    let pairs = pairs_refusal(flaws.steep, flaws.half);
+    if pairs.number != 0 {
+        return pairs;
     }
     judged_refusal(judged)
 }

@@ -10,6 +10,9 @@ use super::seams::EDGE;
 use super::seams::INSIDE;
 use eikonal::arrival::LARGEST;
 use eikonal::arrival::NEVER;
+use eikonal::arrival::lesser;
+use eikonal::arrival::of_equal;
+use eikonal::arrival::of_unequal;
 
 // A stored time as a cell of another tile sees it.
 fn ghost_time(slow: &[u32], times: &[u32], shape: Shape, e: usize) -> u32
@@ -75,5 +78,13 @@ pub fn rule(
     let r = see(slow, times, work, shape, n, c, 0, 1, cols[col + 1]);
     let u = see(slow, times, work, shape, n, c, w, 0, rows[row]);
     let d = see(slow, times, work, shape, n, c, 0, w, rows[row + 1]);
-    eikonal::arrival::arrival_before(limit, slow[c], l, r, u, d)
+    let across = lesser(l, r);
+    let down = lesser(u, d);
+    let s = slow[c];
+    let g = s % 65536;
+    let h = s / 65536;
+    if g == h {
+        return of_equal(limit, g, across, down);
+    }
+    of_unequal(limit, g, h, across, down)
 }

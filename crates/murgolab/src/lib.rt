@@ -16,15 +16,16 @@ use scenario::TurnReply;
 
 #[no_mangle]
 pub extern "C" fn murgolab_local_rule(
-    slowness: u32,
+    g: u32,
+    h: u32,
     left: u32,
     right: u32,
     above: u32,
     below: u32,
 ) -> Reply
-    ensures { λ x. ⌜ Local-says slowness left right above below x ⌝ }
+    ensures { λ x. ⌜ Local-says g h left right above below x ⌝ }
 {
-    eikonal::arrival::local_rule(slowness, left, right, above, below)
+    eikonal::arrival::local_rule(g, h, left, right, above, below)
 }
 
 #[no_mangle]

@@ -34,7 +34,7 @@ head-line x = (decimal (x .width) ++ (32 ∷ [])) ++ ((decimal (x .height) ++ (3
 unfoldable pub refused-line : (number : ℕ) → List ℕ
 refused-line n = (114 ∷ 101 ∷ 102 ∷ 117 ∷ 115 ∷ 101 ∷ 100 ∷ 32 ∷ []) ++ (decimal n ++ (10 ∷ []))
 
--- 18,448 bytes: a board of 1,024 cells can have as many runs and starts
+-- 20,498 bytes: a board of 1,024 cells can have as many runs and starts
 abbrev pub longest : ℕ
 longest = file-size 1024 1024
 

@@ -24,7 +24,7 @@ use scenario::runs::wide;
 use tablet::small::small_refusal;
 use text::put_number;
 
-// 18,448 bytes: a board of 1,024 cells can have as many runs and starts.
+// 20,498 bytes: a board of 1,024 cells can have as many runs and starts.
 pub const LONGEST: usize = HEAD + RUN * 1024 + START * 1024;
 
 // The byte behind a cell's field.

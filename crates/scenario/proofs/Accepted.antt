@@ -29,7 +29,7 @@ module _ (f : List ℕ) (h : Bytes f) where
 
   run-back : run-size ≤ length f → run-bytes (run-in f) ≡ take run-size f
   unfolding run-bytes run-in run
-  run-back l = joined 8 2 f _ _ (joined 4 4 f _ _ (four-back f h (omega arith)) (four-at 4 (omega arith))) (two-at 8 (omega arith))
+  run-back l = joined 8 4 f _ _ (joined 4 4 f _ _ (four-back f h (omega arith)) (four-at 4 (omega arith))) (four-at 8 (omega arith))
 
   start-back : start-size ≤ length f → start-bytes (start-in f) ≡ take start-size f
   unfolding start-bytes start-in
@@ -38,8 +38,8 @@ module _ (f : List ℕ) (h : Bytes f) where
   head-back : head-size ≤ length f → head-bytes (head-in f) ≡ take head-size f
   unfolding head-bytes head-in
   head-back l =
-      joined 12 4 f _ _ (joined 8 4 f _ _ (joined 6 2 f _ _ (joined 4 2 f _ _ (joined 2 2 f _ _ (two-back f h (omega arith)) (two-at 2 (omega arith)))
-      (two-at 4 (omega arith))) (two-at 6 (omega arith))) (four-at 8 (omega arith))) (four-at 12 (omega arith))
+      joined 14 4 f _ _ (joined 10 4 f _ _ (joined 6 4 f _ _ (joined 4 2 f _ _ (joined 2 2 f _ _ (two-back f h (omega arith)) (two-at 2 (omega arith)))
+      (two-at 4 (omega arith))) (four-at 6 (omega arith))) (four-at 10 (omega arith))) (four-at 14 (omega arith))
 
 pub accepted-is-file-of : Accepted-is-file-of
 unfolding Accepted-is-file-of file-of head-of front held size runs-in starts-in

@@ -1,22 +1,23 @@
 -- What files and boards have passed that are not refused.
 use mathlib.Core.Path.{_≡_, sym, _∙_}
 use mathlib.Core.Bool.{Bool, true, false, _&&_, not}
-use mathlib.Core.List.{List, [], _∷_, map}
+use mathlib.Core.List.{List, [], _∷_}
 use Prim.Native.Nat.{ℕ, suc, _+_, _≤_, _<_}
 use native.Mathlib.Omega.{arith}
 use native.Mathlib.Nat.{mul-le-mul}
 use lib.Dec.{ltb, leb}
 use lib.ListN.{length}
-use borrow.Author.Tests.{ltb-false, le-ltb, eqb-true, eq-eqb, leb-true, le-leb, ltb-true, not-false, not-true}
+use borrow.Author.Tests.{ltb-false, eqb-true, eq-eqb, leb-true, le-leb, ltb-true, not-false, not-true}
 use Rattle.eikonal.specs.Board.{Board, size}
-use Rattle.eikonal.specs.Refusals.{or-else, sides-good, any-above, late, starts-refusal}
+use Rattle.eikonal.specs.Refusals.{or-else, sides-good, slows-refusal, late, starts-refusal}
 use Rattle.eikonal.specs.Inner.Judge.{starts-rise}
 use Rattle.eikonal.specs.declared.Start.{Start}
-use Rattle.eikonal.proofs.Causes.{fulfilled, passed, neither}
+use Rattle.eikonal.proofs.Causes.{fulfilled, neither}
 use Rattle.eikonal.proofs.Good.{and-true, or-false, sides-within}
 use Rattle.scenario.specs.Runs.{runs-good}
 use Rattle.scenario.specs.File.{head-size, file-size, head-in, runs-in, held, ticks-good, length-good, head-refusal, runs-refusal, file-refusal}
 use Rattle.scenario.proofs.Records.{All}
+use Rattle.scenario.proofs.GoodRuns.{slows-of}
 
 -- what a call answered of a test, and the branch on it
 pub holds : {p q : Bool} → p ≡ q → not p ≡ false → q ≡ true
@@ -54,23 +55,17 @@ headed f e =
       ticks = fulfilled (ticks-good (x .ticks)) 2 _ (r2 .1) .0;
     }
 
--- 5, 6
+-- 5, 21, 6
 pub record Laid (f : List ℕ) : Type 0 where
-  pub ground : head-in f .ground ≤ 4095
-  pub slows : any-above 4095 (map (λ x. x .slow) (runs-in f)) ≡ false
+  pub slows : slows-refusal (head-in f .ground ∷ slows-of (runs-in f)) .number ≡ 0
   pub runs : runs-good (size (held f)) (head-in f .ground) 0 (head-in f .ground) (runs-in f) ≡ true
 
 pub laid : (f : List ℕ) → runs-refusal f .number ≡ 0 → Laid f
-unfolding runs-refusal any-above
+unfolding runs-refusal
 laid f e =
     let g = head-in f .ground in
-    let r5 = passed (any-above 4095 (g ∷ map (λ x. x .slow) (runs-in f))) 4 _ e in
-    let steep = or-false (ltb 4095 g) _ (r5 .0) in
-    record {
-      ground = ltb-false 4095 g (steep .0);
-      slows = steep .1;
-      runs = fulfilled (runs-good (size (held f)) g 0 g (runs-in f)) 5 _ (r5 .1) .0;
-    }
+    let r = neither (slows-refusal (g ∷ slows-of (runs-in f))) _ e in
+    record { slows = r .0; runs = fulfilled (runs-good (size (held f)) g 0 g (runs-in f)) 5 _ (r .1) .0 }
 
 -- and 7, 18, 8, 9
 pub record Accepted (f : List ℕ) : Type 0 where
@@ -86,14 +81,13 @@ accepted f e =
     record { front = headed f (r .0); rest = laid f (s .0); starts = s .1 }
 
 pub accepts : (f : List ℕ) → Accepted f → file-refusal f .number ≡ 0
-unfolding file-refusal head-refusal length-good runs-refusal any-above or-else
+unfolding file-refusal head-refusal length-good runs-refusal or-else
 accepts f a =
     rw (
       le-leb head-size (length f) (a .front .head),
       eq-eqb (length f) (file-size (head-in f .runs) (head-in f .starts)) (a .front .long),
       a .front .sides,
       a .front .ticks,
-      le-ltb 4095 (head-in f .ground) (a .rest .ground),
       a .rest .slows,
       a .rest .runs,
     )

@@ -1,14 +1,14 @@
 -- The reader and the writer, one after the other, from what their contracts say.
 use mathlib.Core.Path.{_≡_, refl, sym, ap, ap₂, _∙_}
-use mathlib.Core.Bool.{true, false}
-use mathlib.Core.List.{List, _++_}
+use mathlib.Core.Bool.{true}
+use mathlib.Core.List.{List, _∷_, _++_}
 use Prim.Native.Nat.{ℕ, _*_, _≤_, min}
 use native.Mathlib.Omega.{arith}
 use lib.ListN.{length, take, drop, length-map}
 use lib.Seq.{take-at}
 use borrow.Author.Tests.{eq-eqb, eqb-true, le-ltb, le-leb}
 use Rattle.eikonal.specs.Board.{size}
-use Rattle.eikonal.specs.Refusals.{none, or-else, any-above, Handed, handed, by-records, by-lists, starts-of, cells-of, begins-of}
+use Rattle.eikonal.specs.Refusals.{none, or-else, slows-refusal, Handed, handed, by-records, by-lists, starts-of, cells-of, begins-of}
 use Rattle.eikonal.specs.Ledger.{answer}
 use Rattle.eikonal.specs.Promise.{Same-handed, Lists-are-records}
 use Rattle.eikonal.specs.declared.Reply.{Reply}
@@ -20,7 +20,8 @@ use Rattle.scenario.specs.Calls.{filled, scenario, scenario-of, room-goo
 use Rattle.scenario.specs.Calls.{given-refusal, written, writer-refusal, Writes}
 use Rattle.scenario.specs.Promise.{Accepted-is-file-of, File-of-is-accepted, Read-then-write, Write-then-read}
 use Rattle.scenario.specs.declared.Scenario.{Scenario}
-use Rattle.scenario.proofs.Painted.{painted-above}
+use Rattle.scenario.proofs.Slows.{good-among, ground-alone}
+use Rattle.scenario.proofs.Painted.{painted-among}
 use Rattle.scenario.proofs.Causes.{Accepted, accepted}
 use Rattle.scenario.proofs.Answers.{reader-number, reader-zero, filled-in}
 use Rattle.scenario.proofs.Reading.{slow-length, count-starts, count-cells, count-begins, read-zero}
@@ -33,11 +34,9 @@ taken : (k n : ℕ) (xs old now : List ℕ) → k ≡ 0 → length xs ≡ n → 
 taken k n xs old now e l h = ap (take n) (h ∙ filled-in k xs old e) ∙ take-at xs (drop (length xs) old) n l
 
 -- ---- READ, THEN WRITTEN
-pub slow-above : (f : List ℕ) → Accepted f → any-above 4095 (held f .slow) ≡ false
+pub slows-held : (f : List ℕ) → Accepted f → slows-refusal (head-in f .ground ∷ held f .slow) .number ≡ 0
 unfolding held
-slow-above f a =
-    let x = head-in f in
-    painted-above 4095 (x .width * x .height) (x .ground) 0 (runs-in f) (a .rest .ground) (a .rest .slows)
+slows-held f a = let x = head-in f in good-among _ _ (painted-among (x .width * x .height) (x .ground) (runs-in f)) (a .rest .slows)
 
 -- its board as the reader hands it on, in plain lists
 unfoldable pub held-lists : List ℕ → Handed
@@ -53,7 +52,7 @@ module _ (f : List ℕ) (h : Bytes f) (e : file-refusal f .number ≡ 0) where
   held-written = rw (held-handed f) (sym (accepted-is-file-of f h e))
 
   held-given : given-refusal (held-lists f) (head-in f .ticks) (head-in f .ground) .number ≡ 0
-  unfolding given-refusal any-above held size
+  unfolding given-refusal held size
   held-given =
       let a = accepted f e in
       let x = head-in f in
@@ -62,9 +61,8 @@ module _ (f : List ℕ) (h : Bytes f) (e : file-refusal f .number ≡ 0) where
         a .front .sides,
         a .front .ticks,
         eq-eqb (length (held f .slow)) (x .width * x .height) (slow-length f a),
-        le-ltb 4095 (x .ground) (a .rest .ground),
-        slow-above f a,
       )
+      (slows-held f a)
 
   held-refusal : (n : ℕ) → length f ≤ n → writer-refusal (held-lists f) (head-in f .ticks) (head-in f .ground) n .number ≡ 0
   unfolding writer-refusal or-else
@@ -113,7 +111,7 @@ read-then-write f slow slow-now cells cells-now begins begins-now x out out-now 
 module _ (p : Handed) (t g : ℕ) (k : Taken p t g) where
   found : let f = written p t g in (file-refusal f .number ≡ 0) × (held f ≡ p .board) × (head-in f .ticks ≡ t) × (head-in f .ground ≡ g)
   unfolding File-of-is-accepted written
-  found = file-of-is-accepted (p .board) t g (written p t g) (board-taken k) (k .given .ticks) (k .given .ground) refl
+  found = file-of-is-accepted (p .board) t g (written p t g) (board-taken k) (k .given .ticks) (ground-alone g (p .board .slow) (k .given .slows)) refl
 
   found-sides : let x = head-in (written p t g) in (x .width ≡ p .board .wide) × (x .height ≡ p .board .high)
   unfolding held

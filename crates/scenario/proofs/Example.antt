@@ -1,30 +1,37 @@
--- A board of 4 by 1 cells as a file, byte by byte: ground 10, a run of two cells of 300, a wall behind it, a start.
+-- A board of 4 by 1 cells as a file, byte by byte: ground 10 along a row and 20 down a column, a run of two cells of 300 and 7, a wall behind it, a start.
 use mathlib.Core.Path.{_≡_, refl}
 use mathlib.Core.List.{List, [], _∷_}
-use Prim.Native.Nat.{ℕ}
-use Rattle.eikonal.specs.Board.{Board, size, slowness}
-use Rattle.eikonal.specs.Refusals.{none, or-else, side-good, sides-good, any-above, first-fault, late, on-wall, records-refusal, starts-refusal}
+use Prim.Native.Nat.{ℕ, _+_, _*_}
+use Rattle.eikonal.specs.Board.{Board, size, slowness, along-row, down-column}
+use Rattle.eikonal.specs.Refusals.{none, or-else, side-good, sides-good, steep, half-wall, any-pair, pairs-refusal, slows-refusal}
+use Rattle.eikonal.specs.Refusals.{first-fault, late, on-wall, records-refusal, starts-refusal}
 use Rattle.scenario.specs.Bytes.{two, four, two-bytes, four-bytes, records, bytes-of}
 use Rattle.scenario.specs.Runs.{run, end, painted, run-good, runs-good, closed, runs-on, runs-of}
 use Rattle.scenario.specs.File.{head-bytes, run-bytes, start-bytes, head-of, front, file-of, head-in, run-in, start-in, runs-in, starts-in, held}
 use Rattle.scenario.specs.File.{ticks-good, length-good, head-refusal, runs-refusal, file-refusal}
 
+abbrev ground : ℕ
+ground = 10 + 65536 * 20
+
+abbrev other : ℕ
+other = 300 + 65536 * 7
+
 board : Board
-board = record { wide = 4; high = 1; slow = 10 ∷ 300 ∷ 300 ∷ 0 ∷ []; starts = record { cell = 2; time = 70000 } ∷ [] }
+board = record { wide = 4; high = 1; slow = ground ∷ other ∷ other ∷ 0 ∷ []; starts = record { cell = 2; time = 70000 } ∷ [] }
 
 bytes : List ℕ
 bytes =
-    4 ∷ 0 ∷ 1 ∷ 0 ∷ 100 ∷ 0 ∷ 10 ∷ 0 ∷ 2 ∷ 0 ∷ 0 ∷ 0 ∷ 1 ∷ 0 ∷ 0 ∷ 0
-    ∷ 1 ∷ 0 ∷ 0 ∷ 0 ∷ 2 ∷ 0 ∷ 0 ∷ 0 ∷ 44 ∷ 1
-    ∷ 3 ∷ 0 ∷ 0 ∷ 0 ∷ 1 ∷ 0 ∷ 0 ∷ 0 ∷ 0 ∷ 0
+    4 ∷ 0 ∷ 1 ∷ 0 ∷ 100 ∷ 0 ∷ 10 ∷ 0 ∷ 20 ∷ 0 ∷ 2 ∷ 0 ∷ 0 ∷ 0 ∷ 1 ∷ 0 ∷ 0 ∷ 0
+    ∷ 1 ∷ 0 ∷ 0 ∷ 0 ∷ 2 ∷ 0 ∷ 0 ∷ 0 ∷ 44 ∷ 1 ∷ 7 ∷ 0
+    ∷ 3 ∷ 0 ∷ 0 ∷ 0 ∷ 1 ∷ 0 ∷ 0 ∷ 0 ∷ 0 ∷ 0 ∷ 0 ∷ 0
     ∷ 2 ∷ 0 ∷ 0 ∷ 0 ∷ 112 ∷ 17 ∷ 1 ∷ 0 ∷ []
 
-its-bytes : file-of 100 10 board ≡ bytes
+its-bytes : file-of 100 ground board ≡ bytes
 unfolding file-of head-of front head-bytes two-bytes four-bytes bytes-of run-bytes start-bytes runs-of runs-on closed run board bytes
 its-bytes = refl
 
 its-refusal : file-refusal bytes ≡ none
-unfolding file-refusal head-refusal runs-refusal length-good sides-good ticks-good or-else side-good any-above starts-refusal records-refusal first-fault
-    late on-wall
+unfolding file-refusal head-refusal runs-refusal length-good sides-good ticks-good or-else side-good slows-refusal pairs-refusal any-pair steep half-wall
+    along-row down-column starts-refusal records-refusal first-fault late on-wall
     slowness size held head-in runs-in starts-in records run-in start-in run end painted run-good runs-good two four bytes
 its-refusal = refl

@@ -6,14 +6,15 @@ use mathlib.Core.Logic.{_⊎_, inl, inr, ⊎-elim}
 use Prim.Native.Nat.{ℕ, suc, _+_, _-_, _≤_, _<_}
 use native.Mathlib.Omega.{arith}
 use native.Mathlib.Decide.{ℕ-discrete}
-use lib.Dec.{leb, eqb, ltb}
+use lib.Dec.{leb, eqb}
 use lib.ListN.{length}
-use borrow.Author.Tests.{leb-true, le-leb, eqb-true, eqb-false, eq-eqb, ne-eqb, not-true, ltb-false, le-ltb}
-use Rattle.eikonal.specs.Refusals.{any-above}
-use Rattle.eikonal.proofs.Good.{and-true, or-false}
+use borrow.Author.Tests.{leb-true, le-leb, eqb-true, eqb-false, eq-eqb, ne-eqb, not-true}
+use Rattle.eikonal.specs.Refusals.{steep}
+use Rattle.eikonal.proofs.Good.{and-true}
 use Rattle.scenario.specs.declared.Run.{Run}
 use Rattle.scenario.specs.Runs.{run, end, run-good, runs-good, closed, runs-on, runs-of}
 use Rattle.scenario.proofs.Records.{All}
+use Rattle.scenario.proofs.Slows.{Spares, spares-none, spares-rest, spares-more, slow-fits, Among}
 
 -- the rules of a run, where the one before ended at a and had slowness z
 pub record Fits (n g a z : ℕ) (x : Run) : Type 0 where
@@ -115,33 +116,35 @@ runs-of-good g ss =
     runs-on-good (length ss) g 0 g 0 0 g ss
     (record { low = omega arith; high = omega arith; ground = λ _. inl refl; some = λ h. absurd (h refl); apart = λ h _ _. h refl }) (omega arith)
 
--- their slownesses are the board's
-pub slows-of : List Run → List ℕ
+-- their slownesses are the ground's and the board's
+abbrev pub slows-of : List Run → List ℕ
 slows-of xs = map (λ x. x .slow) xs
 
-closed-above : (m g a i z : ℕ) (xs : List Run) → z ≤ m → any-above m (slows-of xs) ≡ false → any-above m (slows-of (closed g a i z xs)) ≡ false
-unfolding closed slows-of any-above run
-closed-above m g a i z xs l e = go (eqb z g)
-  where
-    go : (p : Bool) → any-above m (slows-of (cond p xs (run a (i - a) z ∷ xs))) ≡ false
-    go true = e
-    go false = rw (le-ltb m z l) e
+module _ (p : (g h : ℕ) → Bool) where
+  closed-spares : (g a i z : ℕ) (xs : List Run) (ss : List ℕ) → Spares p (z ∷ ss) → Spares p (slows-of xs) → Spares p (slows-of (closed g a i z xs))
+  unfolding closed run
+  closed-spares g a i z xs ss e f = go (eqb z g)
+    where
+      go : (q : Bool) → Spares p (slows-of (cond q xs (run a (i - a) z ∷ xs)))
+      go true = f
+      go false = spares-more p z ss (slows-of xs) e f
 
-runs-on-above : (m g a i z : ℕ) (ss : List ℕ) → z ≤ m → any-above m ss ≡ false → any-above m (slows-of (runs-on g a i z ss)) ≡ false
-unfolding runs-on any-above slows-of
-runs-on-above m g a i z [] l e = closed-above m g a i z [] l refl
-runs-on-above m g a i z (s ∷ ss) l e =
-    let r = or-false (ltb m s) (any-above m ss) e in
-    go (eqb s z) (runs-on-above m g a (suc i) z ss l (r .1)) (closed-above m g a i z _ l (runs-on-above m g i (suc i) s ss (ltb-false m s (r .0)) (r .1)))
-  where
-    go : (p : Bool) → any-above m (slows-of (runs-on g a (suc i) z ss)) ≡ false → any-above m (slows-of (closed g a i z (runs-on g i (suc i) s ss))) ≡ false
-        → any-above m (slows-of (cond p (runs-on g a (suc i) z ss) (closed g a i z (runs-on g i (suc i) s ss)))) ≡ false
-    go true h k = h
-    go false h k = k
+  runs-on-spares : (g a i z : ℕ) (ss : List ℕ) → Spares p (z ∷ ss) → Spares p (slows-of (runs-on g a i z ss))
+  unfolding runs-on
+  runs-on-spares g a i z [] e = closed-spares g a i z [] [] e (spares-none p)
+  runs-on-spares g a i z (s ∷ ss) e =
+      let rest = spares-rest p z (s ∷ ss) e in
+      go (eqb s z) (runs-on-spares g a (suc i) z ss (spares-more p z (s ∷ ss) ss e (spares-rest p s ss rest)))
+      (closed-spares g a i z (runs-on g i (suc i) s ss) (s ∷ ss) e (runs-on-spares g i (suc i) s ss rest))
+    where
+      go : (q : Bool) → Spares p (slows-of (runs-on g a (suc i) z ss)) → Spares p (slows-of (closed g a i z (runs-on g i (suc i) s ss)))
+          → Spares p (slows-of (cond q (runs-on g a (suc i) z ss) (closed g a i z (runs-on g i (suc i) s ss))))
+      go true h k = h
+      go false h k = k
 
-pub runs-of-above : (m g : ℕ) (ss : List ℕ) → g ≤ m → any-above m ss ≡ false → any-above m (map (λ x. x .slow) (runs-of g ss)) ≡ false
-unfolding runs-of slows-of
-runs-of-above m g ss l e = runs-on-above m g 0 0 g ss l e
+pub runs-of-among : (g : ℕ) (ss : List ℕ) → Among (g ∷ slows-of (runs-of g ss)) (g ∷ ss)
+unfolding runs-of
+runs-of-among g ss p e = spares-more p g ss (slows-of (runs-on g 0 0 g ss)) e (runs-on-spares p g 0 0 g ss e)
 
 -- and there are no more than cells, but one
 closed-count : (g a i z : ℕ) (xs : List Run) → length (closed g a i z xs) ≤ suc (length xs)
@@ -172,15 +175,14 @@ runs-of-count g ss = runs-on-count g 0 0 g ss
 pub record Small (x : Run) : Type 0 where
   pub offset : x .offset < 4294967296
   pub long : x .long < 4294967296
-  pub slow : x .slow < 65536
+  pub slow : x .slow < 4294967296
 
-pub all-small : (n g a z : ℕ) (xs : List Run) → n < 4294967296 → runs-good n g a z xs ≡ true → any-above 4095 (map (λ x. x .slow) xs) ≡ false → All Small xs
-unfolding runs-good any-above end
+pub all-small : (n g a z : ℕ) (xs : List Run) → n < 4294967296 → runs-good n g a z xs ≡ true → Spares steep (slows-of xs) → All Small xs
+unfolding runs-good end
 all-small n g a z [] l e k = tt
 all-small n g a z (x ∷ xs) l e k =
     let r = and-true (run-good n g a z x) _ e in
-    let f = good-fits n g a z x (r .0) in
-    let s = or-false (ltb 4095 (x .slow)) _ k in (
-      record { offset = omega (arith, f .within); long = omega (arith, f .within); slow = omega (arith, ltb-false 4095 (x .slow) (s .0)) },
-      all-small n g (x .offset + x .long) (x .slow) xs l (r .1) (s .1),
+    let f = good-fits n g a z x (r .0) in (
+      record { offset = omega (arith, f .within); long = omega (arith, f .within); slow = slow-fits (x .slow) (slows-of xs) k },
+      all-small n g (x .offset + x .long) (x .slow) xs l (r .1) (spares-rest steep (x .slow) (slows-of xs) k),
     )

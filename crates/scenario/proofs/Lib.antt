@@ -1,6 +1,7 @@
 pub mod Numbers
 pub mod Records
 pub mod Filling
+pub mod Slows
 pub mod GoodRuns
 pub mod Painted
 pub mod Causes

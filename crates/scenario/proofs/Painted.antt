@@ -1,18 +1,19 @@
 -- Good runs are the maximal runs of the slownesses that they come to, and the maximal runs of a list come to that list.
 use mathlib.Core.Path.{_≡_, refl, sym, ap, ap₂, _∙_}
 use mathlib.Core.Bool.{Bool, true, false, cond}
-use mathlib.Core.List.{List, [], _∷_, _++_, map, append-assoc, append-nil}
+use mathlib.Core.List.{List, [], _∷_, _++_, append-assoc, append-nil}
 use Prim.Native.Nat.{ℕ, zero, suc, _+_, _-_, _≤_}
 use native.Mathlib.Omega.{arith}
 use native.Mathlib.Decide.{ℕ-discrete}
-use lib.Dec.{eqb, ltb}
+use lib.Dec.{eqb}
 use lib.ListN.{length, replicate, length-append, length-replicate, replicate-append-replicate}
-use borrow.Author.Tests.{eqb-true, eq-eqb, ne-eqb, ltb-false, le-ltb}
-use Rattle.eikonal.specs.Refusals.{any-above}
-use Rattle.eikonal.proofs.Good.{and-true, or-false}
+use borrow.Author.Tests.{eqb-true, eq-eqb, ne-eqb}
+use Rattle.eikonal.proofs.Good.{and-true}
+use Rattle.eikonal.proofs.Pairs.{any-pair-append}
 use Rattle.scenario.specs.declared.Run.{Run}
 use Rattle.scenario.specs.Runs.{run, end, painted, run-good, runs-good, closed, runs-on, runs-of}
-use Rattle.scenario.proofs.GoodRuns.{Fits, good-fits, closed-ground, closed-run}
+use Rattle.scenario.proofs.Slows.{Spares, spares-none, spares-rest, spares-more, Among}
+use Rattle.scenario.proofs.GoodRuns.{Fits, good-fits, closed-ground, closed-run, slows-of}
 
 -- ---- runs, painted and scanned again
 -- the stretch goes on
@@ -86,27 +87,27 @@ length-painted n g a z (x ∷ xs) e l =
     let f = good-fits n g a z x (r .0) in
     simp (length-append, length-replicate) (omega (arith, f .behind, f .within, length-painted n g (x .offset + x .long) (x .slow) xs (r .1) (f .within)))
 
--- no slowness is above what the ground's and the runs' are not above
-append-above : (m : ℕ) (xs ys : List ℕ) → any-above m xs ≡ false → any-above m ys ≡ false → any-above m (xs ++ ys) ≡ false
-unfolding any-above
-append-above m [] ys e k = k
-append-above m (x ∷ xs) ys e k =
-    let r = or-false (ltb m x) (any-above m xs) e in
-    rw (r .0) (append-above m xs ys (r .1) k)
+-- no slowness but the ground's and the runs'
+module _ (p : (g h : ℕ) → Bool) where
+  append-spares : (ss ts : List ℕ) → Spares p ss → Spares p ts → Spares p (ss ++ ts)
+  append-spares ss ts e f = any-pair-append p ss ts ∙ rw (e, f)
 
-replicate-above : (m k x : ℕ) → x ≤ m → any-above m (replicate k x) ≡ false
-unfolding any-above
-replicate-above m zero x l = refl
-replicate-above m (suc k) x l = rw (le-ltb m x l) (replicate-above m k x l)
+  replicate-spares : (k z : ℕ) (ss : List ℕ) → Spares p (z ∷ ss) → Spares p (replicate k z)
+  replicate-spares zero z ss e = spares-none p
+  replicate-spares (suc k) z ss e = spares-more p z ss (replicate k z) e (replicate-spares k z ss e)
 
-pub painted-above : (m n g a : ℕ) (xs : List Run) → g ≤ m → any-above m (map (λ x. x .slow) xs) ≡ false → any-above m (painted g a n xs) ≡ false
-unfolding painted any-above
-painted-above m n g a [] l e = replicate-above m (n - a) g l
-painted-above m n g a (x ∷ xs) l e =
-    let r = or-false (ltb m (x .slow)) _ e in
-    append-above m (replicate (x .offset - a) g) _ (replicate-above m (x .offset - a) g l)
-    (append-above m (replicate (x .long) (x .slow)) _ (replicate-above m (x .long) (x .slow) (ltb-false m (x .slow) (r .0)))
-    (painted-above m n g (end x) xs l (r .1)))
+  painted-spares : (n g a : ℕ) (xs : List Run) → Spares p (g ∷ slows-of xs) → Spares p (painted g a n xs)
+  unfolding painted
+  painted-spares n g a [] e = replicate-spares (n - a) g [] e
+  painted-spares n g a (x ∷ xs) e =
+      let ss = slows-of xs in
+      let rest = spares-rest p g (x .slow ∷ ss) e in
+      append-spares (replicate (x .offset - a) g) _ (replicate-spares (x .offset - a) g (x .slow ∷ ss) e)
+      (append-spares (replicate (x .long) (x .slow)) _ (replicate-spares (x .long) (x .slow) ss rest)
+      (painted-spares n g (end x) xs (spares-more p g (x .slow ∷ ss) ss e (spares-rest p (x .slow) ss rest))))
+
+pub painted-among : (n g : ℕ) (xs : List Run) → Among (g ∷ painted g 0 n xs) (g ∷ slows-of xs)
+painted-among n g xs p e = spares-more p g (slows-of xs) (painted g 0 n xs) e (painted-spares p n g 0 xs e)
 
 -- ---- slownesses, scanned and painted again
 snoc : (k z : ℕ) (ss : List ℕ) → replicate (suc k) z ++ ss ≡ replicate k z ++ (z ∷ ss)

@@ -1,6 +1,6 @@
 -- The writer's call: what a board has that is not refused; all in front of the starts, then the starts.
 use mathlib.Core.Path.{_≡_, refl, sym, ap, ap₂, _∙_}
-use mathlib.Core.Bool.{true, false, _&&_}
+use mathlib.Core.Bool.{true, _&&_}
 use mathlib.Core.List.{List, _∷_, _++_, append-assoc}
 use mathlib.Core.Logic.{_≢_}
 use Prim.Native.Nat.{ℕ, _+_, _*_, _≤_, _<_}
@@ -10,7 +10,7 @@ use lib.ListN.{length, take, drop, length-append, length-drop}
 use lib.Seq.{take-at, drop-at, drop-drop}
 use borrow.Author.Tests.{eq-eqb, eqb-true, lt-ltb, le-ltb, ltb-false}
 use Rattle.eikonal.specs.Board.{size}
-use Rattle.eikonal.specs.Refusals.{cause, none, sides-good, any-above, starts-refusal, handed-refusal, board-refusal, Handed}
+use Rattle.eikonal.specs.Refusals.{cause, none, or-else, sides-good, slows-refusal, starts-refusal, handed-refusal, board-refusal, Handed}
 use Rattle.eikonal.specs.Ledger.{answer, answered}
 use Rattle.eikonal.specs.Inner.Judge.{judged-refusal}
 use Rattle.eikonal.specs.declared.Refusal.{Refusal}
@@ -18,7 +18,7 @@ use Rattle.eikonal.specs.declared.Reply.{Reply}
 use Rattle.eikonal.specs.declared.Start.{Start}
 use Rattle.eikonal.specs.declared.refusals.Judged.{Judged}
 use Rattle.eikonal.proofs.Causes.{fulfilled, passed, neither, caused, spared, first, next}
-use Rattle.eikonal.proofs.Good.{and-true, or-false, sound}
+use Rattle.eikonal.proofs.Good.{and-true, sound}
 use Rattle.eikonal.proofs.Judging.{judge-refuses}
 use Rattle.eikonal.proofs.Answers.{answered-number, answered-zero, answered-refused}
 use Rattle.scenario.specs.Bytes.{bytes-of}
@@ -26,18 +26,18 @@ use Rattle.scenario.specs.Runs.{runs-of}
 use Rattle.scenario.specs.File.{start-size, runs-end, file-size, start-bytes, head-of, front, file-of, ticks-good}
 use Rattle.scenario.specs.Calls.{filled, given-refusal, written, writer-refusal, Writes}
 use Rattle.scenario.specs.Inner.Begin.{given-by, Judges, Begins}
+use Rattle.scenario.proofs.Slows.{cells-alone}
 use Rattle.scenario.proofs.Causes.{size-most, rise-count}
 use Rattle.scenario.proofs.Answers.{filled-in, kept}
 use Rattle.scenario.proofs.Written.{starts-length, front-length, length-file}
 
--- ---- a board that is not refused: by 2, 3, 4, 5, and by its starts
+-- ---- a board that is not refused: by 2, 3, 4, 5, 21, and by its starts
 pub record Given (p : Handed) (t g : ℕ) : Type 0 where
   pub sides : sides-good (p .board .wide) (p .board .high) ≡ true
   pub ticks : ticks-good t ≡ true
   pub paired : p .paired ≡ true
   pub long : length (p .board .slow) ≡ size (p .board)
-  pub ground : g ≤ 4095
-  pub slows : any-above 4095 (p .board .slow) ≡ false
+  pub slows : slows-refusal (g ∷ p .board .slow) .number ≡ 0
 
 pub record Taken (p : Handed) (t g : ℕ) : Type 0 where
   pub given : Given p t g
@@ -45,22 +45,14 @@ pub record Taken (p : Handed) (t g : ℕ) : Type 0 where
 
 module _ (p : Handed) (t g : ℕ) where
   pub gave : given-refusal p t g .number ≡ 0 → Given p t g
-  unfolding given-refusal any-above
+  unfolding given-refusal
   gave e =
       let b = p .board in
       let r2 = fulfilled (sides-good (b .wide) (b .high)) 1 _ e in
       let r3 = fulfilled (ticks-good t) 2 _ (r2 .1) in
       let r4 = fulfilled (p .paired && eqb (length (b .slow)) (size b)) 3 _ (r3 .1) in
       let even = and-true (p .paired) (eqb (length (b .slow)) (size b)) (r4 .0) in
-      let steep = or-false (ltb 4095 g) (any-above 4095 (b .slow)) (passed (any-above 4095 (g ∷ b .slow)) 4 _ (r4 .1) .0) in
-      record {
-        sides = r2 .0;
-        ticks = r3 .0;
-        paired = even .0;
-        long = eqb-true (length (b .slow)) (size b) (even .1);
-        ground = ltb-false 4095 g (steep .0);
-        slows = steep .1;
-      }
+      record { sides = r2 .0; ticks = r3 .0; paired = even .0; long = eqb-true (length (b .slow)) (size b) (even .1); slows = r4 .1 }
 
   pub took : (n : ℕ) → writer-refusal p t g n .number ≡ 0 → Taken p t g × (length (written p t g) ≤ n)
   unfolding writer-refusal
@@ -93,8 +85,10 @@ module _ (p : Handed) (t g : ℕ) where
 -- it is small, and so is its file
 module _ {p : Handed} {t g : ℕ} (k : Taken p t g) where
   pub board-taken : board-refusal (p .board) .number ≡ 0
-  unfolding handed-refusal
-  board-taken = rw (k .given .sides, eq-eqb (length (p .board .slow)) (size (p .board)) (k .given .long), k .given .slows) (k .starts)
+  unfolding handed-refusal or-else
+  board-taken =
+      let b = p .board in
+      rw (k .given .sides, eq-eqb (length (b .slow)) (size b) (k .given .long), cells-alone g (b .slow) (k .given .slows)) (k .starts)
 
   pub slow-most : length (p .board .slow) ≤ 65536
   slow-most = omega (arith, k .given .long, size-most (p .board) (k .given .sides))

@@ -1,8 +1,8 @@
 -- The file of a good board is accepted, and holds that board.
 use mathlib.Core.Path.{_≡_, refl, sym, ap, _∙_}
-use mathlib.Core.Bool.{true, false}
-use mathlib.Core.List.{List, [], _++_, map, append-assoc, append-nil}
-use Prim.Native.Nat.{ℕ, _+_, _*_, _≤_, _<_}
+use mathlib.Core.Bool.{true}
+use mathlib.Core.List.{List, [], _∷_, _++_, append-assoc, append-nil}
+use Prim.Native.Nat.{ℕ, _*_, _≤_, _<_}
 use native.Mathlib.Omega.{arith}
 use lib.Dec.{eqb}
 use lib.ListN.{length, drop, length-append}
@@ -10,8 +10,8 @@ use lib.Seq.{drop-at, drop-drop}
 use borrow.Author.Tests.{eqb-true}
 use Rattle.eikonal.specs.Board.{Board, size}
 use Rattle.eikonal.specs.declared.Start.{Start}
-use Rattle.eikonal.specs.Refusals.{sides-good, any-above, starts-refusal, handed-refusal, board-refusal}
-use Rattle.eikonal.proofs.Causes.{fulfilled, passed}
+use Rattle.eikonal.specs.Refusals.{sides-good, steep, slows-refusal, starts-refusal, handed-refusal, board-refusal}
+use Rattle.eikonal.proofs.Causes.{fulfilled, neither}
 use Rattle.eikonal.proofs.Good.{sides-within, Sound, sound}
 use Rattle.scenario.specs.Bytes.{two, four, two-bytes, four-bytes, bytes-of}
 use Rattle.scenario.specs.declared.Head.{Head}
@@ -22,8 +22,9 @@ use Rattle.scenario.specs.File.{head-in, run-in, start-in, runs-in, star
 use Rattle.scenario.specs.Promise.{File-of-is-accepted}
 use Rattle.scenario.proofs.Numbers.{two-front, four-front}
 use Rattle.scenario.proofs.Records.{read-back, length-bytes}
+use Rattle.scenario.proofs.Slows.{Spares, spares-rest, slow-fits, good-among, none-steep, with-ground}
 use Rattle.scenario.proofs.GoodRuns as GoodRuns
-use Rattle.scenario.proofs.GoodRuns.{runs-of-good, runs-of-above, runs-of-count}
+use Rattle.scenario.proofs.GoodRuns.{runs-of-good, slows-of, runs-of-among, runs-of-count}
 use Rattle.scenario.proofs.Painted.{painted-runs}
 use Rattle.scenario.proofs.Causes as Causes
 use Rattle.scenario.proofs.Causes.{accepts, rise-count, size-most, some-ticks}
@@ -34,7 +35,7 @@ record Small (x : Head) : Type 0 where
   width : x .width < 65536
   height : x .height < 65536
   ticks : x .ticks < 65536
-  ground : x .ground < 65536
+  ground : x .ground < 4294967296
   runs : x .runs < 4294967296
   starts : x .starts < 4294967296
 
@@ -44,7 +45,7 @@ head-front x bs s = λ i. record {
   width = two-front (x .width) [] (s .width) i;
   height = two-front (x .height) [] (s .height) i;
   ticks = two-front (x .ticks) [] (s .ticks) i;
-  ground = two-front (x .ground) [] (s .ground) i;
+  ground = four-front (x .ground) [] (s .ground) i;
   runs = four-front (x .runs) [] (s .runs) i;
   starts = four-front (x .starts) [] (s .starts) i;
 }
@@ -78,7 +79,7 @@ unfolding run-in run run-bytes four-bytes two-bytes four two
 run-front x bs s = λ i. record {
   offset = four-front (x .offset) [] (s .offset) i;
   long = four-front (x .long) [] (s .long) i;
-  slow = two-front (x .slow) [] (s .slow) i;
+  slow = four-front (x .slow) [] (s .slow) i;
 }
 
 start-front : (x : Start) (bs : List ℕ) → Causes.Small x → start-in (start-bytes x ++ bs) ≡ x
@@ -108,7 +109,7 @@ length-file t g b =
 record Given (b : Board) : Type 0 where
   sides : sides-good (b .wide) (b .high) ≡ true
   long : length (b .slow) ≡ size b
-  slows : any-above 4095 (b .slow) ≡ false
+  slows : slows-refusal (b .slow) .number ≡ 0
   starts : starts-refusal b .number ≡ 0
 
 given : (b : Board) → board-refusal b .number ≡ 0 → Given b
@@ -116,10 +117,10 @@ unfolding handed-refusal
 given b e =
     let r2 = fulfilled (sides-good (b .wide) (b .high)) 1 _ e in
     let r4 = fulfilled (eqb (length (b .slow)) (size b)) 3 _ (r2 .1) in
-    let r5 = passed (any-above 4095 (b .slow)) 4 _ (r4 .1) in
-    record { sides = r2 .0; long = eqb-true (length (b .slow)) (size b) (r4 .0); slows = r5 .0; starts = r5 .1 }
+    let r = neither (slows-refusal (b .slow)) _ (r4 .1) in
+    record { sides = r2 .0; long = eqb-true (length (b .slow)) (size b) (r4 .0); slows = r .0; starts = r .1 }
 
-module _ (b : Board) (t g : ℕ) (a : Given b) (tl : t ≤ 65535) (gl : g ≤ 4095) where
+module _ (b : Board) (t g : ℕ) (a : Given b) (tl : t ≤ 65535) (gg : slows-refusal (g ∷ []) .number ≡ 0) where
   rs : List Run
   rs = runs-of g (b .slow)
 
@@ -143,9 +144,12 @@ module _ (b : Board) (t g : ℕ) (a : Given b) (tl : t ≤ 65535) (gl : g ≤ 40
   unfolding rs
   good = rw (a .long) at (runs-of-good g (b .slow))
 
-  above : any-above 4095 (map (λ y. y .slow) rs) ≡ false
+  slows : slows-refusal (g ∷ slows-of rs) .number ≡ 0
   unfolding rs
-  above = runs-of-above 4095 g (b .slow) gl (a .slows)
+  slows = good-among (g ∷ slows-of (runs-of g (b .slow))) (g ∷ b .slow) (runs-of-among g (b .slow)) (with-ground g (b .slow) gg (a .slows))
+
+  gentle : Spares steep (g ∷ slows-of rs)
+  gentle = none-steep (g ∷ slows-of rs) slows
 
   head-small : Small x
   unfolding x head-of
@@ -153,7 +157,7 @@ module _ (b : Board) (t g : ℕ) (a : Given b) (tl : t ≤ 65535) (gl : g ≤ 40
     width = omega (arith, sides-within (b .wide) (b .high) (a .sides) .1);
     height = omega (arith, sides-within (b .wide) (b .high) (a .sides) .3);
     ticks = omega arith;
-    ground = omega arith;
+    ground = slow-fits g (slows-of rs) gentle;
     runs = omega (arith, runs-of-count g (b .slow), a .long, n-most);
     starts = omega (arith, rise-count (size b) 0 (b .starts) (starts-sound .rise) (omega arith), n-most);
   }
@@ -170,7 +174,8 @@ module _ (b : Board) (t g : ℕ) (a : Given b) (tl : t ≤ 65535) (gl : g ≤ 40
   unfolding runs-in x head-of rs
   holds-runs =
       rw (holds-head, behind)
-      (read-back run-size run-in run-bytes GoodRuns.Small run-front run-next rs _ (GoodRuns.all-small (size b) g 0 g rs (omega (arith, n-most)) good above))
+      (read-back run-size run-in run-bytes GoodRuns.Small run-front run-next rs _
+      (GoodRuns.all-small (size b) g 0 g rs (omega (arith, n-most)) good (spares-rest steep g (slows-of rs) gentle)))
 
   holds-starts : starts-in f ≡ b .starts
   unfolding starts-in x head-of rs
@@ -201,7 +206,7 @@ module _ (b : Board) (t g : ℕ) (a : Given b) (tl : t ≤ 65535) (gl : g ≤ 40
   unfolding x head-of
   is-accepted tg = accepts f (record {
     front = record { head = omega (arith, long); long = rw holds-head long; sides = rw holds-head (a .sides); ticks = rw holds-head tg };
-    rest = record { ground = rw holds-head gl; slows = rw holds-runs above; runs = rw (holds, holds-head, holds-runs) good };
+    rest = record { slows = rw (holds-head, holds-runs) slows; runs = rw (holds, holds-head, holds-runs) good };
     starts = rw holds (a .starts);
   })
 
@@ -211,8 +216,8 @@ module _ (b : Board) (t g : ℕ) (a : Given b) (tl : t ≤ 65535) (gl : g ≤ 40
 
 pub file-of-is-accepted : File-of-is-accepted
 unfolding File-of-is-accepted
-file-of-is-accepted b t g file e tg gl q =
+file-of-is-accepted b t g file e tg gg q =
     let a = given b e in
     let tl = some-ticks t tg .1 in
-    let read = is-read b t g a tl gl in
-    rw (q ∙ is-file b t g a tl gl) (is-accepted b t g a tl gl tg, holds b t g a tl gl, read .0, read .1)
+    let read = is-read b t g a tl gg in
+    rw (q ∙ is-file b t g a tl gg) (is-accepted b t g a tl gg tg, holds b t g a tl gg, read .0, read .1)

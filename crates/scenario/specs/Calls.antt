@@ -6,7 +6,7 @@ use Prim.Native.Nat.{ℕ, _*_, min}
 use lib.Dec.{ltb, leb, eqb}
 use lib.ListN.{length, drop}
 use Rattle.eikonal.specs.Board.{size}
-use Rattle.eikonal.specs.Refusals.{cause, none, or-else, sides-good, any-above, starts-refusal, Handed, cells-of, begins-of}
+use Rattle.eikonal.specs.Refusals.{cause, none, or-else, sides-good, slows-refusal, starts-refusal, Handed, cells-of, begins-of}
 use Rattle.eikonal.specs.Ledger.{answered}
 use Rattle.eikonal.specs.declared.Refusal.{Refusal}
 use Rattle.eikonal.specs.declared.Reply.{Reply}
@@ -40,14 +40,13 @@ pub record Reads (f slow slow-now cells cells-now begins begins-now : List ℕ) 
   pub cells-hold : cells-now ≡ filled (x .number) (cells-of (starts-in f)) cells
   pub begins-hold : begins-now ≡ filled (x .number) (begins-of (starts-in f)) begins
 
--- THE WRITER: 2, 3, 4, 5 of what is handed in
+-- THE WRITER: 2, 3, 4, 5, 21 of what is handed in
 unfoldable pub given-refusal : Handed → (ticks ground : ℕ) → Refusal
 given-refusal p t g =
     let b = p .board in
     cond (not (sides-good (b .wide) (b .high))) (cause 2)
     (cond (not (ticks-good t)) (cause 3)
-    (cond (not (p .paired && eqb (length (b .slow)) (size b))) (cause 4)
-    (cond (any-above 4095 (g ∷ b .slow)) (cause 5) none)))
+    (cond (not (p .paired && eqb (length (b .slow)) (size b))) (cause 4) (slows-refusal (g ∷ b .slow))))
 
 unfoldable pub written : Handed → (ticks ground : ℕ) → List ℕ
 written p t g = file-of t g (p .board)

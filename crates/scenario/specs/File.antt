@@ -6,7 +6,7 @@ use lib.Dec.{leb, eqb}
 use lib.ListN.{length, drop}
 use Rattle.eikonal.specs.Board.{Board, board-of, size}
 use Rattle.eikonal.specs.declared.Start.{Start}
-use Rattle.eikonal.specs.Refusals.{cause, none, or-else, sides-good, any-above, starts-refusal}
+use Rattle.eikonal.specs.Refusals.{cause, none, or-else, sides-good, slows-refusal, starts-refusal}
 use Rattle.eikonal.specs.declared.Refusal.{Refusal}
 use Rattle.scenario.specs.Bytes.{two, four, two-bytes, four-bytes, records, bytes-of}
 use Rattle.scenario.specs.declared.Head.{Head}
@@ -15,10 +15,10 @@ use Rattle.scenario.specs.Runs.{run, painted, runs-good, runs-of}
 
 -- HOW MANY BYTES a head, a run and a start have; where so many runs end, and where the file does
 abbrev pub head-size : ℕ
-head-size = 16
+head-size = 18
 
 abbrev pub run-size : ℕ
-run-size = 10
+run-size = 12
 
 abbrev pub start-size : ℕ
 start-size = 8
@@ -32,10 +32,10 @@ file-size r q = runs-end r + start-size * q
 -- THEIR BYTES
 unfoldable pub head-bytes : Head → List ℕ
 head-bytes x =
-    two-bytes (x .width) ++ two-bytes (x .height) ++ two-bytes (x .ticks) ++ two-bytes (x .ground) ++ four-bytes (x .runs) ++ four-bytes (x .starts)
+    two-bytes (x .width) ++ two-bytes (x .height) ++ two-bytes (x .ticks) ++ four-bytes (x .ground) ++ four-bytes (x .runs) ++ four-bytes (x .starts)
 
 unfoldable pub run-bytes : Run → List ℕ
-run-bytes x = four-bytes (x .offset) ++ four-bytes (x .long) ++ two-bytes (x .slow)
+run-bytes x = four-bytes (x .offset) ++ four-bytes (x .long) ++ four-bytes (x .slow)
 
 unfoldable pub start-bytes : Start → List ℕ
 start-bytes x = four-bytes (x .cell) ++ four-bytes (x .time)
@@ -58,16 +58,16 @@ head-in f = record {
   width = two f;
   height = two (drop 2 f);
   ticks = two (drop 4 f);
-  ground = two (drop 6 f);
-  runs = four (drop 8 f);
-  starts = four (drop 12 f);
+  ground = four (drop 6 f);
+  runs = four (drop 10 f);
+  starts = four (drop 14 f);
 }
 
 abbrev pub start-count : List ℕ → ℕ
 start-count f = head-in f .starts
 
 unfoldable pub run-in : List ℕ → Run
-run-in bs = run (four bs) (four (drop 4 bs)) (two (drop 8 bs))
+run-in bs = run (four bs) (four (drop 4 bs)) (four (drop 8 bs))
 
 unfoldable pub start-in : List ℕ → Start
 start-in bs = record { cell = four bs; time = four (drop 4 bs) }
@@ -96,12 +96,11 @@ head-refusal f =
     let x = head-in f in
     cond (not (length-good f)) (cause 1) (cond (not (sides-good (x .width) (x .height))) (cause 2) (cond (not (ticks-good (x .ticks))) (cause 3) none))
 
--- 5, 6: the ground's and all runs' slownesses, then the rules of runs
+-- 5, 21, 6: the ground's and all runs' slownesses, then the rules of runs
 unfoldable pub runs-refusal : List ℕ → Refusal
 runs-refusal f =
     let g = head-in f .ground in
-    cond (any-above 4095 (g ∷ map (λ x. x .slow) (runs-in f))) (cause 5)
-    (cond (not (runs-good (size (held f)) g 0 g (runs-in f))) (cause 6) none)
+    or-else (slows-refusal (g ∷ map (λ x. x .slow) (runs-in f))) (cond (not (runs-good (size (held f)) g 0 g (runs-in f))) (cause 6) none)
 
 -- 7, 18, 8, 9 are those of the board that it holds
 unfoldable pub file-refusal : List ℕ → Refusal

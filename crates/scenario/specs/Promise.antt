@@ -1,11 +1,11 @@
 -- What is promised of the scenario file and of turns. Each statement is a type; proofs/Promises.antt has their proofs.
 use mathlib.Core.Path.{_≡_}
 use mathlib.Core.Bool.{true}
-use mathlib.Core.List.{List, _++_}
+use mathlib.Core.List.{List, [], _∷_, _++_}
 use Prim.Native.Nat.{ℕ, _+_, _*_, _≤_, _<_}
 use lib.ListN.{length, take, drop}
 use Rattle.eikonal.specs.Board.{Board, size, largest}
-use Rattle.eikonal.specs.Refusals.{Handed, none, board-refusal, by-lists}
+use Rattle.eikonal.specs.Refusals.{Handed, none, slows-refusal, board-refusal, by-lists}
 use Rattle.eikonal.specs.Ledger.{answer}
 use Rattle.eikonal.specs.Promise.{First-at-fault}
 use Rattle.eikonal.specs.declared.Reply.{Reply}
@@ -26,10 +26,10 @@ One-file =
     (e f : List ℕ) → Bytes e → Bytes f → file-refusal e .number ≡ 0 → file-refusal f .number ≡ 0 →
     held e ≡ held f → head-in e .ticks ≡ head-in f .ticks → head-in e .ground ≡ head-in f .ground → e ≡ f
 
--- THE FILE OF A GOOD BOARD is accepted, and holds that board
+-- THE FILE OF A GOOD BOARD, with a ground that is no cause of refusal, is accepted, and holds that board
 unfoldable pub File-of-is-accepted : Type 0
 File-of-is-accepted =
-    (b : Board) (t g : ℕ) (f : List ℕ) → board-refusal b .number ≡ 0 → ticks-good t ≡ true → g ≤ 4095 →
+    (b : Board) (t g : ℕ) (f : List ℕ) → board-refusal b .number ≡ 0 → ticks-good t ≡ true → slows-refusal (g ∷ []) .number ≡ 0 →
     f ≡ file-of t g b → (file-refusal f .number ≡ 0) × (held f ≡ b) × (head-in f .ticks ≡ t) × (head-in f .ground ≡ g)
 
 -- READ, THEN WRITTEN with the same ground, an accepted file has the same bytes. The lists that were lent may be longer than needed

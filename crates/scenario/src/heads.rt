@@ -21,9 +21,9 @@ pub fn head_of(file: &[u8]) -> Head
         width: two_at(file, 0),
         height: two_at(file, 2),
         ticks: two_at(file, 4),
-        ground: two_at(file, 6),
-        runs: four_at(file, 8),
-        starts: four_at(file, 12),
+        ground: four_at(file, 6),
+        runs: four_at(file, 10),
+        starts: four_at(file, 14),
     }
 }
 
@@ -34,9 +34,9 @@ pub fn put_head(out: &mut [u8], head: Head)
     put_two(out, 0, head.width);
     put_two(out, 2, head.height);
     put_two(out, 4, head.ticks);
-    put_two(out, 6, head.ground);
-    put_four(out, 8, head.runs);
-    put_four(out, 12, head.starts);
+    put_four(out, 6, head.ground);
+    put_four(out, 10, head.runs);
+    put_four(out, 14, head.starts);
 }
 
 // How many cells the board has.

@@ -33,9 +33,9 @@ pub struct TurnReply {
 }
 
 // How many bytes a head, a run and a start have.
-pub const HEAD: usize = 16;
+pub const HEAD: usize = 18;
 
-pub const RUN: usize = 10;
+pub const RUN: usize = 12;
 
 pub const START: usize = 8;
 

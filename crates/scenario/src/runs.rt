@@ -3,7 +3,7 @@ ghost use mathlib.Core.Path.{_≡_};
 ghost use mathlib.Core.List.{_++_, map};
 ghost use Prim.Native.Nat.{_+_, _≤_};
 ghost use lib.ListN.{length, take, drop};
-ghost use Rattle.eikonal.specs.Refusals.{any-above};
+ghost use Rattle.eikonal.specs.Inner.Flaws.{with-pairs};
 ghost use Rattle.scenario.specs.Bytes.{records};
 ghost use Rattle.scenario.specs.Runs.{run-good, runs-good};
 ghost use Rattle.scenario.specs.File.{head-size, run-size, runs-end, run-bytes, run-in};
@@ -12,9 +12,10 @@ use super::HEAD;
 use super::RUN;
 use super::Run;
 use super::bytes::four_at;
-use super::bytes::put_two;
+use super::bytes::put_four;
 use super::bytes::put_wide_pair;
-use super::bytes::two_at;
+use eikonal::refusals::Flaws;
+use eikonal::refusals::with_pair;
 
 pub fn wide(x: u32) -> usize
     ensures { λ r. ⌜ r ≡ x ⌝ }
@@ -36,7 +37,7 @@ pub fn run_at(file: &[u8], at: usize) -> Run
     Run {
         offset: four_at(file, at),
         long: four_at(file, at + 4),
-        slow: two_at(file, at + 8),
+        slow: four_at(file, at + 8),
     }
 }
 
@@ -46,7 +47,7 @@ pub fn put_run(out: &mut [u8], at: usize, x: Run)
     ensures { λ r. ⌜ take (at + run-size) (now (out .exit)) ≡ take at (now (out .entry)) ++ run-bytes x ⌝ }
 {
     put_wide_pair(out, at, x.offset, x.long);
-    put_two(out, at + 8, x.slow);
+    put_four(out, at + 8, x.slow);
 }
 
 // The rules of a run, where cells are free from one on, and the run that ends there has a slowness.
@@ -72,20 +73,18 @@ fn run_good(n: usize, ground: u32, free: usize, last: u32, x: Run) -> bool
     true
 }
 
-// Whether a run has a slowness above 4,095.
-pub fn any_steep(file: &[u8], count: usize) -> bool
+// The runs' slownesses, after those looked at so far.
+pub fn with_runs(file: &[u8], count: usize, so_far: Flaws) -> Flaws
     requires { ⌜ runs-end count ≤ length (now file) ⌝ }
-    ensures { λ r. ⌜ r ≡ any-above 4095 (map (λ x. x .slow) (records run-size run-in count (drop head-size (now (file .entry))))) ⌝ }
+    ensures { λ r. ⌜ r ≡ with-pairs (map (λ x. x .slow) (records run-size run-in count (drop head-size (now (file .entry))))) «so_far» ⌝ }
 {
+    let mut flaws = so_far;
     let mut i = 0;
     while i < count {
-        let x = run_at(file, HEAD + RUN * i);
-        if x.slow > 4095 {
-            return true;
-        }
+        flaws = with_pair(run_at(file, HEAD + RUN * i).slow, flaws);
         i += 1;
     }
-    false
+    flaws
 }
 
 pub fn runs_good(file: &[u8], count: usize, n: usize, ground: u32) -> bool

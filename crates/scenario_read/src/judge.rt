@@ -7,7 +7,10 @@ use super::starts::judge_unwalled;
 use super::starts::starts_on_wall;
 use eikonal::Refusal;
 use eikonal::cause;
+use eikonal::refusals::flawless;
 use eikonal::refusals::judged_refusal;
+use eikonal::refusals::pairs_refusal;
+use eikonal::refusals::with_pair;
 use scenario::HEAD;
 use scenario::Head;
 use scenario::Scenario;
@@ -15,9 +18,9 @@ use scenario::heads::board_size;
 use scenario::heads::file_length;
 use scenario::heads::head_of;
 use scenario::heads::starts_base;
-use scenario::runs::any_steep;
 use scenario::runs::runs_good;
 use scenario::runs::wide;
+use scenario::runs::with_runs;
 
 // 1, 2 and 3.
 fn head_refusal(file: &[u8]) -> Refusal
@@ -39,17 +42,16 @@ fn head_refusal(file: &[u8]) -> Refusal
     cause(0)
 }
 
-// 5 and 6: all slownesses, the ground's too, are looked at before any other rule of runs.
+// 5, 21 and 6: all slownesses, the ground's too, are looked at before any other rule of runs.
 fn runs_refusal(file: &[u8], head: Head) -> Refusal
     requires { ⌜ (head-refusal (now file) .number ≡ 0) × («head» ≡ head-in (now file)) ⌝ }
     ensures { λ r. ⌜ r ≡ runs-refusal (now (file .entry)) ⌝ }
 {
-    if head.ground > 4095 {
-        return cause(5);
-    }
     let count = wide(head.runs);
-    if any_steep(file, count) {
-        return cause(5);
+    let flaws = with_runs(file, count, with_pair(head.ground, flawless()));
+    let pairs = pairs_refusal(flaws.steep, flaws.half);
+    if pairs.number != 0 {
+        return pairs;
     }
     if !runs_good(file, count, board_size(head), head.ground) {
         return cause(6);

@@ -6,12 +6,15 @@ ghost use Rattle.scenario.specs.Calls.{given-refusal};
 ghost use Rattle.scenario.specs.Inner.Begin.{given-by};
 use eikonal::Refusal;
 use eikonal::cause;
-use eikonal::refusals::any_above;
+use eikonal::refusals::flawless;
+use eikonal::refusals::pairs_refusal;
+use eikonal::refusals::with_pair;
+use eikonal::refusals::with_pairs;
 use scenario::runs::wide;
 use scenario::sides_good;
 use scenario::ticks_good;
 
-// 2, 3, 4 and 5.
+// 2, 3, 4, 5 and 21: all slownesses, the ground's too, are looked at for 5 before any is for 21.
 pub fn given_refusal(
     width: u32,
     height: u32,
@@ -35,11 +38,6 @@ pub fn given_refusal(
     if slow.len() != wide(width) * wide(height) {
         return cause(4);
     }
-    if ground > 4095 {
-        return cause(5);
-    }
-    if any_above(slow, 4095) {
-        return cause(5);
-    }
-    cause(0)
+    let flaws = with_pairs(slow, with_pair(ground, flawless()));
+    pairs_refusal(flaws.steep, flaws.half)
 }

@@ -13,9 +13,10 @@ use Rattle.eikonal.specs.Refusals.{cause, or-else, handed-refusal, board-refusa
 use Rattle.eikonal.specs.declared.Refusal.{Refusal}
 use Rattle.eikonal.proofs.Good.{and-true, sound}
 use Rattle.scenario.specs.File.{head-size, head-in, starts-in, start-count, held, length-good, head-refusal, file-refusal}
+use Rattle.scenario.proofs.Slows.{cells-alone}
 use Rattle.scenario.proofs.Causes.{Accepted, accepted, rise-count}
 use Rattle.scenario.proofs.Reading.{slow-length, count-starts}
-use Rattle.scenario.proofs.Composed.{slow-above, held-lists, held-handed}
+use Rattle.scenario.proofs.Composed.{slows-held, held-lists, held-handed}
 use Rattle.tablet.specs.Small.{sides-small, small-refusal}
 
 -- ---- a file that 1 does not refuse has its head
@@ -74,10 +75,11 @@ pub lists-board : (f : List ℕ) → held-lists f .board ≡ held f
 lists-board f = ap (λ u. u .board) (held-handed f)
 
 pub board-taken : (f : List ℕ) → Accepted f → board-refusal (held f) .number ≡ 0
-unfolding handed-refusal held size
+unfolding handed-refusal or-else held size
 board-taken f a =
     let x = head-in f in
-    rw (a .front .sides, eq-eqb (length (held f .slow)) (x .width * x .height) (slow-length f a), slow-above f a) (a .starts)
+    let slows = cells-alone (x .ground) (held f .slow) (slows-held f a) in
+    rw (a .front .sides, eq-eqb (length (held f .slow)) (x .width * x .height) (slow-length f a), slows) (a .starts)
 
 pub lists-taken : (f : List ℕ) → Accepted f → handed-refusal (held-lists f) .number ≡ 0
 lists-taken f a = rw (held-handed f) (board-taken f a)

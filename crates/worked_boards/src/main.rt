@@ -1,8 +1,14 @@
-// Goes through the boards worked by hand that are not starred, those of document 01 and the turns of Card 3 of document 02: what each gives, and
+// Goes through the boards worked by hand that are not starred, those of document 01 and of Cards 3 and 10 of document 02: what each gives, and
 // whether it is what the pages say.
 use eikonal::Reply;
 use eikonal::arrival::NEVER;
 use libc::STDOUT_FILENO;
+
+// The pair (10, 10): 10 ticks along the row, 10 down the column.
+const TEN: u32 = 655370;
+
+// A ploughed field, (10, 20): half as fast across the furrows, which run along the rows.
+const PLOUGHED: u32 = 1310730;
 
 // A number and a space; `-` for never.
 fn print(x: u32) {
@@ -58,7 +64,7 @@ fn tell_reply(name: &[u8], reply: Reply, number: u32, count: u32) {
 
 // A round on the board of 3 by 3, slowness 10, start cell 0 at 0, in tiles of 2 by 2.
 fn round(name: &[u8], bound: u32, times: &mut [u32], want: &[u32]) {
-    let slow = [10u32; 9];
+    let slow = [TEN; 9];
     let cell = [0u32; 1];
     let begin = [0u32; 1];
     let order = [0u32, 1, 2, 3];
@@ -92,7 +98,7 @@ fn rounds() {
 }
 
 fn run(name: &[u8], side: u32, order: &[u32], rounds: u32) {
-    let slow = [10u32; 9];
+    let slow = [TEN; 9];
     let cell = [0u32; 1];
     let begin = [0u32; 1];
     let mut times = [0u32; 9];
@@ -118,7 +124,7 @@ fn run(name: &[u8], side: u32, order: &[u32], rounds: u32) {
 
 // A march over 3 by 3 cells of slowness 10 with the given starts.
 fn march(name: &[u8], cells: &[u32], begins: &[u32], number: u32, count: u32, want: &[u32]) {
-    let slow = [10u32; 9];
+    let slow = [TEN; 9];
     let mut times = [0u32; 9];
     let mut work = [0u32; 36];
     let reply = engine::calls::march(3, 3, &slow, cells, begins, 300000000, &mut times, &mut work);
@@ -128,7 +134,7 @@ fn march(name: &[u8], cells: &[u32], begins: &[u32], number: u32, count: u32, wa
 
 // A board of 256 cells, from cell 0 on.
 fn side(name: &[u8], width: u32, height: u32, number: u32, count: u32) {
-    let slow = [10u32; 256];
+    let slow = [TEN; 256];
     let cell = [0u32; 1];
     let begin = [0u32; 1];
     let mut times = [0u32; 256];
@@ -178,7 +184,7 @@ fn tell_turn(name: &[u8], time: u32, turn: u32, to_go: u32) {
 
 // Two cells of 3 by 3, slowness 10, start cell 0 at 0; a turn has 10 ticks.
 fn turns() {
-    let slow = [10u32; 9];
+    let slow = [TEN; 9];
     let mut times = [0u32; 9];
     let mut work = [0u32; 36];
     engine::calls::march(
@@ -205,10 +211,52 @@ fn turns() {
     );
 }
 
-// 3 by 3, 10 ticks, ground 10, no runs, start cell 0 at 0.
+// 3 by 3 furrows of (10, 20), start cell 0 at 0: marched, and run in tiles of 2 by 2 with stride 20.
+fn ploughed() {
+    let slow = [PLOUGHED; 9];
+    let cell = [0u32; 1];
+    let begin = [0u32; 1];
+    let order = [0u32, 1, 2, 3];
+    let want = [0u32, 10, 20, 20, 26, 34, 40, 45, 51];
+    let mut times = [0u32; 9];
+    let mut work = [0u32; 36];
+    let march = engine::calls::march(3, 3, &slow, &cell, &begin, 51, &mut times, &mut work);
+    tell_reply(b"ploughed, refusal and cells reached: ", march, 0, 9);
+    tell(b"its times: ", &times, &want);
+    let run = engine::calls::tile_run(
+        3,
+        3,
+        &slow,
+        &cell,
+        &begin,
+        2,
+        2,
+        20,
+        51,
+        &order,
+        &mut times,
+        &mut work,
+    );
+    tell_reply(b"ploughed in 2 by 2 tiles, refusal and rounds: ", run, 0, 5);
+    tell(b"its times: ", &times, &want);
+}
+
+// What a cell is given from its left and from above, with 10 ticks along its row and 20 down its column.
+fn furrow(name: &[u8], left: u32, above: u32, number: u32, time: u32) {
+    let reply = eikonal::arrival::local_rule(10, 20, left, NEVER, above, NEVER);
+    tell_reply(name, reply, number, time);
+}
+
+fn furrows() {
+    furrow(b"(10, 20) from the left alone: ", 0, NEVER, 0, 10);
+    furrow(b"(10, 20) from above alone: ", NEVER, 0, 0, 20);
+    furrow(b"(10, 20) from both at once: ", 0, 0, 0, 9);
+}
+
+// 3 by 3, 10 ticks, ground (10, 10), no runs, start cell 0 at 0.
 fn rings() {
     let file =
-        b"\x03\x00\x03\x00\x0a\x00\x0a\x00\x00\x00\x00\x00\x01\x00\x00\x00\x00\x00\x00\x00\x00\x00\x00\x00";
+        b"\x03\x00\x03\x00\x0a\x00\x0a\x00\x0a\x00\x00\x00\x00\x00\x01\x00\x00\x00\x00\x00\x00\x00\x00\x00\x00\x00";
     let mut text = [0u8; 11300];
     let n = rings_lines::rings_lines(file, &mut text);
     io::write_all(STDOUT_FILENO, b"rings:\n");
@@ -231,5 +279,7 @@ fn main() {
     side(b"257 by 1: ", 257, 1, 2, 0);
     side(b"0 by 256: ", 0, 256, 2, 0);
     turns();
+    furrows();
+    ploughed();
     rings();
 }

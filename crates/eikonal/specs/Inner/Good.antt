@@ -3,11 +3,17 @@ use mathlib.Core.Path.{_≡_}
 use mathlib.Core.Logic.{_⊎_}
 use Prim.Native.Nat.{ℕ, _≤_}
 use lib.ListN.{length}
-use Rattle.eikonal.specs.Board.{Board, size, slowness, never, start-time}
+use Rattle.eikonal.specs.Board.{Board, size, slowness, along-row, down-column, never, start-time}
 
 -- a time up to the most, or never
 abbrev pub Known : (most t : ℕ) → Type 0
 Known m t = (t ≡ never) ⊎ (t ≤ m)
+
+-- a pair that is neither 5 nor 21: both numbers are 0, or neither is
+pub record Pair (g h : ℕ) : Type 0 where
+  pub along-most : g ≤ 4095
+  pub down-most : h ≤ 4095
+  pub whole : ((g ≡ 0) × (h ≡ 0)) ⊎ ((1 ≤ g) × (1 ≤ h))
 
 pub record Good (b : Board) : Type 0 where
   pub wide-low : 1 ≤ b .wide
@@ -15,6 +21,6 @@ pub record Good (b : Board) : Type 0 where
   pub high-low : 1 ≤ b .high
   pub high-high : b .high ≤ 256
   pub slow-length : length (b .slow) ≡ size b
-  pub slow-most : (c : ℕ) → slowness b c ≤ 4095
+  pub pairs : (c : ℕ) → Pair (along-row (slowness b c)) (down-column (slowness b c))
   pub starts-known : (c : ℕ) → Known 1000000 (start-time c (b .starts))
   pub walls-free : (c : ℕ) → slowness b c ≡ 0 → start-time c (b .starts) ≡ never

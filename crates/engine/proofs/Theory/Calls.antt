@@ -66,7 +66,7 @@ module _ {s : Shape} {slow : List ℕ} {xs : List Start} {times work : List ℕ}
         high-low = g .high-low;
         high-high = g .high-high;
         slow-length = g .slow-length;
-        slow-most = g .slow-most;
+        pairs = g .pairs;
         starts-known = λ c. inl refl;
         walls-free = λ c w. refl;
       }

@@ -5,14 +5,14 @@ use mathlib.Core.Logic.{inl, inr, ⊎-elim}
 use mathlib.Core.List.{List}
 use Prim.Native.Nat.{ℕ, _+_, _*_, _≤_, _<_}
 use native.Mathlib.Omega.{arith}
-use Rattle.eikonal.specs.Board.{Board, never, size, slowness, start-time, arrival}
+use Rattle.eikonal.specs.Board.{Board, never, size, local-of, start-time, arrival}
 use Rattle.eikonal.specs.declared.Start.{Start}
 use Rattle.eikonal.specs.Refusals.{late}
 use Rattle.eikonal.specs.Inner.Judge.{starts-rise}
 use Rattle.eikonal.specs.Promise.{Neighbour}
 use Rattle.eikonal.specs.Inner.Good.{Good}
-use Rattle.eikonal.proofs.Local.{local-of, earlier-min, Answers, stays, comes, local-answers}
-use Rattle.eikonal.proofs.Rule.{earlier-seen}
+use Rattle.eikonal.proofs.Local.{earlier-min, Answers, stays, comes, local-answers}
+use Rattle.eikonal.proofs.Rule.{earlier-seen, row-of, column-of}
 use Rattle.eikonal.proofs.Neighbours.{arrival-is, arrival-same}
 use Rattle.front.specs.Front.{Among, heard, Upheld, Drift}
 use Rattle.front.specs.Board.{tentative, Work, keys}
@@ -93,8 +93,8 @@ pub arrival-quiet : {b : Board} → Good b → (c : ℕ) → c < size b → (f :
     → arrival b c f ≡ never
 arrival-quiet {b} good c on f h =
     arrival-same good c on f (λ e. never) h ∙ arrival-is b c (λ e. never)
-    ∙ rw (sides-quiet _ _ _ _, sides-quiet _ _ _ _) (go (local-answers (slowness b c) never never))
+    ∙ rw (sides-quiet _ _ _ _, sides-quiet _ _ _ _) (go (local-answers (row-of b c) (column-of b c) never never))
   where
-    go : Answers (slowness b c) never never → local-of (slowness b c) never never ≡ never
+    go : Answers (row-of b c) (column-of b c) never never → local-of (row-of b c) (column-of b c) never never ≡ never
     go (stays z e) = e
     go (comes p n l) = absurd (n refl)

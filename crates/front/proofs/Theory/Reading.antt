@@ -11,9 +11,10 @@ use native.Mathlib.Numerals.{add-one}
 use lib.Dec.{eqb}
 use lib.ListN.{length, getD}
 use borrow.Author.Tests.{eq-eqb, ne-eqb, lt-ltb, le-ltb}
-use Rattle.eikonal.specs.Board.{Board, never, largest, size, slowness, time, local, arrival}
+use Rattle.eikonal.specs.Board.{Board, never, largest, size, slowness, along-row, down-column, time, local-of, local, arrival}
 use Rattle.eikonal.specs.Tiles.{counts-as}
 use Rattle.eikonal.proofs.Good.{size-most}
+use Rattle.eikonal.proofs.Local.{earlier-min}
 use Rattle.eikonal.proofs.Grid.{row-low}
 use Rattle.front.specs.Front.{ghosted}
 use Rattle.front.specs.Seams.{Axis, edge, across}
@@ -184,14 +185,15 @@ module _ {s : Shape} {slow ts cols rows : List ℕ} (gr : Ground s slow ts cols 
             e ∙ rw (here, la .at (i + 1) (omega arith), add-one i, ← at) (sees-on st c on ghost f)
 
       -- THE RULE from what code reads of the four neighbours
-      pub rule-read : (f : ℕ → ℕ) {l r u d : ℕ}
+      pub rule-read : (f : ℕ → ℕ) {l r u d x y : ℕ}
           → l ≡ across (getD cols col 0) (f (c + 0 - 1)) (ghost c (c + 0 - 1))
           → r ≡ across (getD cols (col + 1) 0) (f (c + 1 - 0)) (ghost c (c + 1 - 0))
           → u ≡ across (getD rows row 0) (f (c + 0 - w)) (ghost c (c + 0 - w))
           → d ≡ across (getD rows (row + 1) 0) (f (c + w - 0)) (ghost c (c + w - 0))
-          → min never (local (getD slow c 0) l r u d) ≡ rule-at s slow ts c f
-      unfolding arrival slowness
-      rule-read f {l} {r} {u} {d} el er eu ed =
+          → x ≡ min l r → y ≡ min u d
+          → min never (local-of (along-row (getD slow c 0)) (down-column (getD slow c 0)) x y) ≡ rule-at s slow ts c f
+      unfolding arrival slowness local
+      rule-read f {l} {r} {u} {d} el er eu ed ex ey =
           let cs = columns-straight (gr .good) (s .across) (s .down) (gr .across) (gr .down) in
           let rs = rows-straight (gr .good) (s .across) (s .down) (gr .across) (gr .down) in
           let col-at = ap (λ (k : ℕ). c % k) (sym (me .width)) ∙ col-is si in
@@ -199,6 +201,10 @@ module _ {s : Shape} {slow ts cols rows : List ℕ} (gr : Ground s slow ts cols 
           let eu' = subst (λ k. u ≡ across (getD rows row 0) (f (c + 0 - k)) (ghost c (c + 0 - k))) (me .width) eu in
           let ed' = subst (λ k. d ≡ across (getD rows (row + 1) 0) (f (c + k - 0)) (ghost c (c + k - 0))) (me .width) ed in
           rw (
+            ex,
+            ey,
+            ← earlier-min l r,
+            ← earlier-min u d,
             read-back cs (gr .columns) col-at column f el,
             read-on cs (gr .columns) col-at column f er,
             read-back rs (gr .lines) row-at line f eu',

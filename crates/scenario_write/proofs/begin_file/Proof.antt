@@ -28,7 +28,7 @@ returns c =
     let n = c .before .if1 .taken in
     begins-refused _ _ _ _ _ _ _ _ _ _ (g .result) n (c .refused .ensures) (λ xs js. refuses-given _ _ _ _ (g .result) (g .ensures xs) n)
 
--- none of 2, 3, 4, 5
+-- none of 2, 3, 4, 5, 21
 given : (c : tie.Else1) → let a = c .before .before .before .before .before .args in
     (xs : List Start) → given-refusal (given-by (a .width) (a .height) (a .slow .now) (a .cells) (a .begins) xs) (a .ticks) (a .ground) .number ≡ 0
 given c xs = ap (λ u. u .number) (sym (c .before .before .given-refusal .ensures xs)) ∙ c .if1 .left

@@ -1,5 +1,5 @@
 -- `eikonal::arrival::least_past` meets its contract. The loop's invariant: the ticks at hand are enough.
-use Prim.Native.Nat.{_+_, _*_, _≤_}
+use Prim.Native.Nat.{_+_, _*_, _-_, _/_, _≤_, _<_}
 use native.Mathlib.Omega.{arith}
 use native.Mathlib.Nat.{mul-le-mul}
 use borrow.Author.Needs.{needs}
@@ -9,7 +9,7 @@ use Rattle.eikonal.proofs.arrival.least_past.Tie as tie
 
 abbrev Inv-loop : tie.InvT-loop
 Inv-loop slowness apart due past₀ past =
-    (past ≤ slowness) × Enough slowness apart past
+    (past ≤ slowness) × Enough (slowness * slowness) 1 1 apart past
 
 abbrev μ-loop : tie.MeasureT-loop
 μ-loop slowness apart due past₀ past = past
@@ -31,22 +31,32 @@ add-over : tie.Need-add-over Inv-loop μ-loop
 add-over c = omega (arith, squares c)
 
 sub-over : tie.Need-sub-over Inv-loop μ-loop
-sub-over c = c .loop .inv .1
+sub-over c = omega (arith, c .loop .inv .1)
 
 add-over-2 : tie.Need-add-over-2 Inv-loop μ-loop
 add-over-2 c = omega (arith, squares c)
+
+-- both axes have the weight 1
+once : 1 ≤ 1
+once = omega arith
+
+near : (c : tie.Start Inv-loop μ-loop) → 1 * (c .args .apart * c .args .apart) < c .args .slowness * c .args .slowness
+near c = omega (arith, mul-le-mul (c .pre .0) (c .pre .0))
 
 returns : tie.Need-returns Inv-loop μ-loop
 returns c =
     let a = c .before .before .before in
     let e = c .before .loop .inv .1 in
-    (some-past _ _ (a .pre .0) _ e, e, no-step _ _ (a .pre .0) _ e (omega arith))
+    (some-past _ 1 1 _ once once (near a) _ e, e, no-step _ 1 1 _ once once (near a) _ e (omega arith))
 
-next : (c : tie.Else1 Inv-loop μ-loop) → Nearer (c .before .before .before .args .slowness) (c .before .before .before .args .apart) (c .before .loop .past)
-next c = step _ _ (c .before .before .before .pre .0) _ (c .before .loop .inv .1) (c .if1 .left)
+next : (c : tie.Else1 Inv-loop μ-loop) → let a = c .before .before .before .args in let past = c .before .loop .past in
+    Nearer (a .slowness * a .slowness) 1 1 (a .apart) past
+    (((a .apart + past) * (a .apart + past) + past * past - a .slowness * a .slowness + 2) / (2 * (a .apart + past + past)))
+next c =
+    step _ 1 1 _ once once (near (c .before .before .before)) _ (c .before .loop .inv .1) _ _ (omega arith) (omega arith) (c .if1 .left)
 
 div-past : tie.Need-div-past Inv-loop μ-loop
-div-past c = omega (arith, some-past _ _ (c .before .before .before .pre .0) _ (c .before .loop .inv .1))
+div-past c = omega (arith, some-past _ 1 1 _ once once (near (c .before .before .before)) _ (c .before .loop .inv .1))
 
 sub-past : tie.Need-sub-past Inv-loop μ-loop
 sub-past c = next c .within

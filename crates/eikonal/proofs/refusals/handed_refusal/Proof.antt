@@ -6,9 +6,12 @@ use native.Mathlib.Nat.{mul-le-mul}
 use native.Mathlib.Omega.{arith}
 use borrow.Author.Tests.{eq-eqb, ne-eqb, not-true, not-false}
 use Rattle.eikonal.specs.Board.{board-of, size}
-use Rattle.eikonal.specs.Refusals.{side-good, sides-good, any-above, handed-refusal}
+use Rattle.eikonal.specs.Refusals.{side-good, sides-good, slows-refusal, handed-refusal}
 use Rattle.eikonal.specs.Inner.Judge.{judged-refusal}
+use Rattle.eikonal.specs.Inner.Flaws.{with-pairs}
+use Rattle.eikonal.proofs.Causes.{first, next}
 use Rattle.eikonal.proofs.Good.{side}
+use Rattle.eikonal.proofs.Pairs.{pairs-refuse}
 use Rattle.eikonal.proofs.Judging.{judge-refuses}
 use Rattle.eikonal.proofs.refusals.handed_refusal.Statement.{statement}
 use Rattle.eikonal.proofs.refusals.handed_refusal.Tie as tie
@@ -53,27 +56,36 @@ returns-4 c xs j =
     let at = c .before .before .before in
     rw (wide (at .before .before), high at, eq-eqb _ _ (c .before .before .if3 .left), ne-eqb _ _ (c .before .if4 .taken)) (c .cause4 .ensures)
 
+-- the refusal that the pairs leave
+slows : (c : tie.After-pairs-refusal)
+    → c .pairs-refusal .result ≡ slows-refusal (c .before .before .before .before .before .before .before .before .before .before .args .slow .now)
+slows c =
+    let f = c .before in
+    c .pairs-refusal .ensures ∙ pairs-refuse _ _ (f .with-pairs .ensures ∙ ap (with-pairs _) (f .before .flawless .ensures))
+
 returns-5 : tie.Need-returns-5
 unfolding handed-refusal sides-good size
 returns-5 c xs j =
-    let at = c .before .before .before .before .before in
-    let above : any-above 4095 _ ≡ true = sym (c .before .before .any-above .ensures) ∙ c .before .if5 .taken in
-    rw (wide (at .before .before), high at, eq-eqb _ _ (c .before .before .before .before .if3 .left), eq-eqb _ _ (c .before .before .before .if4 .left), above)
-    (c .cause5 .ensures)
+    let whole = c .before .before .before .before .before in
+    let at = whole .before .before in
+    let s = slows (c .before .before) in
+    rw (wide (at .before .before), high at, eq-eqb _ _ (whole .before .if3 .left), eq-eqb _ _ (whole .if4 .left))
+    (first _ _ _ s (λ z. c .if5 .taken (ap (λ u. u .number) s ∙ z)))
 
 returns-6 : tie.Need-returns-6
 unfolding handed-refusal sides-good size
 returns-6 c xs j =
-    let at = c .before .before .before .before .before in
+    let whole = c .before .before .before .before .before .before in
+    let at = whole .before .before in
     let a = at .before .before .before .before .before .args in
-    let whole = c .before .before .before .if4 .left in
-    let under : any-above 4095 _ ≡ false = sym (c .before .before .any-above .ensures) ∙ c .before .if5 .left in
-    rw (wide (at .before .before), high at, eq-eqb _ _ (c .before .before .before .before .if3 .left), eq-eqb _ _ whole, under)
-    (c .judged-refusal .ensures ∙ ap judged-refusal j ∙ judge-refuses (board-of (a .width) (a .height) (a .slow .now) xs) whole)
+    let s = slows (c .before .before .before) in
+    let starts = judge-refuses (board-of (a .width) (a .height) (a .slow .now) xs) (whole .if4 .left) in
+    rw (wide (at .before .before), high at, eq-eqb _ _ (whole .before .if3 .left), eq-eqb _ _ (whole .if4 .left))
+    (next _ _ _ (sym (ap (λ u. u .number) s) ∙ c .before .if5 .left) (c .judged-refusal .ensures ∙ ap judged-refusal j ∙ starts))
 
 pub handed-refusal-spec : {M : Type 1} → statement M
 handed-refusal-spec =
     tie.close
     (tie.spec
     (λ c κs. tt) (λ c κs. tt) returns (λ c κs. tt) (λ c κs. tt) returns-2 (λ c κs. tt) returns-3 mul-size cast-size (λ c κs. tt) returns-4
-    (λ c κs. tt) (λ c κs. tt) returns-5 (λ c κs. tt) returns-6)
+    (λ c κs. tt) (λ c κs. tt) (λ c κs. tt) returns-5 (λ c κs. tt) returns-6)

@@ -1,7 +1,12 @@
 -- `front::sight::rule` meets its contract.
-use Prim.Native.Nat.{_<_}
+use mathlib.Core.Path.{_≡_}
+use Prim.Native.Nat.{ℕ, _<_, min}
 use native.Mathlib.Omega.{arith}
-use Rattle.eikonal.specs.Board.{slowness}
+use lib.ListN.{getD}
+use Rattle.eikonal.specs.Board.{slowness, along-row, down-column, local-of}
+use Rattle.eikonal.specs.Inner.Good.{Pair}
+use Rattle.eikonal.proofs.FirstPass.{alike}
+use Rattle.eikonal.proofs.Walls.{unequal}
 use Rattle.front.proofs.Theory.Reading.{
   left-some,
   right-some,
@@ -15,7 +20,7 @@ use Rattle.front.proofs.Theory.Reading.{
   line,
   rule-read,
 }
-use Rattle.front.specs.Board.{tentative}
+use Rattle.front.specs.Board.{rule-at, tentative}
 use Rattle.front.proofs.sight.rule.Statement.{statement}
 use Rattle.front.proofs.sight.rule.Tie as tie
 
@@ -71,33 +76,58 @@ see-requires-4 c κs =
     let p = start (c .before .before .before .before .before) in
     fits-on (p .pre .0) (p .pre .1) (p .pre .2) (p .pre .3) (p .args .w) (below-some (p .pre .0) (p .pre .1) (p .pre .2))
 
-mul-arrival-before : tie.Need-mul-arrival-before
-mul-arrival-before c =
-    let p = start (first c) in
+-- what the four are seen as, from where the axes' times are known
+abbrev last : tie.After-lesser2 → tie.After-see4
+last c = c .before .before
+
+mul-s : tie.Need-mul-s
+mul-s c =
+    let p = start (first (last c)) in
     omega (arith, p .pre .1 .cells, p .pre .2 .on, cells-most (p .pre .0))
 
-shared-slice-read-arrival-before : tie.Need-shared-slice-read-arrival-before
-shared-slice-read-arrival-before c =
-    let p = start (first (c .before)) in
+shared-slice-read-s : tie.Need-shared-slice-read-s
+shared-slice-read-s c =
+    let p = start (first (last (c .before))) in
     omega (arith, p .pre .1 .cells, p .pre .2 .on, slow-long (p .pre .0))
 
-arrival-before-requires : tie.Need-arrival-before-requires
+-- the cell's pair, and what the rule gives by it
+pair-of : (c : tie.After-lesser2) → let a = start (first (last c)) .args in Pair (along-row (getD (a .slow .now) (a .c) 0)) (down-column (getD (a .slow .now) (a .c) 0))
 unfolding slowness
-arrival-before-requires c κs =
-    let p = start (first (c .before)) in
-    p .pre .0 .good .slow-most (p .args .c)
+pair-of c = let p = start (first (last c)) in p .pre .0 .good .pairs (p .args .c)
 
-returns : tie.Need-returns
-returns c =
-    let d = c .before .before in
+returns-by : (c : tie.After-lesser2) (x : ℕ) → let a = start (first (last c)) .args in let s = getD (a .slow .now) (a .c) 0 in
+    x ≡ min (a .limit) (local-of (along-row s) (down-column s) (c .before .lesser .result) (c .lesser2 .result))
+    → x ≡ min (a .limit) (rule-at (a .shape) (a .slow .now) (a .times .now) (a .c) (tentative (a .work .now) (a .n)))
+returns-by c x e =
+    let d = last c in
     let p = start (first d) in
     let read = rule-read (p .pre .0) (p .pre .1) (p .pre .2) (tentative (p .args .work .now) (p .args .n))
-    (first d .see .ensures) (d .before .before .before .before .see2 .ensures) (d .before .before .see3 .ensures) (d .see4 .ensures) in
-    omega (arith, c .arrival-before .ensures, read, p .fits .limit)
+    (first d .see .ensures) (d .before .before .before .before .see2 .ensures) (d .before .before .see3 .ensures) (d .see4 .ensures)
+    (c .before .lesser .ensures) (c .lesser2 .ensures) in
+    omega (arith, e, read, p .fits .limit)
+
+of-equal-requires : tie.Need-of-equal-requires
+unfolding along-row down-column
+of-equal-requires c κs = pair-of (c .before .before) .along-most
+
+returns : tie.Need-returns
+unfolding along-row down-column
+returns c =
+    let t = c .before in
+    returns-by (t .before .before) _ (alike _ _ _ _ _ _ (t .if1 .taken) (c .of-equal .ensures))
+
+of-unequal-requires : tie.Need-of-unequal-requires
+unfolding along-row down-column
+of-unequal-requires c κs = unequal (pair-of (c .before .before)) (c .if1 .left)
+
+returns-2 : tie.Need-returns-2
+unfolding along-row down-column
+returns-2 c = returns-by (c .before .before .before) _ (c .of-unequal .ensures)
 
 pub rule-spec : {M : Type 1} → statement M
 rule-spec =
     tie.close
     (tie.spec
     element-copy-out-see see-requires add-see element-copy-out-see-2 see-requires-2 element-copy-out-see-3 see-requires-3
-    add-see-2 element-copy-out-see-4 see-requires-4 mul-arrival-before shared-slice-read-arrival-before arrival-before-requires returns)
+    add-see-2 element-copy-out-see-4 see-requires-4 (λ c κs. tt) (λ c κs. tt) mul-s shared-slice-read-s of-equal-requires returns
+    of-unequal-requires returns-2)

@@ -15,9 +15,9 @@ returns c =
       width = height .before .two-at .ensures .0 i;
       height = height .two-at2 .ensures .0 i;
       ticks = ticks .two-at3 .ensures .0 i;
-      ground = ground .two-at4 .ensures .0 i;
-      runs = runs .four-at .ensures i;
-      starts = c .four-at2 .ensures i;
+      ground = ground .four-at .ensures i;
+      runs = runs .four-at2 .ensures i;
+      starts = c .four-at3 .ensures i;
     }
 
 pub head-of-spec : {M : Type 1} → statement M

@@ -16,8 +16,8 @@ returns c =
     let ticks = ground .before .before .before .before in
     let height = ticks .before .before .before .before in
     let width = height .before .before .before .before in
-    starts .put-four2 .ensures
-    ∙ rw (runs .put-four .ensures, ground .put-two4 .ensures, ticks .put-two3 .ensures, height .put-two2 .ensures, width .put-two .ensures) (simp append-assoc)
+    starts .put-four3 .ensures
+    ∙ rw (runs .put-four2 .ensures, ground .put-four .ensures, ticks .put-two3 .ensures, height .put-two2 .ensures, width .put-two .ensures) (simp append-assoc)
 
 pub put-head-spec : {M : Type 1} → statement M
 put-head-spec =

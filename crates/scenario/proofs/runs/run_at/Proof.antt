@@ -2,7 +2,7 @@
 use mathlib.Core.Path.{sym, ap, _∙_}
 use lib.Seq.{drop-drop}
 use borrow.Author.Needs.{needs}
-use Rattle.scenario.specs.Bytes.{two, four}
+use Rattle.scenario.specs.Bytes.{four}
 use Rattle.scenario.specs.Runs.{run}
 use Rattle.scenario.specs.File.{run-in}
 use Rattle.scenario.proofs.runs.run_at.Statement.{statement}
@@ -15,7 +15,7 @@ returns c =
     λ i. record {
       offset = c .before .before .four-at .ensures i;
       long = (c .before .four-at2 .ensures ∙ ap four (sym (drop-drop 4 (a .at) (a .file .now)))) i;
-      slow = (c .two-at .ensures .0 ∙ ap two (sym (drop-drop 8 (a .at) (a .file .now)))) i;
+      slow = (c .four-at3 .ensures ∙ ap four (sym (drop-drop 8 (a .at) (a .file .now)))) i;
     }
 
 pub run-at-spec : {M : Type 1} → statement M

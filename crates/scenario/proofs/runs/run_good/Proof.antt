@@ -45,7 +45,7 @@ returns-4 c =
     let one = three .before .before .before .before in
     let a = one .before .before .args in
     let w = within three in
-    rw (behind one, w .0, w .1, eq-eqb (a .x .slow) (a .ground) (c .if4 .taken))
+    rw (behind one, w .0, w .1, eq-eqb (a .x .slow) (a .ground) (omega (arith, c .if4 .taken)))
 
 returns-5 : tie.Need-returns-5
 unfolding run-good end
@@ -56,7 +56,7 @@ returns-5 c =
     let a = one .before .before .args in
     let w = within three in
     let touch = eq-eqb (a .x .offset) (a .free) (omega (arith, one .before .wide .ensures)) in
-    rw (behind one, w .0, w .1, ne-eqb (a .x .slow) (a .ground) (four .if4 .left), touch)
+    rw (behind one, w .0, w .1, ne-eqb (a .x .slow) (a .ground) (λ q. omega (arith, four .if4 .left)), touch)
 
 returns-6 : tie.Need-returns-6
 unfolding run-good end
@@ -67,7 +67,7 @@ returns-6 c =
     let a = one .before .before .args in
     let w = within three in
     let apart = ne-eqb (a .x .offset) (a .free) (λ q. c .if5 .left (one .before .wide .ensures ∙ q)) in
-    rw (behind one, w .0, w .1, ne-eqb (a .x .slow) (a .ground) (four .if4 .left), apart)
+    rw (behind one, w .0, w .1, ne-eqb (a .x .slow) (a .ground) (λ q. omega (arith, four .if4 .left)), apart)
 
 pub run-good-spec : {M : Type 1} → statement M
 run-good-spec = tie.close (tie.spec (λ c κs. tt) returns returns-2 (λ c κs. tt) returns-3 returns-4 returns-5 returns-6)

@@ -1,14 +1,16 @@
 -- `scenario_write::given::given_refusal` meets its contract.
-use mathlib.Core.Path.{_≡_, sym, ap₂, _∙_}
+use mathlib.Core.Path.{_≡_, sym, ap, ap₂, _∙_}
 use mathlib.Core.Bool.{true, _&&_}
 use Prim.Native.Nat.{_*_, _≤_}
 use native.Mathlib.Omega.{arith}
 use native.Mathlib.Nat.{mul-le-mul}
 use lib.Dec.{eqb}
 use lib.ListN.{length}
-use borrow.Author.Tests.{eq-eqb, ne-eqb, lt-ltb, le-ltb}
+use borrow.Author.Tests.{eq-eqb, ne-eqb}
 use Rattle.eikonal.specs.Board.{size}
-use Rattle.eikonal.specs.Refusals.{sides-good, any-above}
+use Rattle.eikonal.specs.Refusals.{sides-good}
+use Rattle.eikonal.specs.Inner.Flaws.{flawless, with-pair, with-pairs}
+use Rattle.eikonal.proofs.Pairs.{with-first, pairs-refuse}
 use Rattle.scenario.specs.File.{ticks-good}
 use Rattle.scenario.specs.Calls.{given-refusal}
 use Rattle.scenario.proofs.Causes.{holds, fails}
@@ -67,37 +69,21 @@ even c =
     let a = p .before .before .before .before .before .before .args in
     rw (eq-eqb (a .cells) (a .begins) (p .if3 .left), eq-eqb (length (a .slow .now)) (a .width * a .height) (c .if4 .left ∙ product (c .before)))
 
+-- 5 and 21, by what the ground's slowness and the board's leave
 returns-5 : tie.Need-returns-5
-unfolding given-refusal size any-above
+unfolding given-refusal size
 returns-5 c xs =
-    let e = c .before .before in
+    let p = c .before .before in
+    let e = p .before .before in
     let t = e .before .before .before .before in
     let a = t .before .before .before .before .before .args in
-    c .cause5 .ensures ∙ rw (timed t .0, timed t .1, even e, lt-ltb 4095 (a .ground) (c .before .if5 .taken))
-
-returns-6 : tie.Need-returns-6
-unfolding given-refusal size any-above
-returns-6 c xs =
-    let s = c .before .before in
-    let g = s .before in
-    let t = g .before .before .before .before .before in
-    let a = t .before .before .before .before .before .args in
-    let steep = sym (s .any-above .ensures) ∙ c .before .if6 .taken in
-    c .cause6 .ensures ∙ rw (timed t .0, timed t .1, even (g .before), le-ltb 4095 (a .ground) (g .if5 .left), steep)
-
-returns-7 : tie.Need-returns-7
-unfolding given-refusal size any-above
-returns-7 c xs =
-    let s = c .before .before in
-    let g = s .before in
-    let t = g .before .before .before .before .before in
-    let a = t .before .before .before .before .before .args in
-    let gentle = sym (s .any-above .ensures) ∙ c .before .if6 .left in
-    c .cause7 .ensures ∙ rw (timed t .0, timed t .1, even (g .before), le-ltb 4095 (a .ground) (g .if5 .left), gentle)
+    let ground : p .with-pair .result ≡ with-pair (a .ground) flawless = p .with-pair .ensures ∙ ap (with-pair _) (p .before .flawless .ensures) in
+    let flaws = c .before .with-pairs .ensures ∙ ap (with-pairs (a .slow .now)) ground ∙ with-first (a .ground) (a .slow .now) in
+    c .pairs-refusal .ensures ∙ pairs-refuse _ _ flaws ∙ rw (timed t .0, timed t .1, even e)
 
 pub given-refusal-spec : {M : Type 1} → statement M
 given-refusal-spec =
     tie.close
     (tie.spec
     (λ c κs. tt) (λ c κs. tt) returns (λ c κs. tt) (λ c κs. tt) returns-2 (λ c κs. tt) returns-3 (λ c κs. tt) (λ c κs. tt) mul-if4
-    (λ c κs. tt) returns-4 (λ c κs. tt) returns-5 (λ c κs. tt) (λ c κs. tt) returns-6 (λ c κs. tt) returns-7)
+    (λ c κs. tt) returns-4 (λ c κs. tt) (λ c κs. tt) (λ c κs. tt) (λ c κs. tt) returns-5)

@@ -1,0 +1,42 @@
+-- Pairs looked at in parts: two parts of a list, one entry more, and the refusal that a whole list leaves.
+use mathlib.Core.Path.{_≡_, refl, sym, ap, _∙_}
+use mathlib.Core.Bool.{Bool, _||_, or-false, or-assoc}
+use mathlib.Core.List.{List, [], _∷_, _++_}
+use Prim.Native.Nat.{ℕ}
+use Rattle.eikonal.specs.Board.{along-row, down-column}
+use Rattle.eikonal.specs.Refusals.{steep, half-wall, any-pair, pairs-refusal, slows-refusal}
+use Rattle.eikonal.specs.declared.refusals.Flaws.{Flaws}
+use Rattle.eikonal.specs.Inner.Flaws.{flawless, with-pair, with-pairs}
+
+module _ (p : (g h : ℕ) → Bool) where
+  pub any-pair-append : (ss ts : List ℕ) → any-pair p (ss ++ ts) ≡ any-pair p ss || any-pair p ts
+  unfolding any-pair
+  any-pair-append [] ts = refl
+  any-pair-append (s ∷ ss) ts =
+      let q = p (along-row s) (down-column s) in
+      ap (λ (b : Bool). q || b) (any-pair-append ss ts) ∙ sym (or-assoc q (any-pair p ss) (any-pair p ts))
+
+  any-pair-more : (b : Bool) (ss : List ℕ) (s : ℕ) → (b || any-pair p ss) || p (along-row s) (down-column s) ≡ b || any-pair p (ss ++ s ∷ [])
+  unfolding any-pair
+  any-pair-more b ss s =
+      let q = p (along-row s) (down-column s) in
+      or-assoc b (any-pair p ss) q ∙ rw (any-pair-append ss (s ∷ []), or-false q) refl
+
+-- ---- what the pairs passed leave
+pub with-no-pairs : (f : Flaws) → with-pairs [] f ≡ f
+unfolding with-pairs any-pair
+with-no-pairs f = rw (or-false (f .steep), or-false (f .half)) refl
+
+pub with-pairs-more : (ss : List ℕ) (s : ℕ) (f : Flaws) → with-pair s (with-pairs ss f) ≡ with-pairs (ss ++ s ∷ []) f
+unfolding with-pair with-pairs
+with-pairs-more ss s f = rw (any-pair-more steep (f .steep) ss s, any-pair-more half-wall (f .half) ss s) refl
+
+-- the ground's pair, then all of a list
+pub with-first : (s : ℕ) (ss : List ℕ) → with-pairs ss (with-pair s flawless) ≡ with-pairs (s ∷ ss) flawless
+unfolding with-pair with-pairs any-pair
+with-first s ss = refl
+
+-- THE REFUSAL of a whole list
+pub pairs-refuse : (ss : List ℕ) (f : Flaws) → f ≡ with-pairs ss flawless → pairs-refusal (f .steep) (f .half) ≡ slows-refusal ss
+unfolding slows-refusal with-pairs
+pairs-refuse ss f e = ap (λ (k : Flaws). pairs-refusal (k .steep) (k .half)) e

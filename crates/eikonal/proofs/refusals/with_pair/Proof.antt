@@ -1,0 +1,13 @@
+-- `eikonal::refusals::with_pair` meets its contract.
+use mathlib.Core.Path.{refl}
+use Rattle.eikonal.specs.Board.{along-row, down-column}
+use Rattle.eikonal.specs.Inner.Flaws.{with-pair}
+use Rattle.eikonal.proofs.refusals.with_pair.Statement.{statement}
+use Rattle.eikonal.proofs.refusals.with_pair.Tie as tie
+
+returns : tie.Need-returns
+unfolding with-pair along-row down-column
+returns c = rw (c .before .is-half-wall .ensures, c .before .before .before .is-steep .ensures) refl
+
+pub with-pair-spec : {M : Type 1} → statement M
+with-pair-spec = tie.close (tie.spec (λ c κs. tt) (λ c κs. tt) returns)
