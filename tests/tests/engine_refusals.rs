@@ -9,6 +9,7 @@ use second_solver::ffi::engine_records;
 use second_solver::generate::{self, garbage};
 use second_solver::random::Random;
 use second_solver::rule::{equal, pair};
+use second_solver::typed::SLOWNESSES;
 use second_solver::{Cause, Reply, LARGEST, NEVER};
 
 /// Plays a call that is spoilt by the causes, and answers the number that both solvers gave.
@@ -86,21 +87,7 @@ fn each_limit_passes_and_one_beyond_it_does_not() {
         march(board)
     };
     assert_eq!(march(good.clone()), 0);
-    for (slowness, want) in [
-        (pair(4_096, 4_095), 5),
-        (pair(4_095, 4_096), 5),
-        (pair(4_096, 0), 5),
-        (pair(0, 4_096), 5),
-        (pair(65_535, 1), 5),
-        (pair(1, 65_535), 5),
-        (NEVER, 5),
-        (pair(1, 0), 21),
-        (pair(0, 1), 21),
-        (pair(4_095, 0), 21),
-        (pair(0, 4_095), 21),
-        (pair(1, 4_095), 0),
-        (0, 0),
-    ] {
+    for (slowness, want) in SLOWNESSES {
         assert_eq!(with(&|b| b.slow[3] = slowness), want, "{}", slowness);
     }
     assert_eq!(with(&|b| b.begins[1] = 1_000_001), 8);

@@ -171,21 +171,7 @@ fn each_limit_passes_and_one_beyond_it_does_not() {
     for (ticks, want) in [(0, 3), (1, 0), (65_535, 0), (65_536, 3), (65_546, 3), (NEVER, 3)] {
         assert_eq!(number(&|held| held.ticks = ticks), want, "{} ticks", ticks);
     }
-    for (slowness, want) in [
-        (0, 0),
-        (equal(4_095), 0),
-        (pair(1, 4_095), 0),
-        (pair(4_096, 4_095), 5),
-        (pair(4_095, 4_096), 5),
-        (pair(4_096, 0), 5),
-        (pair(0, 4_096), 5),
-        (pair(65_535, 1), 5),
-        (NEVER, 5),
-        (pair(4_095, 0), 21),
-        (pair(0, 4_095), 21),
-        (pair(10, 0), 21),
-        (pair(0, 1), 21),
-    ] {
+    for (slowness, want) in typed::SLOWNESSES {
         assert_eq!(number(&|held| held.ground = slowness), want, "ground {}", slowness);
         assert_eq!(number(&|held| held.board.slow[4] = slowness), want, "slowness {}", slowness);
     }
