@@ -1,6 +1,4 @@
--- The local rule over weighted axes: a time passes if the sum of (weight × (time − axis's time))² is at least m².
--- The weights are w and ws, so that there is one axis at least; f has the axes' times by number. Its laws are proved here once, for any number of axes:
--- the board's rule has two, of the weights h and g (Local.antt).
+-- The laws of the local rule over weighted axes, once for any number of them: the board's rule has two, of the weights h and g (Local.antt).
 use mathlib.Core.Path.{_≡_, refl}
 use mathlib.Core.Bool.{Bool, true, false, cond, _||_}
 use mathlib.Core.List.{List, [], _∷_}
@@ -10,30 +8,13 @@ use native.Mathlib.Omega.{arith}
 use native.Mathlib.Nat.{mul-le-mul, mul-le-mul-left}
 use lib.Dec.{leb, eqb}
 use borrow.Author.Tests.{leb-true, le-leb, eqb-true, eqb-false, ne-eqb}
-use Rattle.eikonal.specs.Board.{never, least-from, square}
+use Rattle.eikonal.specs.Axes.{never, least-from, square, earliest, pull, passes-axes, local-axes, Enough}
 use Rattle.eikonal.proofs.Levels.{order, Agree, Under}
 use Rattle.eikonal.proofs.Least.{Least, least, least-bound}
 
 square-mono : {a b : ℕ} → a ≤ b → square a ≤ square b
 unfolding square
 square-mono h = mul-le-mul h h
-
--- the earliest of the axes' times
-unfoldable pub earliest : (ws : List ℕ) → (ℕ → ℕ) → ℕ
-earliest [] f = f 0
-earliest (v ∷ ws) f = min (f 0) (earliest ws (λ i. f (suc i)))
-
-unfoldable pub pull : (w : ℕ) → (ws : List ℕ) → (ℕ → ℕ) → (t : ℕ) → ℕ
-pull w [] f t = square (w * (t - f 0))
-pull w (v ∷ ws) f t = square (w * (t - f 0)) + pull v ws (λ i. f (suc i)) t
-
-unfoldable pub passes-axes : (m w : ℕ) → (ws : List ℕ) → (ℕ → ℕ) → (t : ℕ) → Bool
-passes-axes m w ws f t = leb (square m) (pull w ws f t)
-
--- the least time that passes, from the earliest on, so many tried; never for a wall or where no axis is reached
-unfoldable pub local-axes : (far m w : ℕ) → (ws : List ℕ) → (ℕ → ℕ) → ℕ
-local-axes far m w ws f =
-    cond (eqb m 0 || eqb (earliest ws f) never) never (least-from far (earliest ws f) (λ t. passes-axes m w ws f t))
 
 -- ---- the times that pass
 pull-mono : (w : ℕ) (ws : List ℕ) (f g : ℕ → ℕ) (v u : ℕ) → ((i : ℕ) → v - f i ≤ u - g i) → pull w ws f v ≤ pull w ws g u
@@ -67,11 +48,6 @@ axes-late m w ws f v h e = go (order (earliest ws f) v)
     go : (earliest ws f < v) ⊎ (v ≤ earliest ws f) → earliest ws f < v
     go (inl l) = l
     go (inr l) = absurd (omega (arith, leb-true (square m) (pull w ws f v) e, pull-none w ws f v l, square-mono h))
-
--- so far from any axis is enough by that axis alone
-unfoldable pub Enough : (far m w : ℕ) → (ws : List ℕ) → Type 0
-Enough far m w [] = m ≤ w * far
-Enough far m w (v ∷ ws) = (m ≤ w * far) × Enough far m v ws
 
 pull-enough : (far m w : ℕ) (ws : List ℕ) (f : ℕ → ℕ) (t : ℕ) → Enough far m w ws → earliest ws f + far ≤ t → square m ≤ pull w ws f t
 unfolding Enough pull earliest

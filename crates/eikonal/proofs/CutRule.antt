@@ -12,7 +12,8 @@ use Rattle.eikonal.specs.Inner.Good.{Good}
 use Rattle.eikonal.specs.Inner.Clip.{clip}
 use Rattle.eikonal.proofs.Levels.{order, Agree, Causal, one-fixed}
 use Rattle.eikonal.proofs.Clip.{clip-never, clip-agree, clip-low, clip-same, clip-most, cut-time, cut-length}
-use Rattle.eikonal.proofs.Passes.{Look, Sound, rule, rule-on, rule-off, rule-causal, solved-by, solved-length, solved-fixed, time-off}
+use Rattle.eikonal.proofs.Lattices.{Look, Sound}
+use Rattle.eikonal.proofs.Passes.{rule, rule-on, rule-off, rule-causal, solved-by, solved-length, solved-fixed, time-off}
 use Rattle.eikonal.proofs.Ghosts.{tiled-sound}
 
 module _ (b : Board) (look : Look) (sound : Sound look) (g : Good b) (m : ℕ) (low : m < never) where
@@ -22,15 +23,15 @@ module _ (b : Board) (look : Look) (sound : Sound look) (g : Good b) (m : ℕ) (
 
   cut-causal : Causal never cut-rule
   cut-causal t f h k a c =
-      clip-agree m (suc t) (rule b look f c) (rule b look h c) k (rule-causal b look sound t f h k a c)
+      clip-agree m (suc t) (rule b look f c) (rule b look h c) k (rule-causal b look g sound t f h k a c)
 
   -- the cut solution meets the cut rule
   pub cut-meets : (c : ℕ) → time (cut m (solved-by b look)) c ≡ clip m (rule b look (time (cut m (solved-by b look))) c)
   cut-meets c =
       cut-time m (solved-by b look) c low
       ∙ clip-same m (time (solved-by b look) c) (rule b look (time (cut m (solved-by b look))) c)
-      (ap (min (suc m)) (solved-fixed b look sound g c)
-      ∙ rule-causal b look sound m (time (solved-by b look)) (time (cut m (solved-by b look))) low below c)
+      (ap (min (suc m)) (solved-fixed b look g sound c)
+      ∙ rule-causal b look g sound m (time (solved-by b look)) (time (cut m (solved-by b look))) low below c)
     where
       below : Agree m (time (solved-by b look)) (time (cut m (solved-by b look)))
       below e =

@@ -11,7 +11,7 @@ use Rattle.eikonal.specs.Tiles.{tile-of, counts-as, tiled}
 use Rattle.eikonal.specs.Inner.Clip.{clip}
 use Rattle.eikonal.proofs.Levels.{Agree}
 use Rattle.eikonal.proofs.Clip.{Clipped, kept, lost, clipped, clip-agree, clip-late}
-use Rattle.eikonal.proofs.Passes.{Sound}
+use Rattle.eikonal.proofs.Lattices.{Sound}
 
 pub tiled-sound : (b : Board) (tw th : ℕ) (ts : List ℕ) → Sound (tiled b tw th ts)
 tiled-sound b tw th ts = record {

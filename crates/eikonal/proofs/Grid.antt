@@ -1,154 +1,198 @@
--- Columns and rows of cells, and a cell's neighbours.
+-- Places on an axis, and a cell's neighbours: columns and rows are instances.
 use mathlib.Core.Path.{_≡_, refl, sym, ap, _∙_}
 use mathlib.Core.Bool.{Bool, true, false, cond}
+use mathlib.Core.List.{List, [], _∷_}
 use mathlib.Core.Logic.{_⊎_, inl, inr, _≢_}
 use Prim.Native.Nat.{ℕ, zero, suc, _+_, _*_, _-_, _/_, _%_, _≤_, _<_, min}
 use native.Mathlib.Omega.{arith}
-use native.Mathlib.Nat.{suc-mod, mod-lt, mod-eq-of-lt, mod-self, zero-mod, div-add-mod', mul-le-mul-right}
+use native.Mathlib.Decide.{ℕ-discrete}
+use native.Mathlib.Nat.{suc-mod, mod-lt, mod-eq-of-lt, mod-self, zero-mod, div-add-mod', add-div-right, mul-le-mul-right}
 use lib.Dec.{eqb}
+use lib.ListN.{length}
 use borrow.Author.Tests.{eqb-false, ne-eqb}
-use Rattle.eikonal.specs.Board.{Board, never, size}
-use Rattle.eikonal.specs.Promise.{Beside, Neighbour}
-use Rattle.eikonal.specs.Inner.Good.{Good}
+use Rattle.eikonal.specs.Axes.{Axis, place, sight, sights, Next, Next-on, here, there, Near, Spans, All-span, none, also, never, earlier, earliest}
 use Rattle.eikonal.proofs.Levels.{order}
 use Rattle.eikonal.proofs.Local.{earlier-min}
-use Rattle.eikonal.proofs.Rule.{earlier-seen, along, down}
 
--- one to the right: the column goes up by one, or back to 0
-pub wraps : (w c : ℕ) → suc (c % w) ≡ w → suc c % w ≡ 0
-wraps w c e = suc-mod c w ∙ ap (λ (x : ℕ). x % w) e ∙ mod-self w
+-- counting round: one on, or back to 0
+wraps : (n x : ℕ) → suc (x % n) ≡ n → suc x % n ≡ 0
+wraps n x e = suc-mod x n ∙ ap (λ (y : ℕ). y % n) e ∙ mod-self n
 
-pub next-column : (w c : ℕ) → 1 ≤ w → suc (c % w) ≢ w → suc c % w ≡ suc (c % w)
-next-column w c h e = suc-mod c w ∙ mod-eq-of-lt (omega (arith, mod-lt c h, e))
+goes-on : (n x : ℕ) → 1 ≤ n → suc (x % n) ≢ n → suc x % n ≡ suc (x % n)
+goes-on n x h e = suc-mod x n ∙ mod-eq-of-lt (omega (arith, mod-lt x h, e))
 
-pub column-some : (w c : ℕ) → c % w ≢ 0 → 1 ≤ c
-column-some w zero e = absurd (e (zero-mod w))
-column-some w (suc c) e = omega arith
-
-pub row-low : (w h c : ℕ) → 1 ≤ w → c < w * h → c / w < h
-row-low w h c l k = go (order (c / w) h)
+-- a quotient is below what the whole is below so many times
+pub quotient-low : (x n k : ℕ) → x < k * n → x / n < k
+quotient-low x n k l = go (order (x / n) k)
   where
-    go : (c / w < h) ⊎ (h ≤ c / w) → c / w < h
+    go : (x / n < k) ⊎ (k ≤ x / n) → x / n < k
     go (inl i) = i
-    go (inr i) = absurd (omega (arith, mul-le-mul-right w i, div-add-mod' c w))
+    go (inr i) = absurd (omega (arith, mul-le-mul-right n i, div-add-mod' x n))
 
--- the cell below is on the board just if the row is not the last
-below-on : (w h c : ℕ) → 1 ≤ w → c < w * h → suc (c / w) ≢ h → c + w < w * h
-below-on w h c l k e =
-    let i : suc (suc (c / w)) ≤ h = omega (arith, row-low w h c l k, e) in
-    omega (arith, mul-le-mul-right w i, div-add-mod' c w, mod-lt c l)
+-- ---- AN AXIS
+module _ {n : ℕ} {a : Axis} (sp : Spans n a) where
+  steps : (c : ℕ) → (c + a .unit) / a .unit ≡ suc (c / a .unit)
+  steps c = omega (arith, add-div-right c (sp .unit-low))
 
-pub below-off : (w h c : ℕ) → suc (c / w) ≡ h → w * h ≤ c + w
-below-off w h c e =
-    let i : h ≤ suc (c / w) = omega arith in
-    omega (arith, mul-le-mul-right w i, div-add-mod' c w)
+  pub place-low : (c : ℕ) → place a c < a .count
+  unfolding place
+  place-low c = mod-lt (c / a .unit) (sp .count-low)
 
--- the cell above is on the board just if the row is not the first
-pub above-on : (w c : ℕ) → c / w ≢ 0 → w ≤ c
-above-on w c e =
-    let i : 1 ≤ c / w = omega (arith, e) in
-    omega (arith, mul-le-mul-right w i, div-add-mod' c w)
+  -- one on
+  pub place-on : (c : ℕ) → suc (place a c) ≢ a .count → place a (c + a .unit) ≡ suc (place a c)
+  unfolding place
+  place-on c q = rw (steps c) (goes-on (a .count) (c / a .unit) (sp .count-low) q)
 
-pub above-off : (w c : ℕ) → 1 ≤ w → c / w ≡ 0 → c < w
-above-off w c l e = omega (arith, div-add-mod' c w, mod-lt c l, ap (λ (x : ℕ). x * w) e)
+  pub place-wraps : (c : ℕ) → suc (place a c) ≡ a .count → place a (c + a .unit) ≡ 0
+  unfolding place
+  place-wraps c q = rw (steps c) (wraps (a .count) (c / a .unit) q)
 
--- the cell to the right of a cell that is not in the last column is on the board
-right-on : (w h c : ℕ) → 1 ≤ w → c < w * h → suc (c % w) ≢ w → suc c < w * h
-right-on w h c l k e =
-    let i : suc (c / w) ≤ h = row-low w h c l k in
-    omega (arith, mul-le-mul-right w i, div-add-mod' c w, mod-lt c l, e)
-
--- ---- the earlier of two sides is no later than either that is on the board, and is one of them
-sides-first : (q : Bool) (i j : ℕ) (f : ℕ → ℕ) → earlier-seen false q i j f ≤ f i
-unfolding earlier-seen
-sides-first q i j f = rw (earlier-min (f i) (cond q never (f j))) (omega arith)
-
-sides-second : (p : Bool) (i j : ℕ) (f : ℕ → ℕ) → earlier-seen p false i j f ≤ f j
-unfolding earlier-seen
-sides-second p i j f = rw (earlier-min (cond p never (f i)) (f j)) (omega arith)
-
-data Side (p q : Bool) (i j : ℕ) (f : ℕ → ℕ) : Type 0 where
-  one : p ≡ false → f i ≤ earlier-seen p q i j f → Side p q i j f
-  other : q ≡ false → f j ≤ earlier-seen p q i j f → Side p q i j f
-
-which-side : (p q : Bool) (i j : ℕ) (f : ℕ → ℕ) → earlier-seen p q i j f < never → Side p q i j f
-unfolding earlier-seen
-which-side true true i j f h = absurd (omega (arith, earlier-min never never))
-which-side true false i j f h = other refl (omega (arith, earlier-min never (f j)))
-which-side false true i j f h = one refl (omega (arith, earlier-min (f i) never))
-which-side false false i j f h = go (order (f i) (f j))
-  where
-    go : (f i < f j) ⊎ (f j ≤ f i) → Side false false i j f
-    go (inl l) = one refl (omega (arith, earlier-min (f i) (f j)))
-    go (inr l) = other refl (omega (arith, earlier-min (f i) (f j)))
-
--- ---- the four sides of a cell, where they are on the board
-module _ {b : Board} (g : Good b) (c : ℕ) (on : c < size b) where
-  pub left-near : c % b .wide ≢ 0 → (c - 1 < size b) × Neighbour b c (c - 1)
-  unfolding Neighbour Beside
-  left-near q =
-      let some = column-some (b .wide) c q in
-      let s : suc (c - 1) ≡ c = omega arith in
-      (omega arith, inr (inl (s, q)))
-
-  pub right-near : suc (c % b .wide) ≢ b .wide → (suc c < size b) × Neighbour b c (suc c)
-  unfolding Neighbour Beside size
-  right-near q =
-      (right-on (b .wide) (b .high) c (g .wide-low) on q, inl (inl (refl, λ z. omega (arith, next-column (b .wide) c (g .wide-low) q))))
-
-  pub above-near : c / b .wide ≢ 0 → (c - b .wide < size b) × Neighbour b c (c - b .wide)
-  unfolding Neighbour Beside
-  above-near q =
-      let some = above-on (b .wide) c q in
-      let s : c - b .wide + b .wide ≡ c = omega arith in
-      (omega arith, inr (inr s))
-
-  pub below-near : suc (c / b .wide) ≢ b .high → (c + b .wide < size b) × Neighbour b c (c + b .wide)
-  unfolding Neighbour Beside size
-  below-near q = (below-on (b .wide) (b .high) c (g .wide-low) on q, inl (inr refl))
-
-module _ {b : Board} (g : Good b) (f : ℕ → ℕ) (c : ℕ) (on : c < size b) where
-  -- a cell sees each neighbour
-  pub neighbour-seen : (e : ℕ) → e < size b → Neighbour b c e → min (along b c f) (down b c f) ≤ f e
-  unfolding Neighbour Beside size
-  neighbour-seen e k (inl (inl (p, q))) =
-      let last : suc (c % b .wide) ≢ b .wide = λ z. q (ap (λ (x : ℕ). x % b .wide) (sym p) ∙ wraps (b .wide) c z) in
-      let r : along b c f ≤ f (suc c) = rw (ne-eqb (suc (c % b .wide)) (b .wide) last) (sides-second (eqb (c % b .wide) 0) (c - 1) (suc c) f) in
-      omega (arith, ap f p)
-  neighbour-seen e k (inl (inr p)) =
-      let last : suc (c / b .wide) ≢ b .high = λ z. omega (arith, below-off (b .wide) (b .high) c z) in
-      let r : down b c f ≤ f (c + b .wide) =
-      rw (ne-eqb (suc (c / b .wide)) (b .high) last) (sides-second (eqb (c / b .wide) 0) (c - b .wide) (c + b .wide) f) in
-      omega (arith, ap f p)
-  neighbour-seen e k (inr (inl (p, q))) =
-      let r : along b c f ≤ f (c - 1) = rw (ne-eqb (c % b .wide) 0 q) (sides-first (eqb (suc (c % b .wide)) (b .wide)) (c - 1) (suc c) f) in
-      let s : c - 1 ≡ e = omega arith in
-      omega (arith, ap f s)
-  neighbour-seen e k (inr (inr p)) =
-      let first : c / b .wide ≢ 0 = λ z. omega (arith, above-off (b .wide) c (g .wide-low) z) in
-      let r : down b c f ≤ f (c - b .wide) =
-      rw (ne-eqb (c / b .wide) 0 first) (sides-first (eqb (suc (c / b .wide)) (b .high)) (c - b .wide) (c + b .wide) f) in
-      let s : c - b .wide ≡ e = omega arith in
-      omega (arith, ap f s)
-
-  -- and what it sees is a neighbour's time
-  pub data Nearest : Type 0 where
-    near : (e : ℕ) → e < size b → Neighbour b c e → f e ≤ min (along b c f) (down b c f) → Nearest
-
-  found : (e : ℕ) → (e < size b) × Neighbour b c e → f e ≤ min (along b c f) (down b c f) → Nearest
-  found e n h = near e (n .0) (n .1) h
-
-  pub nearest : min (along b c f) (down b c f) < never → Nearest
-  nearest h = go (order (along b c f) (down b c f))
+  -- one back
+  pub unit-most : (c : ℕ) → place a c ≢ 0 → a .unit ≤ c
+  unfolding place
+  unit-most c q = go (order (c / a .unit) 1)
     where
-      row : along b c f ≤ down b c f → Side (eqb (c % b .wide) 0) (eqb (suc (c % b .wide)) (b .wide)) (c - 1) (suc c) f → Nearest
-      row l (one p k) = found (c - 1) (left-near g c on (eqb-false (c % b .wide) 0 p)) (omega arith)
-      row l (other p k) = found (suc c) (right-near g c on (eqb-false (suc (c % b .wide)) (b .wide) p)) (omega arith)
+      go : (c / a .unit < 1) ⊎ (1 ≤ c / a .unit) → a .unit ≤ c
+      go (inl l) =
+          let z : c / a .unit ≡ 0 = omega arith in
+          absurd (q (ap (λ (x : ℕ). x % a .count) z ∙ zero-mod (a .count)))
+      go (inr l) = omega (arith, mul-le-mul-right (a .unit) l, div-add-mod' c (a .unit))
 
-      column : down b c f ≤ along b c f → Side (eqb (c / b .wide) 0) (eqb (suc (c / b .wide)) (b .high)) (c - b .wide) (c + b .wide) f → Nearest
-      column l (one p k) = found (c - b .wide) (above-near g c on (eqb-false (c / b .wide) 0 p)) (omega arith)
-      column l (other p k) = found (c + b .wide) (below-near g c on (eqb-false (suc (c / b .wide)) (b .high) p)) (omega arith)
+  pub back-on : (c : ℕ) → place a c ≢ 0 → c - a .unit + a .unit ≡ c
+  back-on c q = omega (arith, unit-most c q)
 
-      go : (along b c f < down b c f) ⊎ (down b c f ≤ along b c f) → Nearest
-      go (inl l) = row (omega arith) (which-side _ _ _ _ f (omega arith))
-      go (inr l) = column l (which-side _ _ _ _ f (omega arith))
+  pub not-last : (c : ℕ) → place a c ≢ 0 → suc (place a (c - a .unit)) ≢ a .count
+  not-last c q e = q (ap (place a) (sym (back-on c q)) ∙ place-wraps (c - a .unit) e)
+
+  pub place-back : (c : ℕ) → place a c ≢ 0 → suc (place a (c - a .unit)) ≡ place a c
+  place-back c q = sym (place-on (c - a .unit) (not-last c q)) ∙ ap (place a) (back-on c q)
+
+  -- one on is a cell
+  pub on-cell : (c : ℕ) → c < n → suc (place a c) ≢ a .count → c + a .unit < n
+  unfolding place
+  on-cell c l q =
+      let u = a .unit in
+      let x = c / u in
+      let rounds : x / a .count < sp .many = quotient-low x (a .count) (sp .many) (quotient-low c u (sp .many * a .count) (omega (arith, sp .whole))) in
+      let full = mul-le-mul-right (a .count) rounds in
+      let next : suc (suc x) ≤ sp .many * a .count = omega (arith, div-add-mod' x (a .count), mod-lt x (sp .count-low), q) in
+      omega (arith, mul-le-mul-right u next, div-add-mod' c u, mod-lt c (sp .unit-low), sp .whole)
+
+  -- ---- the two neighbours on it
+  pub before : (c : ℕ) → c < n → place a c ≢ 0 → (c - a .unit < n) × Next a (c - a .unit) c
+  before c l q = (omega arith, record { step = back-on c q; inner = not-last c q })
+
+  pub behind : (c : ℕ) → c < n → suc (place a c) ≢ a .count → (c + a .unit < n) × Next a c (c + a .unit)
+  behind c l q = (on-cell c l q, record { step = refl; inner = q })
+
+  pub next-first : {c e : ℕ} → Next a c e → place a e ≢ 0
+  next-first {c} {e} k z = omega (arith, sym (place-on c (k .inner)) ∙ ap (place a) (k .step) ∙ z)
+
+  pub next-back : {c e : ℕ} → Next a c e → e - a .unit ≡ c
+  next-back k = omega (arith, k .step)
+
+  -- ---- WHAT IS SEEN along it is no later than either neighbour,
+  module _ (f : ℕ → ℕ) where
+    pub sees : {c e : ℕ} → Next a c e ⊎ Next a e c → sight a c f ≤ f e
+    unfolding sight
+    sees {c} {e} (inl k) = rw (ne-eqb (suc (place a c)) (a .count) (k .inner), earlier-min) (omega (arith, ap f (k .step)))
+    sees {c} {e} (inr k) = rw (ne-eqb (place a c) 0 (next-first k), earlier-min) (omega (arith, ap f (next-back k)))
+
+    -- and is one of their times
+    pub data Seen (c : ℕ) : Type 0 where
+      one : (e : ℕ) → e < n → Next a c e ⊎ Next a e c → f e ≤ sight a c f → Seen c
+
+    pub which : (c : ℕ) → c < n → sight a c f < never → Seen c
+    unfolding sight
+    which c l h = go (eqb (place a c) 0) refl (eqb (suc (place a c)) (a .count)) refl h refl
+      where
+        -- the earlier of what is seen on both sides
+        go : (p : Bool) → eqb (place a c) 0 ≡ p → (q : Bool) → eqb (suc (place a c)) (a .count) ≡ q
+            → earlier (cond p never (f (c - a .unit))) (cond q never (f (c + a .unit))) < never
+            → sight a c f ≡ earlier (cond p never (f (c - a .unit))) (cond q never (f (c + a .unit))) → Seen c
+        go true e true d k s = absurd (omega (arith, earlier-min never never))
+        go true e false d k s =
+            let b = behind c l (eqb-false (suc (place a c)) (a .count) d) in
+            one (c + a .unit) (b .0) (inl (b .1)) (omega (arith, earlier-min never (f (c + a .unit))))
+        go false e true d k s =
+            let b = before c l (eqb-false (place a c) 0 e) in
+            one (c - a .unit) (b .0) (inr (b .1)) (omega (arith, earlier-min (f (c - a .unit)) never))
+        go false e false d k s = by (order (f (c - a .unit)) (f (c + a .unit)))
+          where
+            by : (f (c - a .unit) < f (c + a .unit)) ⊎ (f (c + a .unit) ≤ f (c - a .unit)) → Seen c
+            by (inl i) =
+                let b = before c l (eqb-false (place a c) 0 e) in
+                one (c - a .unit) (b .0) (inr (b .1)) (omega (arith, earlier-min (f (c - a .unit)) (f (c + a .unit))))
+            by (inr i) =
+                let b = behind c l (eqb-false (suc (place a c)) (a .count) d) in
+                one (c + a .unit) (b .0) (inl (b .1)) (omega (arith, earlier-min (f (c - a .unit)) (f (c + a .unit))))
+
+-- ---- SEVERAL AXES: a neighbour on one of them is one on the first, or on a later one
+pub near-here : {a : Axis} {xs : List Axis} {c e : ℕ} → Next a c e ⊎ Next a e c → Near (a ∷ xs) c e
+near-here (inl k) = inl (here k)
+near-here (inr k) = inr (here k)
+
+pub near-there : {a : Axis} {xs : List Axis} {c e : ℕ} → Near xs c e → Near (a ∷ xs) c e
+near-there (inl k) = inl (there k)
+near-there (inr k) = inr (there k)
+
+pub near-which : {a : Axis} {xs : List Axis} {c e : ℕ} → Near (a ∷ xs) c e → (Next a c e ⊎ Next a e c) ⊎ Near xs c e
+near-which (inl (here k)) = inl (inl k)
+near-which (inl (there k)) = inr (inl k)
+near-which (inr (here k)) = inl (inr k)
+near-which (inr (there k)) = inr (inr k)
+
+next-some : {c e : ℕ} {xs : List Axis} → Next-on xs c e → 1 ≤ length xs
+next-some (here k) = omega arith
+next-some (there k) = omega arith
+
+pub none-near : {c e : ℕ} (xs : List Axis) → 0 ≡ length xs → Near xs c e → ⊥
+none-near xs q (inl k) = omega (arith, next-some k)
+none-near xs q (inr k) = omega (arith, next-some k)
+
+-- the earliest of what a cell sees is no later than any neighbour's time,
+module _ (n : ℕ) (f : ℕ → ℕ) where
+  pub seen-earliest : (a : Axis) (xs : List Axis) (ws : List ℕ) → length ws ≡ length xs → All-span n (a ∷ xs) → (c e : ℕ) → Near (a ∷ xs) c e
+      → earliest ws (sights (a ∷ xs) c f) ≤ f e
+  unfolding earliest
+  seen-earliest a xs [] q (also s sp) c e k = go (near-which k)
+    where
+      go : (Next a c e ⊎ Next a e c) ⊎ Near xs c e → sight a c f ≤ f e
+      go (inl h) = sees s f h
+      go (inr h) = absurd (none-near xs q h)
+  seen-earliest a [] (w ∷ ws) q sp c e k = absurd (omega arith)
+  seen-earliest a (b ∷ xs) (w ∷ ws) q (also s sp) c e k = go (near-which k) (seen-earliest b xs ws (omega arith) sp c e)
+    where
+      go : (Next a c e ⊎ Next a e c) ⊎ Near (b ∷ xs) c e → (Near (b ∷ xs) c e → earliest ws (sights (b ∷ xs) c f) ≤ f e)
+          → min (sight a c f) (earliest ws (sights (b ∷ xs) c f)) ≤ f e
+      go (inl h) next = omega (arith, sees s f h)
+      go (inr h) next = omega (arith, next h)
+
+  -- and is the time of one
+  pub data Nearest (xs : List Axis) (c t : ℕ) : Type 0 where
+    near : (e : ℕ) → e < n → Near xs c e → f e ≤ t → Nearest xs c t
+
+  pub nearest : (a : Axis) (xs : List Axis) (ws : List ℕ) → length ws ≡ length xs → All-span n (a ∷ xs) → (c : ℕ) → c < n
+      → earliest ws (sights (a ∷ xs) c f) < never → Nearest (a ∷ xs) c (earliest ws (sights (a ∷ xs) c f))
+  unfolding earliest
+  nearest a xs [] q (also s sp) c on h = go (which s f c on h)
+    where
+      go : Seen s f c → Nearest (a ∷ xs) c (sight a c f)
+      go (one e l k i) = near e l (near-here k) i
+  nearest a [] (w ∷ ws) q sp c on h = absurd (omega arith)
+  nearest a (b ∷ xs) (w ∷ ws) q (also s sp) c on h =
+      go (order (sight a c f) (earliest ws (sights (b ∷ xs) c f))) (nearest b xs ws (omega arith) sp c on)
+    where
+      first : Seen s f c → Nearest (a ∷ b ∷ xs) c (sight a c f)
+      first (one e l k i) = near e l (near-here k) i
+
+      later : Nearest (b ∷ xs) c (earliest ws (sights (b ∷ xs) c f)) → Nearest (a ∷ b ∷ xs) c (earliest ws (sights (b ∷ xs) c f))
+      later (near e l k i) = near e l (near-there k) i
+
+      go : (sight a c f < earliest ws (sights (b ∷ xs) c f)) ⊎ (earliest ws (sights (b ∷ xs) c f) ≤ sight a c f)
+          → (earliest ws (sights (b ∷ xs) c f) < never → Nearest (b ∷ xs) c (earliest ws (sights (b ∷ xs) c f)))
+          → Nearest (a ∷ b ∷ xs) c (min (sight a c f) (earliest ws (sights (b ∷ xs) c f)))
+      go (inl l) next = let m : min (sight a c f) (earliest ws (sights (b ∷ xs) c f)) ≡ sight a c f = omega arith in rw m (first (which s f c on (omega arith)))
+      go (inr l) next =
+          let m : min (sight a c f) (earliest ws (sights (b ∷ xs) c f)) ≡ earliest ws (sights (b ∷ xs) c f) = omega arith in
+          rw m (later (next (omega arith)))

@@ -12,6 +12,8 @@ pub mod Faults
 pub mod Good
 pub mod Judging
 pub mod Pairs
+pub mod Grid
+pub mod Lattices
 pub mod Rule
 pub mod Passes
 pub mod Clip
@@ -25,8 +27,6 @@ pub mod Accepted
 pub mod Answers
 pub mod Ledger
 pub mod Places
-pub mod Grid
 pub mod Never
-pub mod Neighbours
 pub mod StarredBoards
 pub mod Promises

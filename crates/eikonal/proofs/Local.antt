@@ -10,8 +10,8 @@ use lib.Dec.{ltb, leb}
 use borrow.Author.Tests.{ltb-true, ltb-false, le-leb}
 use Rattle.eikonal.specs.Board.{never, earlier, square, passes, local-of, local}
 use Rattle.eikonal.proofs.Least.{Least}
-use Rattle.eikonal.proofs.Axes.{earliest, pull, passes-axes, local-axes, Enough, axes-on, axes-late, axes-step, Answers-axes, axes-answers}
-use Rattle.eikonal.proofs.Axes.{axes-passes, passes-local-axes, axes-under, axes-agree}
+use Rattle.eikonal.specs.Axes.{earliest, pull, passes-axes, local-axes, Enough}
+use Rattle.eikonal.proofs.Axes.{axes-on, axes-late, axes-step, Answers-axes, axes-answers, axes-passes, passes-local-axes}
 
 -- ---- the earlier of two
 pub earlier-min : (a b : ℕ) → earlier a b ≡ min a b
@@ -33,7 +33,7 @@ pub earlier-under : (t a b x y : ℕ) → min t a ≤ x → min t b ≤ y → mi
 earlier-under t a b x y p q = rw (earlier-min a b, earlier-min x y) (omega arith)
 
 -- ---- two axes: that of the row has the weight h, that of the column g
-abbrev second : (g : ℕ) → List ℕ
+abbrev pub second : (g : ℕ) → List ℕ
 second g = g ∷ []
 
 unfoldable two : (a b : ℕ) → ℕ → ℕ
@@ -46,31 +46,47 @@ unfolding two
 each P a b x y p q zero = p
 each P a b x y p q (suc i) = q
 
-enough : (g h : ℕ) → Enough (max g h) (g * h) h (second g)
+pub enough : (g h : ℕ) → Enough (max g h) (g * h) h (second g)
 unfolding Enough
 enough g h =
     let x : g ≤ max g h = omega arith in
     let y : h ≤ max g h = omega arith in
     (omega (arith, mul-le-mul-left h x), mul-le-mul-left g y)
 
-passes-is : (g h a b t : ℕ) → passes g h a b t ≡ passes-axes (g * h) h (second g) (two a b) t
-unfolding passes passes-axes pull two square
-passes-is g h a b t =
+-- of axes whose times some function has by number
+passes-is : (g h : ℕ) (f : ℕ → ℕ) (t : ℕ) → passes g h (f 0) (f 1) t ≡ passes-axes (g * h) h (second g) f t
+unfolding passes passes-axes pull square
+passes-is g h f t =
+    let a = f 0 in
+    let b = f 1 in
     let due : g * g * (h * h) ≡ g * h * (g * h) = omega arith in
     let sum : (t - a) * (t - a) * (h * h) + (t - b) * (t - b) * (g * g) ≡ h * (t - a) * (h * (t - a)) + g * (t - b) * (g * (t - b)) = omega arith in
     ap₂ leb due sum
 
-earliest-is : (g a b : ℕ) → earliest (second g) (two a b) ≡ min a b
-unfolding earliest two
-earliest-is g a b = refl
+earliest-is : (g : ℕ) (f : ℕ → ℕ) → earliest (second g) f ≡ min (f 0) (f 1)
+unfolding earliest
+earliest-is g f = refl
+
+pub axes-is : (g h : ℕ) (f : ℕ → ℕ) → local-of g h (f 0) (f 1) ≡ local-axes (max g h) (g * h) h (second g) f
+unfolding local-of local-axes
+axes-is g h f = rw (fun-ext (passes-is g h f), earlier-min (f 0) (f 1), earliest-is g f)
 
 pub local-is : (g h l r u d : ℕ) → local g h l r u d ≡ local-of g h (earlier l r) (earlier u d)
 unfolding local
 local-is g h l r u d = refl
 
-axes-is : (g h a b : ℕ) → local-of g h a b ≡ local-axes (max g h) (g * h) h (second g) (two a b)
-unfolding local-of local-axes
-axes-is g h a b = rw (fun-ext (passes-is g h a b), earlier-min a b, earliest-is g a b)
+-- of two times
+passes-two : (g h a b t : ℕ) → passes g h a b t ≡ passes-axes (g * h) h (second g) (two a b) t
+unfolding two
+passes-two g h a b = passes-is g h (two a b)
+
+earliest-two : (g a b : ℕ) → earliest (second g) (two a b) ≡ min a b
+unfolding two
+earliest-two g a b = earliest-is g (two a b)
+
+two-is : (g h a b : ℕ) → local-of g h a b ≡ local-axes (max g h) (g * h) h (second g) (two a b)
+unfolding two
+two-is g h a b = axes-is g h (two a b)
 
 -- the axes the other way round
 passes-swap : (g h a b t : ℕ) → passes g h a b t ≡ passes h g b a t
@@ -83,17 +99,17 @@ passes-swap g h a b t =
 -- ---- the times that pass
 pub passes-on : (g h a b v x y w : ℕ) → v - a ≤ w - x → v - b ≤ w - y → passes g h a b v ≡ true → passes g h x y w ≡ true
 passes-on g h a b v x y w p q k =
-    passes-is g h x y w
-    ∙ axes-on (g * h) h (second g) (two a b) (two x y) v w (each (λ i j. v - i ≤ w - j) a b x y p q) (sym (passes-is g h a b v) ∙ k)
+    passes-two g h x y w
+    ∙ axes-on (g * h) h (second g) (two a b) (two x y) v w (each (λ i j. v - i ≤ w - j) a b x y p q) (sym (passes-two g h a b v) ∙ k)
 
 pub passes-late : (g h a b v : ℕ) → 1 ≤ g * h → passes g h a b v ≡ true → min a b < v
 passes-late g h a b v l k =
-    rw (earliest-is g a b) at (axes-late (g * h) h (second g) (two a b) v l (sym (passes-is g h a b v) ∙ k))
+    rw (earliest-two g a b) at (axes-late (g * h) h (second g) (two a b) v l (sym (passes-two g h a b v) ∙ k))
 
 -- so far from the earlier axis is enough, whichever it is; a straight step is, from either
 pub far-passes : (g h a b : ℕ) → passes g h a b (min a b + max g h) ≡ true
 far-passes g h a b =
-    passes-is g h a b (min a b + max g h) ∙ (rw (earliest-is g a b) at (axes-step (max g h) (g * h) h (second g) (enough g h) (two a b)))
+    passes-two g h a b (min a b + max g h) ∙ (rw (earliest-two g a b) at (axes-step (max g h) (g * h) h (second g) (enough g h) (two a b)))
 
 pub along-passes : (g h a b : ℕ) → passes g h a b (a + g) ≡ true
 unfolding passes square
@@ -114,31 +130,19 @@ unfolding earliest two
 local-answers g h a b = go (axes-answers (max g h) (g * h) h (second g) (enough g h) (two a b))
   where
     go : Answers-axes (max g h) (g * h) h (second g) (enough g h) (two a b) → Answers g h a b
-    go (Answers-axes.stays z e) = stays z (axes-is g h a b ∙ e)
-    go (Answers-axes.comes p n l) = comes p n (rw (fun-ext (passes-is g h a b), axes-is g h a b) l)
+    go (Answers-axes.stays z e) = stays z (two-is g h a b ∙ e)
+    go (Answers-axes.comes p n l) = comes p n (rw (fun-ext (passes-two g h a b), two-is g h a b) l)
 
 -- THE LAW: the answer is at most v, before never, just if v passes
 pub local-passes : (g h a b v : ℕ) → v < never → local-of g h a b ≤ v → (1 ≤ g * h) × (passes g h a b v ≡ true)
 local-passes g h a b v l k =
-    let r = axes-passes (max g h) (g * h) h (second g) (enough g h) (two a b) v l (rw (axes-is g h a b) at k) in
-    (r .0, passes-is g h a b v ∙ r .1)
+    let r = axes-passes (max g h) (g * h) h (second g) (enough g h) (two a b) v l (rw (two-is g h a b) at k) in
+    (r .0, passes-two g h a b v ∙ r .1)
 
 pub passes-local : (g h a b v : ℕ) → v < never → 1 ≤ g * h → passes g h a b v ≡ true → local-of g h a b ≤ v
 passes-local g h a b v l p k =
-    rw (axes-is g h a b)
-    (passes-local-axes (max g h) (g * h) h (second g) (enough g h) (two a b) v l p (sym (passes-is g h a b v) ∙ k))
-
--- MONOTONE and CAUSAL
-pub local-under : (g h a b x y : ℕ) → min never a ≤ x → min never b ≤ y → min never (local-of g h a b) ≤ local-of g h x y
-local-under g h a b x y p q =
-    rw (axes-is g h a b, axes-is g h x y)
-    (axes-under (max g h) (g * h) h (second g) (enough g h) (two a b) (two x y) (each (λ i j. min never i ≤ j) a b x y p q))
-
-pub local-agree : (g h a b x y t : ℕ) → t < never → min t a ≡ min t x → min t b ≡ min t y
-    → min (suc t) (local-of g h a b) ≡ min (suc t) (local-of g h x y)
-local-agree g h a b x y t l p q =
-    rw (axes-is g h a b, axes-is g h x y)
-    (axes-agree (max g h) (g * h) h (second g) (enough g h) (two a b) (two x y) t l (each (λ i j. min t i ≡ min t j) a b x y p q))
+    rw (two-is g h a b)
+    (passes-local-axes (max g h) (g * h) h (second g) (enough g h) (two a b) v l p (sym (passes-two g h a b v) ∙ k))
 
 -- the rule, its axes the other way round
 pub local-swap : (g h a b : ℕ) → local-of g h a b ≡ local-of h g b a

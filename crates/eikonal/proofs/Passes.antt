@@ -12,12 +12,9 @@ use lib.Seq.{ext-getD}
 use borrow.Author.Tests.{lt-ltb, le-ltb}
 use Rattle.eikonal.specs.Board.{Board, never, size, met, time, one-pass, passes-of, all-never}
 use Rattle.eikonal.specs.Inner.Good.{Good}
-use Rattle.eikonal.proofs.Levels.{order, Agree, Under, Causal, Monotone, worked, count-most, one-fixed, reached-limit}
-use Rattle.eikonal.proofs.Rule.{met-agree, met-under, met-most}
-
--- what the cells of a board see of a state
-abbrev pub Look : Type 0
-Look = (ℕ → ℕ) → (c e : ℕ) → ℕ
+use Rattle.eikonal.proofs.Levels.{order, Agree, Under, Causal, worked}
+use Rattle.eikonal.proofs.Lattices.{Look, Sound, step, step-causal, step-under, levels, worked-fixed, fixed-only}
+use Rattle.eikonal.proofs.Rule.{lattice, met-is}
 
 -- THE RULE of a board, on states: never off the board
 unfoldable pub rule : Board → Look → (ℕ → ℕ) → ℕ → ℕ
@@ -92,89 +89,30 @@ pub solved-length : (b : Board) (look : Look) → length (solved-by b look) ≡ 
 unfolding solved-by all-never
 solved-length b look = passes-length b look (size b) (all-never b) (length-replicate (size b) never)
 
--- ---- THE ONE SOLUTION, where what is seen rests on the state level by level
-pub record Sound (look : Look) : Type 0 where
-  pub agree : (t : ℕ) (f g : ℕ → ℕ) → Agree t f g → (c : ℕ) → Agree t (look f c) (look g c)
-  pub under : (f g : ℕ → ℕ) → Under never f g → (c : ℕ) → Under never (look f c) (look g c)
+-- ---- THE ONE SOLUTION: passes are the steps of the board's lattice
+module _ (b : Board) (look : Look) (g : Good b) where
+  pub rule-is : rule b look ≡ step (lattice g) look
+  unfolding rule step
+  rule-is = fun-ext (λ f. fun-ext (λ c. ap (λ (x : ℕ). cond (ltb c (size b)) x never) (met-is g c (look f c))))
 
-rule-agree : (b : Board) (k l : Look) (f g : ℕ → ℕ) (t c : ℕ) → t < never → Agree t (k f c) (l g c)
-    → min (suc t) (rule b k f c) ≡ min (suc t) (rule b l g c)
-unfolding rule
-rule-agree b k l f g t c h a = go (ltb c (size b))
-  where
-    go : (p : Bool) → min (suc t) (cond p (met b c (k f c)) never) ≡ min (suc t) (cond p (met b c (l g c)) never)
-    go true = met-agree b c t (k f c) (l g c) h a
-    go false = refl
-
-pub rule-under : (b : Board) (k l : Look) (f g : ℕ → ℕ) (c : ℕ) → Under never (k f c) (l g c) → min never (rule b k f c) ≤ rule b l g c
-unfolding rule
-rule-under b k l f g c a = go (ltb c (size b))
-  where
-    go : (p : Bool) → min never (cond p (met b c (k f c)) never) ≤ cond p (met b c (l g c)) never
-    go true = met-under b c (k f c) (l g c) a
-    go false = omega arith
-
--- two states that meet the rule, each as it sees, agree as far as what is seen does
-pub levels : (b : Board) (k l : Look) (f g : ℕ → ℕ) (t : ℕ) → t < never → ((c : ℕ) → f c ≡ rule b k f c) → ((c : ℕ) → g c ≡ rule b l g c)
-    → ((u : ℕ) → u ≤ t → Agree u f g → (c : ℕ) → Agree u (k f c) (l g c)) → (u : ℕ) → u ≤ suc t → Agree u f g
-levels b k l f g t h p q see zero i c = omega arith
-levels b k l f g t h p q see (suc u) i c =
-    ap (min (suc u)) (p c)
-    ∙ rule-agree b k l f g u c (omega arith) (see u (omega arith) (levels b k l f g t h p q see u (omega arith)) c)
-    ∙ sym (ap (min (suc u)) (q c))
-
-module _ (b : Board) (look : Look) (sound : Sound look) where
-  pub rule-causal : Causal never (rule b look)
-  rule-causal t f g h a c = rule-agree b look look f g t c h (sound .agree t f g a c)
-
-  rule-monotone : Monotone never (rule b look)
-  rule-monotone f g a c = rule-under b look look f g c (sound .under f g a c)
-
-  off : (j c : ℕ) → size b ≤ c → never ≤ worked never (rule b look) j c
-  unfolding worked
-  off zero c h = omega arith
-  off (suc j) c h = omega (arith, rule-off b look (worked never (rule b look) j) c h)
-
-  -- after n passes, and after any more, the state is the limit's
-  worked-out : (j : ℕ) → size b ≤ j → Agree never (worked never (rule b look) j) (worked never (rule b look) (size b))
-  worked-out j h c =
-      reached-limit never (rule b look) rule-causal rule-monotone (size b) j (off never)
-      (omega (arith, count-most (size b) never (worked never (rule b look) never))) c
-      ∙ sym (reached-limit never (rule b look) rule-causal rule-monotone (size b) (size b) (off never)
-      (count-most (size b) never (worked never (rule b look) never)) c)
-
-  module _ (g : Good b) where
-    rule-most : (f : ℕ → ℕ) (c : ℕ) → rule b look f c ≤ never
-    unfolding rule
-    rule-most f c = go (ltb c (size b))
-      where
-        go : (p : Bool) → cond p (met b c (look f c)) never ≤ never
-        go true = met-most g c (look f c)
-        go false = omega arith
-
-    worked-most : (j c : ℕ) → worked never (rule b look) j c ≤ never
-    unfolding worked
-    worked-most zero c = omega arith
-    worked-most (suc j) c = rule-most (worked never (rule b look) j) c
+  module _ (sound : Sound look) where
+    pub rule-causal : Causal never (rule b look)
+    rule-causal = rw rule-is (step-causal (lattice g) look sound)
 
     pub solved-fixed : (c : ℕ) → time (solved-by b look) c ≡ rule b look (time (solved-by b look)) c
-    unfolding worked
-    solved-fixed c =
-        rw (fun-ext (solved-is b look))
-        (omega (arith, worked-out (suc (size b)) (omega arith) c, worked-most (size b) c, worked-most (suc (size b)) c))
+    solved-fixed c = rw (fun-ext (solved-is b look), rule-is) (worked-fixed (lattice g) look sound c)
 
     pub solved-only : (ts : List ℕ) → length ts ≡ size b → ((c : ℕ) → time ts c ≡ rule b look (time ts) c) → ts ≡ solved-by b look
     unfolding time
-    solved-only ts l fixed = ext-getD never ts (solved-by b look) (l ∙ sym (solved-length b look)) same
-      where
-        same : (c : ℕ) → c < length ts → time ts c ≡ time (solved-by b look) c
-        same c h =
-            omega (
-              arith,
-              one-fixed never (rule b look) rule-causal (time ts) (time (solved-by b look)) (λ c. ap (min never) (fixed c))
-                  (λ c. ap (min never) (solved-fixed c)) never (omega arith) c,
-              fixed c,
-              solved-fixed c,
-              rule-most (time ts) c,
-              rule-most (time (solved-by b look)) c,
-            )
+    solved-only ts l fixed =
+        ext-getD never ts (solved-by b look) (l ∙ sym (solved-length b look))
+        (λ c h. fixed-only (lattice g) look sound (time ts) (time (solved-by b look)) (rw rule-is at fixed) (rw rule-is at solved-fixed) c)
+
+-- what states come to, each as it is seen
+module _ {b : Board} (good : Good b) (k l : Look) (f g : ℕ → ℕ) where
+  pub rule-under : (c : ℕ) → Under never (k f c) (l g c) → min never (rule b k f c) ≤ rule b l g c
+  rule-under c a = rw (rule-is b k good, rule-is b l good) (step-under (lattice good) k l f g c a)
+
+  pub rule-levels : (t : ℕ) → t < never → ((c : ℕ) → f c ≡ rule b k f c) → ((c : ℕ) → g c ≡ rule b l g c)
+      → ((u : ℕ) → u ≤ t → Agree u f g → (c : ℕ) → Agree u (k f c) (l g c)) → (u : ℕ) → u ≤ suc t → Agree u f g
+  rule-levels t h p q = levels (lattice good) k l f g t h (rw (rule-is b k good) at p) (rw (rule-is b l good) at q)

@@ -23,11 +23,11 @@ use Rattle.eikonal.proofs.Up.{up-enough}
 use Rattle.eikonal.proofs.Clip.{clip-agree, clip-under, clip-late, clip-low, clip-same, clip-most, cut-time, cut-length, reached-count}
 use Rattle.eikonal.proofs.Altered.{altered-same}
 use Rattle.eikonal.proofs.Good.{good}
-use Rattle.eikonal.proofs.Local.{earlier-min}
-use Rattle.eikonal.proofs.Rule.{met-is}
-use Rattle.eikonal.proofs.Walls.{wall-given}
-use Rattle.eikonal.proofs.Passes.{never-time, rule, rule-on, rule-off, rule-under, levels, time-off, solved-by, solved-is, solved-length, solved-fixed}
-use Rattle.eikonal.proofs.Solution.{plain, plain-sound, solved-plain, solved-long, marched-long, one-solution-by}
+use Rattle.eikonal.proofs.Lattices.{plain, plain-sound}
+use Rattle.eikonal.proofs.Rule.{met-capped}
+use Rattle.eikonal.proofs.Walls.{arrival-wall}
+use Rattle.eikonal.proofs.Passes.{never-time, rule, rule-on, rule-off, rule-under, rule-levels, time-off, solved-by, solved-is, solved-length, solved-fixed}
+use Rattle.eikonal.proofs.Solution.{solved-plain, solved-long, marched-long, one-solution-by}
 use Rattle.eikonal.proofs.LastRound.{is-last, last-says}
 use Rattle.eikonal.proofs.Ghosts.{tiled-sound, stored, stored-agree, stored-late}
 
@@ -38,7 +38,7 @@ module _ (b : Board) (g : Good b) (tw th : ℕ) where
   tiles ts = time (solved-by b (tiled b tw th ts))
 
   tiles-fixed : (ts : List ℕ) (c : ℕ) → tiles ts c ≡ rule b (tiled b tw th ts) (tiles ts) c
-  tiles-fixed ts = solved-fixed b (tiled b tw th ts) (tiled-sound b tw th ts) g
+  tiles-fixed ts = solved-fixed b (tiled b tw th ts) g (tiled-sound b tw th ts)
 
   pub round-time : (m : ℕ) (ts : List ℕ) (c : ℕ) → m < never → time (round b tw th m ts) c ≡ clip m (tiles ts c)
   unfolding round solved-in-tiles solved-by
@@ -49,7 +49,7 @@ module _ (b : Board) (g : Good b) (tw th : ℕ) where
   round-length m ts = cut-length m (solved-by b (tiled b tw th ts)) ∙ solved-length b (tiled b tw th ts)
 
   tiles-agree : (t : ℕ) (ts us : List ℕ) → t < never → Agree t (time ts) (time us) → Agree (suc t) (tiles ts) (tiles us)
-  tiles-agree t ts us h a = levels b (tiled b tw th ts) (tiled b tw th us) (tiles ts) (tiles us) t h (tiles-fixed ts) (tiles-fixed us) see (suc t) (omega arith)
+  tiles-agree t ts us h a = rule-levels g (tiled b tw th ts) (tiled b tw th us) (tiles ts) (tiles us) t h (tiles-fixed ts) (tiles-fixed us) see (suc t) (omega arith)
     where
       pick : (p : Bool) (u e : ℕ) → u ≤ t → min u (tiles ts e) ≡ min u (tiles us e)
           → min u (cond p (tiles ts e) (counts-as b ts e)) ≡ min u (cond p (tiles us e) (counts-as b us e))
@@ -64,13 +64,13 @@ module _ (b : Board) (g : Good b) (tw th : ℕ) where
   whole = time (solved b)
 
   whole-fixed : (c : ℕ) → whole c ≡ rule b plain whole c
-  whole-fixed = rw (solved-plain b) (solved-fixed b plain plain-sound g)
+  whole-fixed = rw (solved-plain b) (solved-fixed b plain g plain-sound)
 
   wall-never : (c : ℕ) → slowness b c ≡ 0 → whole c ≡ never
   wall-never c w = whole-fixed c ∙ go (order c (size b))
     where
       go : (c < size b) ⊎ (size b ≤ c) → rule b plain whole c ≡ never
-      go (inl h) = rule-on b plain whole c h ∙ met-is b c whole ∙ rw (earlier-min, g .walls-free c w, wall-given b c whole w)
+      go (inl h) = rule-on b plain whole c h ∙ met-capped g c whole ∙ rw (g .walls-free c w, arrival-wall g c whole w)
       go (inr h) = rule-off b plain whole c h
 
   march-time : (h c : ℕ) → h < never → time (marched b h) c ≡ clip h (whole c)
@@ -79,7 +79,7 @@ module _ (b : Board) (g : Good b) (tw th : ℕ) where
 
   -- tiles that see the march have the march's times
   march-tiles : (h : ℕ) → h ≤ largest → Agree (suc h) (tiles (marched b h)) whole
-  march-tiles h l = levels b (tiled b tw th (marched b h)) plain (tiles (marched b h)) whole h (omega arith) (tiles-fixed (marched b h)) whole-fixed see (suc h)
+  march-tiles h l = rule-levels g (tiled b tw th (marched b h)) plain (tiles (marched b h)) whole h (omega arith) (tiles-fixed (marched b h)) whole-fixed see (suc h)
       (omega arith)
     where
       other : (p : Bool) (u e : ℕ) → u ≤ h → eqb (slowness b e) 0 ≡ p → min u (cond p never (clip largest (time (marched b h) e))) ≡ min u (whole e)
@@ -120,7 +120,7 @@ module _ (b : Board) (g : Good b) (tw th : ℕ) where
           omega (
             arith,
             whole-fixed c,
-            rule-under b plain (tiled b tw th ts) whole (worked never (rule b (tiled b tw th ts)) j) c
+            rule-under g plain (tiled b tw th ts) whole (worked never (rule b (tiled b tw th ts)) j) c
                 (λ e. pick (eqb (tile-of b tw th c) (tile-of b tw th e)) (worked never (rule b (tiled b tw th ts)) j e) e (go j e)),
           )
 

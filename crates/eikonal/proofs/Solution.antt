@@ -1,28 +1,23 @@
 -- One-solution and Times-below of Promise.antt.
 use mathlib.Core.Path.{_≡_, refl, sym, _∙_}
 use mathlib.Core.Bool.{Bool, true, false, cond}
-use mathlib.Core.List.{List}
+use mathlib.Core.List.{List, [], _∷_}
 use mathlib.Core.Logic.{_⊎_, inl, inr}
-use Prim.Native.Nat.{ℕ, zero, suc, _+_, _*_, _≤_, _<_, max}
+use Prim.Native.Nat.{ℕ, zero, suc, _+_, _*_, _-_, _≤_, _<_, max}
 use native.Mathlib.Omega.{arith}
-use lib.Dec.{ltb}
+use lib.Dec.{ltb, eqb}
 use lib.ListN.{length}
-use Rattle.eikonal.specs.Board.{Board, never, size, local-of, start-time, met, time, solved, marched, Meets, earlier}
+use Rattle.eikonal.specs.Axes.{Axis, place, sight, sights, earliest, given-on}
+use Rattle.eikonal.specs.Board.{Board, axes, never, size, local-of, start-time, arrival, met, time, solved, marched, Meets, earlier}
 use Rattle.eikonal.specs.Promise.{One-solution, Times-below}
 use Rattle.eikonal.specs.Inner.Good.{Good, Known, Pair}
 use Rattle.eikonal.proofs.Levels.{order, worked}
 use Rattle.eikonal.proofs.Good.{good, size-most}
-use Rattle.eikonal.proofs.Local.{Answers, stays, comes, local-answers}
-use Rattle.eikonal.proofs.Rule.{earlier-seen, along, down, row-of, column-of, met-is}
-use Rattle.eikonal.proofs.Passes.{Look, Sound, rule, rule-on, rule-off, time-off, solved-by, solved-is, solved-length, solved-fixed, solved-only}
+use Rattle.eikonal.proofs.Local.{Answers, stays, comes, local-answers, earlier-min}
+use Rattle.eikonal.proofs.Lattices.{Look, Sound, plain, plain-sound, Given, is-given, first-seen}
+use Rattle.eikonal.proofs.Rule.{lattice, arrival-is}
+use Rattle.eikonal.proofs.Passes.{rule, rule-on, rule-off, time-off, solved-by, solved-is, solved-length, solved-fixed, solved-only}
 use Rattle.eikonal.proofs.Clip.{cut-length}
-
--- a board by itself: each cell sees the state as it is
-abbrev pub plain : Look
-plain f c e = f e
-
-pub plain-sound : Sound plain
-plain-sound = record { agree = λ t f g a c. a; under = λ f g a c. a }
 
 -- however its cells see each other, just one set of times meets a board's rule: meeting it is being fixed
 module _ (b : Board) (look : Look) (sound : Sound look) (g : Good b) where
@@ -38,8 +33,8 @@ module _ (b : Board) (look : Look) (sound : Sound look) (g : Good b) where
 
   pub one-solution-by : Meets-by (solved-by b look) × ((ts : List ℕ) → Meets-by ts → ts ≡ solved-by b look)
   one-solution-by = (
-    (solved-length b look, λ c h. solved-fixed b look sound g c ∙ rule-on b look (time (solved-by b look)) c h),
-    λ ts m. solved-only b look sound g ts (m .0) (meets-fixed ts m),
+    (solved-length b look, λ c h. solved-fixed b look g sound c ∙ rule-on b look (time (solved-by b look)) c h),
+    λ ts m. solved-only b look g sound ts (m .0) (meets-fixed ts m),
   )
 
 pub solved-plain : (b : Board) → solved b ≡ solved-by b plain
@@ -66,10 +61,6 @@ pub earlier-known : (m x y : ℕ) → Known m x → Known m y → Known m (earli
 unfolding earlier
 earlier-known m x y = cond-known (ltb x y) m x y
 
-sides-known : (m : ℕ) (p q : Bool) (i j : ℕ) (f : ℕ → ℕ) → ((e : ℕ) → Known m (f e)) → Known m (earlier-seen p q i j f)
-unfolding earlier-seen
-sides-known m p q i j f k = earlier-known m _ _ (cond-known p m never (f i) (inl refl) (k i)) (cond-known q m never (f j) (inl refl) (k j))
-
 pub local-known : (m g h a b : ℕ) → Pair g h → Known m a → Known m b → Known (m + 4095) (local-of g h a b)
 local-known m g h a b p k l = go (local-answers g h a b) k l
   where
@@ -86,12 +77,36 @@ known-up : (m n t : ℕ) → m ≤ n → Known m t → Known n t
 known-up m n t h (inl e) = inl e
 known-up m n t h (inr k) = inr (omega arith)
 
+-- what a cell sees, and what the rule gives it from that
+sight-known : (m : ℕ) (a : Axis) (c : ℕ) (f : ℕ → ℕ) → ((e : ℕ) → Known m (f e)) → Known m (sight a c f)
+unfolding sight
+sight-known m a c f k =
+    earlier-known m _ _ (cond-known (eqb (place a c) 0) m never _ (inl refl) (k (c - a .unit)))
+    (cond-known (eqb (suc (place a c)) (a .count)) m never _ (inl refl) (k (c + a .unit)))
+
+sights-known : (m : ℕ) (xs : List Axis) (c : ℕ) (f : ℕ → ℕ) → ((e : ℕ) → Known m (f e)) → (i : ℕ) → Known m (sights xs c f i)
+sights-known m [] c f k i = inl refl
+sights-known m (a ∷ xs) c f k zero = sight-known m a c f k
+sights-known m (a ∷ xs) c f k (suc i) = sights-known m xs c f k i
+
+earliest-known : (m : ℕ) (ws : List ℕ) (f : ℕ → ℕ) → ((i : ℕ) → Known m (f i)) → Known m (earliest ws f)
+unfolding earliest
+earliest-known m [] f k = k 0
+earliest-known m (w ∷ ws) f k = rw (← earlier-min) (earlier-known m _ _ (k 0) (earliest-known m ws (λ i. f (suc i)) (λ i. k (suc i))))
+
+arrival-known : {b : Board} → Good b → (m c : ℕ) (f : ℕ → ℕ) → ((e : ℕ) → Known m (f e)) → Known (m + 4095) (arrival b c f)
+arrival-known {b} g m c f k =
+    rw (arrival-is g c f) (go (is-given (lattice g) c f) (earliest-known m _ _ (sights-known m (axes b) c f k)))
+  where
+    go : Given (lattice g) c f → Known m (first-seen (lattice g) c f) → Known (m + 4095) (given-on (lattice g) c f)
+    go (Given.stays z e) i = inl e
+    go (Given.comes p n l h) (inl i) = absurd (n i)
+    go (Given.comes p n l h) (inr i) = inr (omega (arith, g .pairs c .along-most, g .pairs c .down-most))
+
 met-known : {b : Board} → Good b → (m c : ℕ) (f : ℕ → ℕ) → 995905 ≤ m → ((e : ℕ) → Known m (f e)) → Known (m + 4095) (met b c f)
+unfolding met
 met-known {b} g m c f h k =
-    rw (met-is b c f)
-    (earlier-known (m + 4095) _ _
-    (known-up 1000000 (m + 4095) (start-time c (b .starts)) (omega arith) (g .starts-known c))
-    (local-known m (row-of b c) (column-of b c) (along b c f) (down b c f) (g .pairs c) (sides-known m _ _ _ _ f k) (sides-known m _ _ _ _ f k)))
+    earlier-known (m + 4095) _ _ (known-up 1000000 (m + 4095) (start-time c (b .starts)) (omega arith) (g .starts-known c)) (arrival-known g m c f k)
 
 rule-known : {b : Board} → Good b → (look : Look) (m c : ℕ) (f : ℕ → ℕ) → 995905 ≤ m → ((e : ℕ) → Known m (look f c e)) → Known (m + 4095) (rule b look f c)
 unfolding rule

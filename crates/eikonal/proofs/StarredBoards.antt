@@ -6,6 +6,7 @@ use Prim.Native.Nat.{ℕ, _+_, _*_}
 use lib.Dec.{eqb}
 use lib.ListN.{replicate}
 use borrow.Author.Tests.{eqb-true}
+use Rattle.eikonal.specs.Axes.{place, sight}
 use Rattle.eikonal.specs.Board.{Board, board-of, never, largest, size, slowness, along-row, down-column, earlier, least-from, square, passes}
 use Rattle.eikonal.specs.Board.{local-of, local, diagonal, start-time, arrival, met, time, one-pass, passes-of, all-never, solved, cut, marched}
 use Rattle.eikonal.specs.Refusals.{cause, cause-at, steep, half-wall, pairs-refusal}
@@ -114,7 +115,7 @@ all-hold (r ∷ rs) e = let both = and-true (right r) (all-right rs) e in (holds
 
 computed : all-right table ≡ true
 unfolding all-right right table same-list same-reply answered answer pair-refusal pairs-refusal steep half-wall step-refusal local local-of diagonal earlier
-    least-from passes square marched cut solved passes-of one-pass all-never met arrival start-time size slowness along-row down-column time
+    least-from passes square marched cut solved passes-of one-pass all-never met arrival start-time size slowness along-row down-column time sight place
 computed = refl
 
 pub starred-boards : All-hold table

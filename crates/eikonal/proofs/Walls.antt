@@ -1,13 +1,14 @@
 -- A slowness that is not refused is 0 just if a number of its pair is; there no front comes.
 use mathlib.Core.Path.{_≡_, ap}
 use mathlib.Core.Logic.{_⊎_, inl, inr, _≢_}
-use Prim.Native.Nat.{ℕ, _*_, _≤_}
+use Prim.Native.Nat.{ℕ, _*_, _≤_, _<_}
 use native.Mathlib.Omega.{arith}
 use native.Mathlib.Nat.{mul-le-mul}
-use Rattle.eikonal.specs.Board.{Board, never, slowness, along-row, down-column}
-use Rattle.eikonal.specs.Inner.Good.{Pair}
-use Rattle.eikonal.proofs.Local.{Answers, stays, comes, local-answers}
-use Rattle.eikonal.proofs.Rule.{along, down, row-of, column-of, given}
+use Rattle.eikonal.specs.Axes.{given-on}
+use Rattle.eikonal.specs.Board.{Board, never, slowness, along-row, down-column, arrival}
+use Rattle.eikonal.specs.Inner.Good.{Good, Pair}
+use Rattle.eikonal.proofs.Lattices.{Given, stays, comes, is-given}
+use Rattle.eikonal.proofs.Rule.{lattice, arrival-is}
 
 pub wall : (s : ℕ) → s ≡ 0 → along-row s * down-column s ≡ 0
 unfolding along-row
@@ -31,9 +32,18 @@ unequal {g} {h} p n = go (p .whole)
     go (inl z) = absurd (n (omega (arith, z .0, z .1)))
     go (inr z) = (z .0, p .along-most, z .1, p .down-most)
 
-pub wall-given : (b : Board) (c : ℕ) (f : ℕ → ℕ) → slowness b c ≡ 0 → given b c f ≡ never
-wall-given b c f w = go (local-answers (row-of b c) (column-of b c) (along b c f) (down b c f))
-  where
-    go : Answers (row-of b c) (column-of b c) (along b c f) (down b c f) → given b c f ≡ never
-    go (stays z e) = e
-    go (comes p n l) = absurd (omega (arith, wall (slowness b c) w))
+module _ {b : Board} (good : Good b) (c : ℕ) (f : ℕ → ℕ) where
+  pub arrival-wall : slowness b c ≡ 0 → arrival b c f ≡ never
+  arrival-wall w = rw (arrival-is good c f) (go (is-given (lattice good) c f))
+    where
+      go : Given (lattice good) c f → given-on (lattice good) c f ≡ never
+      go (stays z e) = e
+      go (comes p n l m) = absurd (omega (arith, wall (slowness b c) w))
+
+  -- no arrival is at 0
+  pub arrival-late : 1 ≤ arrival b c f
+  arrival-late = rw (arrival-is good c f) (go (is-given (lattice good) c f))
+    where
+      go : Given (lattice good) c f → 1 ≤ given-on (lattice good) c f
+      go (stays z e) = omega arith
+      go (comes p n l m) = omega arith

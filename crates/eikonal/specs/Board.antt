@@ -3,14 +3,12 @@ use mathlib.Core.Path.{_≡_}
 use mathlib.Core.Bool.{Bool, _||_, cond}
 use mathlib.Core.List.{List, [], _∷_}
 use Prim.Native.Nat.{ℕ, zero, suc, _+_, _*_, _-_, _/_, _%_, _<_, max}
-use lib.Dec.{ltb, leb, eqb}
+use lib.Dec.{leb, eqb}
 use lib.ListN.{length, getD, replicate}
+use Rattle.eikonal.specs.Axes.{Axis, axis, sight}
+unfoldable pub use Rattle.eikonal.specs.Axes.{never, earlier, square, least-from}
 -- a Start, the code's own record: a front begins at a cell at a time
 use Rattle.eikonal.specs.declared.Start.{Start}
-
--- the mark of a cell that no front reaches
-abbrev pub never : ℕ
-never = 4294967295
 
 -- the largest horizon and bound; a stored time above it counts as never
 abbrev pub largest : ℕ
@@ -40,16 +38,15 @@ along-row s = s % 65536
 unfoldable pub down-column : (slow : ℕ) → ℕ
 down-column s = s / 65536
 
-unfoldable pub earlier : (a b : ℕ) → ℕ
-earlier a b = cond (ltb a b) a b
+-- ITS AXES: the columns of a row, and the rows
+abbrev pub column-axis : Board → Axis
+column-axis b = axis 1 (b .wide)
 
--- the least number that passes, from a given one on, so many tried; else the next
-unfoldable pub least-from : (left at : ℕ) → (ℕ → Bool) → ℕ
-least-from zero t f = t
-least-from (suc n) t f = cond (f t) t (least-from n (suc t) f)
+abbrev pub row-axis : Board → Axis
+row-axis b = axis (b .wide) (b .high)
 
-unfoldable pub square : ℕ → ℕ
-square a = a * a
+abbrev pub axes : Board → List Axis
+axes b = column-axis b ∷ row-axis b ∷ []
 
 -- THE LOCAL RULE: the least t, not below the earlier of a and b, with p² h² + q² g² at least g² h²
 unfoldable pub passes : (g h a b t : ℕ) → Bool
@@ -75,14 +72,7 @@ start-time c (x ∷ xs) = cond (eqb (x .cell) c) (x .time) (start-time c xs)
 -- what the local rule gives a cell from the times that it sees; off the board is never
 unfoldable pub arrival : Board → (c : ℕ) → (seen : ℕ → ℕ) → ℕ
 arrival b c f =
-    let w = b .wide in
-    let col = c % w in
-    let row = c / w in
-    let l = cond (eqb col 0) never (f (c - 1)) in
-    let r = cond (eqb (suc col) w) never (f (suc c)) in
-    let u = cond (eqb row 0) never (f (c - w)) in
-    let d = cond (eqb (suc row) (b .high)) never (f (c + w)) in
-    local (along-row (slowness b c)) (down-column (slowness b c)) l r u d
+    local-of (along-row (slowness b c)) (down-column (slowness b c)) (sight (column-axis b) c f) (sight (row-axis b) c f)
 
 -- a cell's time: the earlier of its start's and what the local rule gives
 unfoldable pub met : Board → (c : ℕ) → (seen : ℕ → ℕ) → ℕ

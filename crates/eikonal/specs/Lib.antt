@@ -1,3 +1,4 @@
+pub mod Axes
 pub mod Board
 pub mod Tiles
 pub mod Refusals

@@ -3,10 +3,11 @@ use mathlib.Core.Path.{_≡_}
 use mathlib.Core.Bool.{Bool, true, false, _||_, cond}
 use mathlib.Core.List.{List, [], _∷_, _++_}
 use mathlib.Core.Logic.{_⊎_, _≢_}
-use Prim.Native.Nat.{ℕ, zero, suc, _+_, _*_, _-_, _%_, _≤_, _<_, min, max}
+use Prim.Native.Nat.{ℕ, zero, suc, _+_, _*_, _-_, _≤_, _<_, min, max}
 use lib.Dec.{leb, eqb}
 use lib.ListN.{length, getD}
-use Rattle.eikonal.specs.Board.{Board, size, slowness, start-time, time, Meets, solved, marched, reached, diagonal, local, never, largest}
+use Rattle.eikonal.specs.Axes.{Near, Next-on, Lattice, given-on, met-on}
+use Rattle.eikonal.specs.Board.{Board, axes, size, slowness, start-time, time, Meets, solved, marched, reached, diagonal, local, never, largest}
 use Rattle.eikonal.specs.Board.{all-never, least-from, square, passes, earlier}
 use Rattle.eikonal.specs.declared.Start.{Start}
 use Rattle.eikonal.specs.Tiles.{Meets-in-tiles, solved-in-tiles, after-rounds, last-round, rounds, up}
@@ -78,6 +79,25 @@ Diagonal-step =
     (s l r u d : ℕ) → 1 ≤ s → s ≤ 4095 → earlier l r ≡ earlier u d → earlier l r < never →
     local s s l r u d ≡ earlier l r + diagonal s
 
+-- ---- ANY NUMBER OF AXES: earlier neighbours give no later answer; a time above never counts as never
+unfoldable pub Earlier-no-later : Type 0
+Earlier-no-later =
+    (l : Lattice) (c : ℕ) (f g : ℕ → ℕ) → c < l .cells → ((e : ℕ) → e < l .cells → Near (l .axes) c e → min never (f e) ≤ g e) →
+    min never (given-on l c f) ≤ given-on l c g
+
+-- and exactly one set of times fits
+pub record Fits (l : Lattice) (times : ℕ → ℕ) : Type 0 where
+  pub on : (c : ℕ) → c < l .cells → times c ≡ met-on l c times
+  pub off : (c : ℕ) → l .cells ≤ c → times c ≡ never
+
+pub record Just-one (l : Lattice) : Type 0 where
+  pub times : ℕ → ℕ
+  pub fits : Fits l times
+  pub only : (f : ℕ → ℕ) → Fits l f → (c : ℕ) → f c ≡ times c
+
+unfoldable pub One-set : Type 0
+One-set = (l : Lattice) → Just-one l
+
 -- ---- THE SECOND CONDITION: just one set of times meets the rule, and it is the one worked out
 unfoldable pub One-solution : Type 0
 One-solution = (b : Board) → board-good b ≡ true → Meets b (solved b) × ((ts : List ℕ) → Meets b ts → ts ≡ solved b)
@@ -92,12 +112,12 @@ Never-past-horizon =
     (b : Board) (h c : ℕ) → board-good b ≡ true → h ≤ largest → c < size b →
     (time (marched b h) c ≡ never → h < time (solved b) c) × (h < time (solved b) c → time (marched b h) c ≡ never)
 
--- e is right of c in its row, or below it
-unfoldable pub Beside : Board → (c e : ℕ) → Type 0
-Beside b c e = ((suc c ≡ e) × (e % b .wide ≢ 0)) ⊎ (c + b .wide ≡ e)
+-- e is right of c in its row, or below it: at the next place on an axis
+abbrev pub Beside : Board → (c e : ℕ) → Type 0
+Beside b c e = Next-on (axes b) c e
 
-unfoldable pub Neighbour : Board → (c e : ℕ) → Type 0
-Neighbour b c e = Beside b c e ⊎ Beside b e c
+abbrev pub Neighbour : Board → (c e : ℕ) → Type 0
+Neighbour b c e = Near (axes b) c e
 
 -- a chain of open cells, each a neighbour of the next, joins the cell to a start
 pub data Joined (b : Board) : (c : ℕ) → Type 0 where

@@ -1,10 +1,11 @@
 -- Seams: what lies between two neighbouring columns, or two neighbouring rows. Only internal contracts cite these: they are definitions.
-use mathlib.Core.Bool.{_||_, cond}
+use mathlib.Core.Bool.{cond}
 use mathlib.Core.List.{List, [], _∷_}
-use Prim.Native.Nat.{ℕ, suc, _+_, _-_, _/_, _%_, min}
+use Prim.Native.Nat.{ℕ, suc, _+_, _-_, _%_, min}
 use lib.Dec.{eqb}
 use lib.ListN.{getD}
-use Rattle.eikonal.specs.Board.{Board, never, size}
+use Rattle.eikonal.specs.Axes.{Axis, place}
+use Rattle.eikonal.specs.Board.{Board, never, size, column-axis, row-axis}
 
 abbrev pub edge : ℕ
 edge = 0
@@ -15,9 +16,9 @@ border = 1
 abbrev pub inside : ℕ
 inside = 2
 
--- before place i of so many: the board's edge, a border between tiles, or the inside of a tile
+-- before place i of so many, which come round: the board's edge, a border between tiles, or the inside of a tile
 unfoldable pub seam : (count side i : ℕ) → ℕ
-seam n s i = cond (eqb i 0 || eqb i n) edge (cond (eqb (i % s) 0) border inside)
+seam n s i = cond (eqb (i % n) 0) edge (cond (eqb (i % n % s) 0) border inside)
 
 -- of seams as laid the least around the place at a row and a column: an inside seam is the greatest, so it is inside if all four are
 abbrev pub least-seam : (cols rows : List ℕ) → (row col : ℕ) → ℕ
@@ -31,29 +32,28 @@ across s f g = cond (eqb s edge) never (cond (eqb s inside) f g)
 unfoldable pub hearer : (n kind seam e : ℕ) → ℕ
 hearer n k s e = cond (eqb s k) e n
 
--- AN AXIS of a board: a cell has one of so many places on it, `unit` cells on is the next place, and a tile takes `side` of them
-pub record Axis : Type 0 where
-  pub unit : ℕ
-  pub count : ℕ
+-- AN AXIS CUT INTO TILES: a tile takes `side` of its places
+pub record Cut : Type 0 where
+  pub axis : Axis
   pub side : ℕ
-  pub place : (c : ℕ) → ℕ
 
-abbrev pub column-axis : Board → (tw : ℕ) → Axis
-column-axis b tw = record { unit = 1; count = b .wide; side = tw; place = λ c. c % b .wide }
+abbrev pub cut : Axis → (side : ℕ) → Cut
+cut a s = record { axis = a; side = s }
 
-abbrev pub row-axis : Board → (th : ℕ) → Axis
-row-axis b th = record { unit = b .wide; count = b .high; side = th; place = λ c. c / b .wide }
+abbrev pub cuts : Board → (tw th : ℕ) → List Cut
+cuts b tw th = cut (column-axis b) tw ∷ cut (row-axis b) th ∷ []
 
 -- the seams before and behind a cell
-abbrev pub seam-back : Axis → (c : ℕ) → ℕ
-seam-back a c = seam (a .count) (a .side) (a .place c)
+abbrev pub seam-back : Cut → (c : ℕ) → ℕ
+seam-back x c = seam (x .axis .count) (x .side) (place (x .axis) c)
 
-abbrev pub seam-on : Axis → (c : ℕ) → ℕ
-seam-on a c = seam (a .count) (a .side) (suc (a .place c))
+abbrev pub seam-on : Cut → (c : ℕ) → ℕ
+seam-on x c = seam (x .axis .count) (x .side) (suc (place (x .axis) c))
 
 -- a cell's neighbours across seams of the given kind, axis by axis
-abbrev pub near-on : Axis → (n kind c : ℕ) → List ℕ → List ℕ
-near-on a n k c es = hearer n k (seam-back a c) (c - a .unit) ∷ hearer n k (seam-on a c) (c + a .unit) ∷ es
+abbrev pub near-on : List Cut → (n kind c : ℕ) → List ℕ
+near-on [] n k c = []
+near-on (x ∷ xs) n k c = hearer n k (seam-back x c) (c - x .axis .unit) ∷ hearer n k (seam-on x c) (c + x .axis .unit) ∷ near-on xs n k c
 
 unfoldable pub near : Board → (tw th kind c : ℕ) → List ℕ
-near b tw th k c = near-on (column-axis b tw) (size b) k c (near-on (row-axis b th) (size b) k c [])
+near b tw th k c = near-on (cuts b tw th) (size b) k c

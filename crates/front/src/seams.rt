@@ -11,16 +11,14 @@ pub const BORDER: u8 = 1;
 pub const INSIDE: u8 = 2;
 
 fn seam(count: usize, side: usize, i: usize) -> u8
-    requires { ⌜ 1 ≤ side ⌝ }
+    requires { ⌜ (1 ≤ count) × (1 ≤ side) ⌝ }
     ensures { λ r. ⌜ r ≡ seam count side i ⌝ }
 {
-    if i == 0 {
+    let place = i % count;
+    if place == 0 {
         return EDGE;
     }
-    if i == count {
-        return EDGE;
-    }
-    if i % side == 0 {
+    if place % side == 0 {
         return BORDER;
     }
     INSIDE
@@ -28,7 +26,7 @@ fn seam(count: usize, side: usize, i: usize) -> u8
 
 // The seams of so many columns, or rows, with tiles of the given side.
 pub fn lay(count: usize, side: usize) -> [u8; 257]
-    requires { ⌜ (1 ≤ side) × (count ≤ 256) ⌝ }
+    requires { ⌜ (1 ≤ side) × (1 ≤ count) × (count ≤ 256) ⌝ }
     ensures { λ r. ⌜ Marked count side r ⌝ }
 {
     let mut laid = [EDGE; 257];

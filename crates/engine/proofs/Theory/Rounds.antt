@@ -14,7 +14,7 @@ use Rattle.eikonal.specs.Tiles.{tile-of, counts-as, tiled, round, altered, afte
 use Rattle.eikonal.specs.Inner.Good.{Good}
 use Rattle.eikonal.specs.Inner.Clip.{clip}
 use Rattle.eikonal.proofs.Clip.{Clipped, kept, lost, clipped, clip-keeps, clip-loses, clip-never}
-use Rattle.eikonal.proofs.Neighbours.{arrival-same, met-capped}
+use Rattle.eikonal.proofs.Rule.{arrival-same, met-capped}
 use Rattle.eikonal.proofs.Passes.{never-time}
 use Rattle.eikonal.proofs.Altered.{altered-same}
 use Rattle.eikonal.proofs.Rounds.{round-time, after-length}

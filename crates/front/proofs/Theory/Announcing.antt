@@ -79,7 +79,7 @@ module _ {b : Board} (good : Good b) (tw th : ℕ) (tw1 : 1 ≤ tw) (th1 : 1 ≤
   one-announced {i} l {u} he tells se c h =
       let mid = announce-next good tw th ts us m note falls new old i l (on i l) (tentative (u .list) (size b)) (keys u) se in
       told-midway (gives-lawful good tw th (part-new b ts us note (suc i))) (new-under good tw th ts us m note falls new old (suc i)) (λ d. Unit {0}) he tells
-      (record { weak = mid .weak; settled = λ d k o. mid .settled d k (λ n. untold-border good tw th tw1 th1 (note i) d (on i l) k n (o .0)) })
+      (record { weak = mid .weak; settled = λ d k o. mid .settled d k (λ n. untold-border good tw th tw1 th1 (note i) d n (o .0)) })
       .settled c h tt
 
   pub announced-settled : {i : ℕ} {v v' : Work} → i ≤ m → Held (size b) v

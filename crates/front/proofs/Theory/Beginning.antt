@@ -1,19 +1,19 @@
 -- A round's beginning: every cell has its start's time, is pending with it once it is gathered, and is not heard yet.
 use mathlib.Core.Path.{_≡_, refl, sym, _∙_}
-use mathlib.Core.Bool.{Bool, true, false}
+use mathlib.Core.Bool.{true, false}
 use mathlib.Core.Logic.{inl, inr, ⊎-elim}
 use mathlib.Core.List.{List}
 use Prim.Native.Nat.{ℕ, _+_, _*_, _≤_, _<_}
 use native.Mathlib.Omega.{arith}
-use Rattle.eikonal.specs.Board.{Board, never, size, local-of, start-time, arrival}
+use Rattle.eikonal.specs.Axes.{given-on}
+use Rattle.eikonal.specs.Board.{Board, never, size, start-time, arrival}
 use Rattle.eikonal.specs.declared.Start.{Start}
 use Rattle.eikonal.specs.Refusals.{late}
 use Rattle.eikonal.specs.Inner.Judge.{starts-rise}
 use Rattle.eikonal.specs.Promise.{Neighbour}
 use Rattle.eikonal.specs.Inner.Good.{Good}
-use Rattle.eikonal.proofs.Local.{earlier-min, Answers, stays, comes, local-answers}
-use Rattle.eikonal.proofs.Rule.{earlier-seen, row-of, column-of}
-use Rattle.eikonal.proofs.Neighbours.{arrival-is, arrival-same}
+use Rattle.eikonal.proofs.Lattices.{Given, stays, comes, is-given, nothing-seen}
+use Rattle.eikonal.proofs.Rule.{lattice, arrival-is, arrival-same}
 use Rattle.front.specs.Front.{Among, heard, Upheld, Drift}
 use Rattle.front.specs.Board.{tentative, Work, keys}
 use Rattle.front.specs.State.{Held, Placed, Seeded, Empty, Standing, Begun, Gathered}
@@ -82,19 +82,11 @@ module _ {n : ℕ} {xs : List Start} {v : List ℕ} {v' : Work} (be : Standing n
       all c l = even (be .placed) ga c (omega arith, l)
 
 -- ---- a cell that sees no time is given none
-sides-quiet : (p q : Bool) (i j : ℕ) → earlier-seen p q i j (λ e. never) ≡ never
-unfolding earlier-seen
-sides-quiet true true i j = earlier-min never never
-sides-quiet true false i j = earlier-min never never
-sides-quiet false true i j = earlier-min never never
-sides-quiet false false i j = earlier-min never never
-
 pub arrival-quiet : {b : Board} → Good b → (c : ℕ) → c < size b → (f : ℕ → ℕ) → ((e : ℕ) → e < size b → Neighbour b c e → f e ≡ never)
     → arrival b c f ≡ never
 arrival-quiet {b} good c on f h =
-    arrival-same good c on f (λ e. never) h ∙ arrival-is b c (λ e. never)
-    ∙ rw (sides-quiet _ _ _ _, sides-quiet _ _ _ _) (go (local-answers (row-of b c) (column-of b c) never never))
+    arrival-same good c on f (λ e. never) h ∙ arrival-is good c (λ e. never) ∙ go (is-given (lattice good) c (λ e. never))
   where
-    go : Answers (row-of b c) (column-of b c) never never → local-of (row-of b c) (column-of b c) never never ≡ never
+    go : Given (lattice good) c (λ e. never) → given-on (lattice good) c (λ e. never) ≡ never
     go (stays z e) = e
-    go (comes p n l) = absurd (n refl)
+    go (comes p n l m) = absurd (n (nothing-seen (lattice good) c on))

@@ -224,7 +224,7 @@ module _ {s : Shape} {slow ts cols rows : List ℕ} (gr : Ground s slow ts cols 
     where
       other : (e : ℕ) → Neighbour (land s slow) d e → e ≡ c → tile d ≢ tile e
       other e n q z =
-          untold-inside (gr .good) (s .across) (s .down) (gr .across) (gr .down) c d (rw (← cells-size gr) l) (rw (← cells-size gr) m)
+          untold-inside (gr .good) (s .across) (s .down) (gr .across) (gr .down) c d
           (subst (λ w. Neighbour (land s slow) d w) q n) o (z ∙ ap tile q)
 
       alike : (e : ℕ) → e < size (land s slow) → Neighbour (land s slow) d e

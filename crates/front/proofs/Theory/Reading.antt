@@ -1,26 +1,24 @@
 -- What code reads of a cell's neighbours is what the rule sees of them.
 use mathlib.Core.Path.{_≡_, refl, sym, ap, subst, _∙_}
-use mathlib.Core.Bool.{cond}
-use mathlib.Core.Logic.{inl, inr, _≢_}
+use mathlib.Core.Logic.{_≢_}
 use mathlib.Core.List.{List, [], _∷_}
 use Prim.Native.Nat.{ℕ, zero, suc, _+_, _*_, _-_, _/_, _%_, _≤_, _<_, min}
 use native.Mathlib.Omega.{arith}
 use native.Mathlib.Decide.{ℕ-discrete}
-use native.Mathlib.Nat.{mul-le-mul-right, mul-comm, div-eq-of-lt-le, div-add-mod', mod-lt}
+use native.Mathlib.Nat.{mul-le-mul-right, mul-comm, div-eq-of-lt-le, div-add-mod', div-one, mod-lt, mod-eq-of-lt, mod-self, zero-mod}
 use native.Mathlib.Numerals.{add-one}
-use lib.Dec.{eqb}
 use lib.ListN.{length, getD}
 use borrow.Author.Tests.{eq-eqb, ne-eqb, lt-ltb, le-ltb}
-use Rattle.eikonal.specs.Board.{Board, never, largest, size, slowness, along-row, down-column, time, local-of, local, arrival}
+use Rattle.eikonal.specs.Axes.{place, sight}
+use Rattle.eikonal.specs.Board.{Board, never, largest, size, column-axis, row-axis, slowness, along-row, down-column, time, local-of, arrival}
 use Rattle.eikonal.specs.Tiles.{counts-as}
 use Rattle.eikonal.proofs.Good.{size-most}
-use Rattle.eikonal.proofs.Local.{earlier-min}
-use Rattle.eikonal.proofs.Grid.{row-low}
+use Rattle.eikonal.proofs.Grid.{quotient-low}
 use Rattle.front.specs.Front.{ghosted}
-use Rattle.front.specs.Seams.{Axis, edge, across}
+use Rattle.front.specs.Seams.{Cut, seam, seam-back, seam-on, edge, across}
 use Rattle.front.specs.Board.{land, rule-at, Marked, Ground, Measures, Site, Sees}
 use Rattle.front.specs.declared.Shape.{Shape}
-use Rattle.front.proofs.Theory.Seams.{seam-edge, Straight, columns-straight, rows-straight, sees-back, sees-on}
+use Rattle.front.proofs.Theory.Seams.{seam-edge, seam-round, seam-next, Straight, columns-straight, rows-straight, sees}
 
 -- an entry of a list is the same by any default
 getD-any : (l : List ℕ) (i d e : ℕ) → i < length l → getD l i d ≡ getD l i e
@@ -64,15 +62,25 @@ module _ (s f g : ℕ) where
 module _ {n s i : ℕ} {js : List ℕ} (la : Marked n s js) (l : i < n) where
   pub place-behind : getD js i 0 ≢ edge → 1 ≤ i
   place-behind q = elim (ℕ-discrete i 0) [
-    | yes z ↦ absurd (q (la .at i (omega arith) ∙ seam-edge n s i (inl z)))
+    | yes z ↦ absurd (q (la .at i (omega arith) ∙ seam-edge n s i (ap (λ (u : ℕ). u % n) z ∙ zero-mod n)))
     | no z ↦ omega arith
   ]
 
   pub place-ahead : getD js (i + 1) 0 ≢ edge → i + 1 < n
   place-ahead q = elim (ℕ-discrete (i + 1) n) [
-    | yes z ↦ absurd (q (la .at (i + 1) (omega arith) ∙ seam-edge n s (i + 1) (inr z)))
+    | yes z ↦ absurd (q (la .at (i + 1) (omega arith) ∙ seam-edge n s (i + 1) (ap (λ (u : ℕ). u % n) z ∙ mod-self n)))
     | no z ↦ omega arith
   ]
+
+-- the seams laid around a cell that is at the i-th place
+module _ (x : Cut) (c : ℕ) {i : ℕ} {js : List ℕ} (la : Marked (x .axis .count) (x .side) js) (at : place (x .axis) c ≡ i % x .axis .count) (l : i < x .axis .count) where
+  pub marked-back : getD js i 0 ≡ seam-back x c
+  marked-back = la .at i (omega arith) ∙ seam-round (x .axis .count) (x .side) i ∙ ap (seam (x .axis .count) (x .side)) (sym at)
+
+  pub marked-on : getD js (i + 1) 0 ≡ seam-on x c
+  marked-on =
+      la .at (i + 1) (omega arith) ∙ ap (seam (x .axis .count) (x .side)) (add-one i) ∙ seam-next (x .axis .count) (x .side) i
+      ∙ ap (λ (u : ℕ). seam (x .axis .count) (x .side) (suc u)) (sym at)
 
 -- ---- a cell's site, and those of its neighbours
 pub site : {n w c row : ℕ} → 1 ≤ w → c < n → row ≡ c / w → Site n w c row (c - row * w)
@@ -130,7 +138,7 @@ module _ {s : Shape} {slow ts cols rows : List ℕ} (gr : Ground s slow ts cols 
       on = omega (arith, me .cells, cells-size, si .on)
 
       pub line : row < s .height
-      line = omega (arith, row-is si, row-low w (s .height) c width-low (omega (arith, si .on, area, mul-comm (s .height) w)))
+      line = omega (arith, row-is si, quotient-low c w (s .height) (omega (arith, si .on, area)))
 
       pub column : col < s .width
       column = omega (arith, me .width, si .column)
@@ -170,19 +178,24 @@ module _ {s : Shape} {slow ts cols rows : List ℕ} (gr : Ground s slow ts cols 
       abbrev ghost : (d e : ℕ) → ℕ
       ghost d e = counts-as (land s slow) ts e
 
-      module _ {a : Axis} (st : Straight (land s slow) (s .across) (s .down) a) {js : List ℕ} (la : Marked (a .count) (a .side) js)
-          {i x : ℕ} (at : a .place c ≡ i) (l : i < a .count) (f : ℕ → ℕ) where
-        read-back : x ≡ across (getD js i 0) (f (c + 0 - a .unit)) (ghost c (c + 0 - a .unit))
-            → x ≡ cond (eqb (a .place c) 0) never (ghosted (land s slow) (s .across) (s .down) ghost f c (c - a .unit))
-        read-back e =
-            let here : c + 0 ≡ c = omega arith in
-            e ∙ rw (here, la .at i (omega arith), ← at) (sees-back st c on ghost f)
+      -- the places of the cell, by its column and its row
+      pub column-at : place (column-axis (land s slow)) c ≡ col % s .width
+      unfolding place
+      column-at = ap (λ (u : ℕ). u % s .width) (div-one c) ∙ ap (λ (k : ℕ). c % k) (sym (me .width)) ∙ col-is si ∙ sym (mod-eq-of-lt column)
 
-        read-on : x ≡ across (getD js (i + 1) 0) (f (c + a .unit - 0)) (ghost c (c + a .unit - 0))
-            → x ≡ cond (eqb (suc (a .place c)) (a .count)) never (ghosted (land s slow) (s .across) (s .down) ghost f c (c + a .unit))
-        read-on e =
-            let here : c + a .unit - 0 ≡ c + a .unit = omega arith in
-            e ∙ rw (here, la .at (i + 1) (omega arith), add-one i, ← at) (sees-on st c on ghost f)
+      pub line-at : place (row-axis (land s slow)) c ≡ row % s .height
+      unfolding place
+      line-at = ap (λ (k : ℕ). c / k % s .height) (sym (me .width)) ∙ ap (λ (u : ℕ). u % s .height) (row-is si)
+
+      module _ {x : Cut} (st : Straight (land s slow) (s .across) (s .down) x) {js : List ℕ} (la : Marked (x .axis .count) (x .side) js)
+          {i l r : ℕ} (at : place (x .axis) c ≡ i % x .axis .count) (low : i < x .axis .count) (f : ℕ → ℕ) where
+        read : l ≡ across (getD js i 0) (f (c + 0 - x .axis .unit)) (ghost c (c + 0 - x .axis .unit))
+            → r ≡ across (getD js (i + 1) 0) (f (c + x .axis .unit - 0)) (ghost c (c + x .axis .unit - 0))
+            → min l r ≡ sight (x .axis) c (ghosted (land s slow) (s .across) (s .down) ghost f c)
+        read p q =
+            let here : c + 0 ≡ c = omega arith in
+            let there : c + x .axis .unit - 0 ≡ c + x .axis .unit = omega arith in
+            sees st c ghost f (p ∙ rw (here, marked-back x c la at low)) (q ∙ rw (there, marked-on x c la at low))
 
       -- THE RULE from what code reads of the four neighbours
       pub rule-read : (f : ℕ → ℕ) {l r u d x y : ℕ}
@@ -192,22 +205,10 @@ module _ {s : Shape} {slow ts cols rows : List ℕ} (gr : Ground s slow ts cols 
           → d ≡ across (getD rows (row + 1) 0) (f (c + w - 0)) (ghost c (c + w - 0))
           → x ≡ min l r → y ≡ min u d
           → min never (local-of (along-row (getD slow c 0)) (down-column (getD slow c 0)) x y) ≡ rule-at s slow ts c f
-      unfolding arrival slowness local
+      unfolding arrival slowness
       rule-read f {l} {r} {u} {d} el er eu ed ex ey =
           let cs = columns-straight (gr .good) (s .across) (s .down) (gr .across) (gr .down) in
           let rs = rows-straight (gr .good) (s .across) (s .down) (gr .across) (gr .down) in
-          let col-at = ap (λ (k : ℕ). c % k) (sym (me .width)) ∙ col-is si in
-          let row-at = ap (λ (k : ℕ). c / k) (sym (me .width)) ∙ row-is si in
           let eu' = subst (λ k. u ≡ across (getD rows row 0) (f (c + 0 - k)) (ghost c (c + 0 - k))) (me .width) eu in
           let ed' = subst (λ k. d ≡ across (getD rows (row + 1) 0) (f (c + k - 0)) (ghost c (c + k - 0))) (me .width) ed in
-          rw (
-            ex,
-            ey,
-            ← earlier-min l r,
-            ← earlier-min u d,
-            read-back cs (gr .columns) col-at column f el,
-            read-on cs (gr .columns) col-at column f er,
-            read-back rs (gr .lines) row-at line f eu',
-            read-on rs (gr .lines) row-at line f ed',
-            add-one c,
-          ) refl
+          rw (ex ∙ read cs (gr .columns) column-at column f el er, ey ∙ read rs (gr .lines) line-at line f eu' ed') refl

@@ -1,26 +1,26 @@
 -- From a store and the queue's call to what a touch leaves of the work list; and a cell's neighbours, who hear in turn.
 use mathlib.Core.Path.{_≡_, refl, sym, ap, subst, _∙_}
 use mathlib.Core.Logic.{_⊎_, inr, ⊎-elim, _≢_}
-use mathlib.Core.List.{List, []}
-use Prim.Native.Nat.{ℕ, suc, _+_, _*_, _-_, _/_, _%_, _≤_, _<_}
+use mathlib.Core.List.{List, [], _∷_}
+use Prim.Native.Nat.{ℕ, suc, _+_, _*_, _-_, _%_, _≤_, _<_}
 use native.Mathlib.Omega.{arith}
 use native.Mathlib.Decide.{ℕ-discrete}
-use native.Mathlib.Numerals.{add-one}
 use lib.ListN.{length, getD, set, length-set}
 use lib.Seq.{getD-set-same, getD-set-other}
 use borrow.Author.Tests.{eq-eqb, ne-eqb}
-use Rattle.eikonal.specs.Board.{never, size, slowness}
+use Rattle.eikonal.specs.Axes.{place}
+use Rattle.eikonal.specs.Board.{never, size, column-axis, row-axis, slowness}
 use Rattle.eikonal.specs.Tiles.{counts-as}
 use Rattle.queue.specs.Heap as queue
 use Rattle.queue.specs.Heap.{Heap, Put}
 use Rattle.queue.proofs.Heap.{heap-past, keys-past}
 use Rattle.front.specs.Front.{Drop, Out}
-use Rattle.front.specs.Seams.{seam, least-seam, Axis, column-axis, row-axis, seam-back, seam-on, near-on, border, inside, hearer, near}
+use Rattle.front.specs.Seams.{least-seam, Cut, cut, seam-back, seam-on, near-on, border, inside, hearer, near}
 use Rattle.front.specs.Board.{land, rule-at, tentative, Marked, Work, at, keys, Ground, Measures, Site}
 use Rattle.front.specs.State.{Held, Touched, stays, drops, Told, all, next}
 use Rattle.front.specs.declared.Shape.{Shape}
 use Rattle.front.proofs.Theory.Sight.{gives-wall}
-use Rattle.front.proofs.Theory.Reading.{cells-size, row-is, col-is, column, line}
+use Rattle.front.proofs.Theory.Reading.{cells-size, marked-back, marked-on, column, line, column-at, line-at}
 
 -- a time is stored for the cell e, and the queue takes it up
 module _ {n : ℕ} {v : Work} (he : Held n v) {e : ℕ} (x : ℕ) (l : e < n) where
@@ -93,31 +93,26 @@ pub not-across : {n : ℕ} {L : ℕ → (ℕ → ℕ) → ℕ} {t : ℕ} {v : Wo
 not-across {n} k s e q = stays refl (λ l. absurd (omega (arith, hearer-none n k s e q)))
 
 -- ---- the neighbours on an axis hear of it in turn, the one behind, whose number is d, and the one ahead; and then further ones
-module _ (a : Axis) {n t k c i : ℕ} {L : ℕ → (ℕ → ℕ) → ℕ} {es js : List ℕ} {v0 v1 v2 v3 : Work}
-    (la : Marked (a .count) (a .side) js) (at : a .place c ≡ i) (l : i < a .count) where
-  told-on : (d : ℕ) → (getD js i 0 ≡ k → c ≡ d + a .unit) → Touched n L t (hearer n k (getD js i 0) d) v0 v1
-      → Touched n L t (hearer n k (getD js (i + 1) 0) (c + a .unit)) v1 v2 → Told n L t es v2 v3 → Told n L t (near-on a n k c es) v0 v3
+module _ (x : Cut) (xs : List Cut) {n t k c i : ℕ} {L : ℕ → (ℕ → ℕ) → ℕ} {js : List ℕ} {v0 v1 v2 v3 : Work}
+    (la : Marked (x .axis .count) (x .side) js) (at : place (x .axis) c ≡ i % x .axis .count) (l : i < x .axis .count) where
+  told-on : (d : ℕ) → (getD js i 0 ≡ k → c ≡ d + x .axis .unit) → Touched n L t (hearer n k (getD js i 0) d) v0 v1
+      → Touched n L t (hearer n k (getD js (i + 1) 0) (c + x .axis .unit)) v1 v2 → Told n L t (near-on xs n k c) v2 v3
+      → Told n L t (near-on (x ∷ xs) n k c) v0 v3
   told-on d back p q ts = next _ _ v0 v1 v3 (subst (λ e. Touched n L t e v0 v1) behind p) (next _ _ v1 v2 v3 (subst (λ e. Touched n L t e v1 v2) ahead q) ts)
     where
-      behind : hearer n k (getD js i 0) d ≡ hearer n k (seam-back a c) (c - a .unit)
-      behind = hearer-same n k (getD js i 0) d (c - a .unit) (λ z. omega (arith, back z)) ∙ rw (la .at i (omega arith), at)
+      behind : hearer n k (getD js i 0) d ≡ hearer n k (seam-back x c) (c - x .axis .unit)
+      behind = hearer-same n k (getD js i 0) d (c - x .axis .unit) (λ z. omega (arith, back z)) ∙ rw (marked-back x c la at l)
 
-      ahead : hearer n k (getD js (i + 1) 0) (c + a .unit) ≡ hearer n k (seam-on a c) (c + a .unit)
-      ahead = rw (la .at (i + 1) (omega arith), add-one i, at)
+      ahead : hearer n k (getD js (i + 1) 0) (c + x .axis .unit) ≡ hearer n k (seam-on x c) (c + x .axis .unit)
+      ahead = rw (marked-on x c la at l)
 
 module _ {s : Shape} {slow ts cols rows : List ℕ} (gr : Ground s slow ts cols rows) {n w : ℕ} (me : Measures s n w)
     {c row col : ℕ} (si : Site n w c row col) where
-  abbrev columns : Axis
-  columns = column-axis (land s slow) (s .across)
+  abbrev columns : Cut
+  columns = cut (column-axis (land s slow)) (s .across)
 
-  abbrev lines : Axis
-  lines = row-axis (land s slow) (s .down)
-
-  column-at : columns .place c ≡ col
-  column-at = ap (λ (k : ℕ). c % k) (sym (me .width)) ∙ col-is si
-
-  line-at : lines .place c ≡ row
-  line-at = ap (λ (k : ℕ). c / k) (sym (me .width)) ∙ row-is si
+  abbrev lines : Cut
+  lines = cut (row-axis (land s slow)) (s .down)
 
   pub near-told : {L : ℕ → (ℕ → ℕ) → ℕ} {t k : ℕ} (l u : ℕ) {v0 v1 v2 v3 v4 : Work} → (getD cols col 0 ≡ k → c ≡ l + 1)
       → (getD rows row 0 ≡ k → c ≡ u + w)
@@ -128,9 +123,9 @@ module _ {s : Shape} {slow ts cols rows : List ℕ} (gr : Ground s slow ts cols 
       → Told n L t (near (land s slow) (s .across) (s .down) k c) v0 v4
   unfolding near
   near-told {L} {t} {k} l u {v0} {v3 = v3} {v4} hl hu pl pr pu pd =
-      subst (λ m. Told n L t (near-on columns m k c (near-on lines m k c [])) v0 v4) (me .cells ∙ cells-size gr)
-      (told-on columns (gr .columns) column-at (column gr me si) l hl pl pr
-      (told-on lines (gr .lines) line-at (line gr me si) u (λ z. hu z ∙ ap (λ (k : ℕ). u + k) (me .width)) pu
+      subst (λ m. Told n L t (near-on (columns ∷ lines ∷ []) m k c) v0 v4) (me .cells ∙ cells-size gr)
+      (told-on columns (lines ∷ []) (gr .columns) (column-at gr me si) (column gr me si) l hl pl pr
+      (told-on lines [] (gr .lines) (line-at gr me si) (line gr me si) u (λ z. hu z ∙ ap (λ (k : ℕ). u + k) (me .width)) pu
       (subst (λ m. Touched n L t (hearer n k (getD rows (row + 1) 0) (c + m)) v3 v4) (me .width) pd) (all v4)))
 
   -- where all seams are inside, nobody in another tile is to be told
@@ -144,24 +139,15 @@ module _ {s : Shape} {slow ts cols rows : List ℕ} (gr : Ground s slow ts cols 
     pub near-out : (e : ℕ) → e < size (land s slow) → Out e (near (land s slow) (s .across) (s .down) border c)
     unfolding near
     near-out e l = (
-      back columns (gr .columns) column-at (column gr me si) (omega arith),
+      none _ _ (λ z. omega (arith, marked-back columns c (gr .columns) (column-at gr me si) (column gr me si))),
       (
-        ahead columns (gr .columns) column-at (column gr me si) (omega arith),
+        none _ _ (λ z. omega (arith, marked-on columns c (gr .columns) (column-at gr me si) (column gr me si))),
         (
-          back lines (gr .lines) line-at (line gr me si) (omega arith),
-          (ahead lines (gr .lines) line-at (line gr me si) (omega arith), tt),
+          none _ _ (λ z. omega (arith, marked-back lines c (gr .lines) (line-at gr me si) (line gr me si))),
+          (none _ _ (λ z. omega (arith, marked-on lines c (gr .lines) (line-at gr me si) (line gr me si))), tt),
         ),
       ),
     )
       where
         none : (mark d : ℕ) → mark ≢ border → e ≢ hearer (size (land s slow)) border mark d
         none mark d h z = omega (arith, l, z, hearer-none (size (land s slow)) border mark d h)
-
-        back : (a : Axis) {i : ℕ} {js : List ℕ} → Marked (a .count) (a .side) js → a .place c ≡ i → i < a .count → getD js i 0 ≢ border
-            → e ≢ hearer (size (land s slow)) border (seam-back a c) (c - a .unit)
-        back a {i} la at k h = none _ _ (λ z. h (la .at i (omega arith) ∙ ap (λ (p : ℕ). seam (a .count) (a .side) p) (sym at) ∙ z))
-
-        ahead : (a : Axis) {i : ℕ} {js : List ℕ} → Marked (a .count) (a .side) js → a .place c ≡ i → i < a .count → getD js (i + 1) 0 ≢ border
-            → e ≢ hearer (size (land s slow)) border (seam-on a c) (c + a .unit)
-        ahead a {i} la at k h =
-            none _ _ (λ z. h (la .at (i + 1) (omega arith) ∙ ap (λ (p : ℕ). seam (a .count) (a .side) p) (add-one i ∙ ap suc (sym at)) ∙ z))

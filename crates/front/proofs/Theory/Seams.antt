@@ -1,22 +1,25 @@
--- Seams and tiles, the same for columns and rows: neighbours across an inside seam share a tile, across a border they do not.
-use mathlib.Core.Path.{_≡_, refl, sym, ap, subst, _∙_}
-use mathlib.Core.Bool.{Bool, true, false, cond, _||_}
+-- Seams and tiles, the same for every axis: neighbours across an inside seam share a tile, across a border they do not.
+use mathlib.Core.Path.{_≡_, refl, sym, ap, ap₂, subst, _∙_}
+use mathlib.Core.Bool.{cond}
+use mathlib.Core.List.{List, [], _∷_, map}
 use mathlib.Core.Logic.{_⊎_, inl, inr, _≢_}
-use Prim.Native.Nat.{ℕ, suc, _+_, _*_, _-_, _/_, _%_, _≤_, _<_}
+use Prim.Native.Nat.{ℕ, suc, _+_, _*_, _-_, _/_, _%_, _≤_, _<_, min}
 use native.Mathlib.Omega.{arith}
 use native.Mathlib.Decide.{ℕ-discrete}
-use native.Mathlib.Nat.{suc-mod, mod-lt, mod-eq-of-lt, mod-self, div-add-mod', add-div-right, add-mod-right, div-eq-of-lt-le}
-use native.Mathlib.Numerals.{add-one}
+use native.Mathlib.Nat.{suc-mod, mod-lt, mod-mod, mod-eq-of-lt, mod-self, zero-mod, div-add-mod', div-one, add-mod-right, div-eq-of-lt-le}
 use lib.Dec.{eqb}
 use borrow.Author.Tests.{eq-eqb, ne-eqb}
-use Rattle.eikonal.specs.Board.{Board, never, size}
+use Rattle.eikonal.specs.Axes.{place, sight, Spans, Next, Near}
+use Rattle.eikonal.specs.Board.{Board, never, size, column-axis, row-axis, earlier}
 use Rattle.eikonal.specs.Tiles.{tile-of, up}
-use Rattle.eikonal.specs.Promise.{Neighbour, Beside}
+use Rattle.eikonal.specs.Promise.{Neighbour}
 use Rattle.eikonal.specs.Inner.Good.{Good}
 use Rattle.eikonal.proofs.Up.{up-some}
-use Rattle.eikonal.proofs.Grid.{next-column, wraps, below-off, above-on, above-off, column-some, row-low}
+use Rattle.eikonal.proofs.Local.{earlier-min}
+use Rattle.eikonal.proofs.Grid.{place-low, place-on, place-back, back-on, not-last, next-first, next-back, near-which, none-near}
+use Rattle.eikonal.proofs.Rule.{columns-span, rows-span}
 use Rattle.front.specs.Front.{Out, ghosted}
-use Rattle.front.specs.Seams.{Axis, column-axis, row-axis, seam-back, seam-on, edge, border, inside, seam, across, hearer, near}
+use Rattle.front.specs.Seams.{Cut, cut, cuts, seam-back, seam-on, edge, border, inside, seam, across, hearer, near-on, near}
 
 -- ---- quotients one step on
 next-same : (s x : ℕ) → 1 ≤ s → suc x % s ≢ 0 → suc x / s ≡ x / s
@@ -36,96 +39,110 @@ next-other s x l e = div-eq-of-lt-le s (omega (arith, div-add-mod' x s, full)) (
 
 -- ---- seams
 module _ (n s i : ℕ) where
-  pub seam-edge : (i ≡ 0) ⊎ (i ≡ n) → seam n s i ≡ edge
+  pub seam-edge : i % n ≡ 0 → seam n s i ≡ edge
   unfolding seam
-  seam-edge (inl e) = rw (eq-eqb i 0 e)
-  seam-edge (inr e) = rw (eq-eqb i n e) (go (eqb i 0))
-    where
-      go : (p : Bool) → cond (p || true) edge (cond (eqb (i % s) 0) border inside) ≡ edge
-      go true = refl
-      go false = refl
+  seam-edge e = rw (eq-eqb (i % n) 0 e)
 
-  pub seam-border : i ≢ 0 → i ≢ n → i % s ≡ 0 → seam n s i ≡ border
+  pub seam-border : i % n ≢ 0 → i % n % s ≡ 0 → seam n s i ≡ border
   unfolding seam
-  seam-border a b e = rw (ne-eqb i 0 a, ne-eqb i n b, eq-eqb (i % s) 0 e)
+  seam-border a e = rw (ne-eqb (i % n) 0 a, eq-eqb (i % n % s) 0 e)
 
-  pub seam-inside : i ≢ 0 → i ≢ n → i % s ≢ 0 → seam n s i ≡ inside
+  pub seam-inside : i % n ≢ 0 → i % n % s ≢ 0 → seam n s i ≡ inside
   unfolding seam
-  seam-inside a b e = rw (ne-eqb i 0 a, ne-eqb i n b, ne-eqb (i % s) 0 e)
+  seam-inside a e = rw (ne-eqb (i % n) 0 a, ne-eqb (i % n % s) 0 e)
 
--- ---- WHAT MAKES AN AXIS: one back is the place before, and one on is in the same tile unless a tile begins there
-pub record Straight (b : Board) (tw th : ℕ) (a : Axis) : Type 0 where
-  pub low : (c : ℕ) → c < size b → a .place c < a .count
-  pub unit-low : (c : ℕ) → a .place c ≢ 0 → a .unit ≤ c
-  pub back : (c : ℕ) → a .place c ≢ 0 → suc (a .place (c - a .unit)) ≡ a .place c
-  pub own : (c : ℕ) → suc (a .place c) ≢ a .count → suc (a .place c) % a .side ≢ 0 → tile-of b tw th (c + a .unit) ≡ tile-of b tw th c
-  pub apart : (c : ℕ) → suc (a .place c) ≢ a .count → suc (a .place c) % a .side ≡ 0 → tile-of b tw th (c + a .unit) ≢ tile-of b tw th c
+  -- they come round
+  pub seam-round : seam n s i ≡ seam n s (i % n)
+  unfolding seam
+  seam-round = rw mod-mod
+
+  pub seam-next : seam n s (suc i) ≡ seam n s (suc (i % n))
+  unfolding seam
+  seam-next = rw (suc-mod i n)
+
+-- ---- WHAT MAKES A CUT: one on is in the same tile unless a tile begins there
+pub record Straight (b : Board) (tw th : ℕ) (x : Cut) : Type 0 where
+  pub spans : Spans (size b) (x .axis)
+  pub own : (c : ℕ) → suc (place (x .axis) c) ≢ x .axis .count → suc (place (x .axis) c) % x .side ≢ 0
+      → tile-of b tw th (c + x .axis .unit) ≡ tile-of b tw th c
+  pub apart : (c : ℕ) → suc (place (x .axis) c) ≢ x .axis .count → suc (place (x .axis) c) % x .side ≡ 0
+      → tile-of b tw th (c + x .axis .unit) ≢ tile-of b tw th c
+
+pub data All-straight (b : Board) (tw th : ℕ) : List Cut → Type 0 where
+  none : All-straight b tw th []
+  also : {x : Cut} {xs : List Cut} → Straight b tw th x → All-straight b tw th xs → All-straight b tw th (x ∷ xs)
 
 module _ {b : Board} (good : Good b) (tw th : ℕ) (tw1 : 1 ≤ tw) (th1 : 1 ≤ th) where
-  pub columns-straight : Straight b tw th (column-axis b tw)
+  -- a step along a row keeps the row, a step down the column keeps the column
+  row-kept : (c : ℕ) → suc (place (column-axis b) c) ≢ b .wide → place (row-axis b) (c + 1) ≡ place (row-axis b) c
+  unfolding place
+  row-kept c q = ap (λ (u : ℕ). u % b .high) same
+    where
+      same : (c + 1) / b .wide ≡ c / b .wide
+      same =
+          let short : suc (c % b .wide) ≢ b .wide = λ z. q (ap (λ (u : ℕ). suc (u % b .wide)) (div-one c) ∙ z) in
+          div-eq-of-lt-le (b .wide) (omega (arith, div-add-mod' c (b .wide))) (omega (arith, div-add-mod' c (b .wide), mod-lt c (good .wide-low), short))
+
+  column-kept : (c : ℕ) → place (column-axis b) (c + b .wide) ≡ place (column-axis b) c
+  unfolding place
+  column-kept c = ap (λ (u : ℕ). u % b .wide) (div-one (c + b .wide)) ∙ add-mod-right c (b .wide) ∙ ap (λ (u : ℕ). u % b .wide) (sym (div-one c))
+
+  pub columns-straight : Straight b tw th (cut (column-axis b) tw)
   unfolding tile-of
   columns-straight = record {
-    low = λ c on. mod-lt c (good .wide-low);
-    unit-low = column-some (b .wide);
-    back = λ c q.
-        let s : suc (c - 1) ≡ c = omega (arith, column-some (b .wide) c q) in
-        let last : suc ((c - 1) % b .wide) ≢ b .wide = λ z. q (ap (λ (u : ℕ). u % b .wide) (sym s) ∙ wraps (b .wide) (c - 1) z) in
-        sym (next-column (b .wide) (c - 1) (good .wide-low) last) ∙ ap (λ (u : ℕ). u % b .wide) s;
-    own = λ c q e. tile c q ∙ ap (λ (u : ℕ). c / b .wide / th * up (b .wide) tw + u) (next-same tw (c % b .wide) tw1 e);
-    apart = λ c q e z. omega (arith, sym (tile c q) ∙ z, next-other tw (c % b .wide) tw1 e);
+    spans = columns-span good;
+    own = λ c q e. tile c q ∙ ap (λ (u : ℕ). place (row-axis b) c / th * up (b .wide) tw + u) (next-same tw (place (column-axis b) c) tw1 e);
+    apart = λ c q e z. omega (arith, sym (tile c q) ∙ z, next-other tw (place (column-axis b) c) tw1 e);
   }
     where
-      row : (c : ℕ) → suc (c % b .wide) ≢ b .wide → suc c / b .wide ≡ c / b .wide
-      row c q =
-          div-eq-of-lt-le (b .wide) (omega (arith, div-add-mod' c (b .wide))) (omega (arith, div-add-mod' c (b .wide), mod-lt c (good .wide-low), q))
+      tile : (c : ℕ) → suc (place (column-axis b) c) ≢ b .wide
+          → tile-of b tw th (c + 1) ≡ place (row-axis b) c / th * up (b .wide) tw + suc (place (column-axis b) c) / tw
+      tile c q = rw (row-kept c q, place-on (columns-span good) c q)
 
-      tile : (c : ℕ) → suc (c % b .wide) ≢ b .wide → tile-of b tw th (c + 1) ≡ c / b .wide / th * up (b .wide) tw + suc (c % b .wide) / tw
-      tile c q = rw (add-one c, row c q, next-column (b .wide) c (good .wide-low) q)
-
-  pub rows-straight : Straight b tw th (row-axis b th)
-  unfolding tile-of size
+  pub rows-straight : Straight b tw th (cut (row-axis b) th)
+  unfolding tile-of
   rows-straight = record {
-    low = λ c on. row-low (b .wide) (b .high) c (good .wide-low) on;
-    unit-low = above-on (b .wide);
-    back = λ c q.
-        let s : c - b .wide + b .wide ≡ c = omega (arith, above-on (b .wide) c q) in
-        sym (row (c - b .wide)) ∙ ap (λ (u : ℕ). u / b .wide) s;
-    own = λ c q e. tile c ∙ ap (λ (u : ℕ). u * up (b .wide) tw + c % b .wide / tw) (next-same th (c / b .wide) th1 e);
+    spans = rows-span good;
+    own = λ c q e. tile c q ∙ ap (λ (u : ℕ). u * up (b .wide) tw + place (column-axis b) c / tw) (next-same th (place (row-axis b) c) th1 e);
     apart = λ c q e z.
-        omega (arith, up-some (b .wide) tw tw1 (good .wide-low), sym (tile c) ∙ z, ap (λ (u : ℕ). u * up (b .wide) tw) (next-other th (c / b .wide) th1 e));
+        omega (arith, up-some (b .wide) tw tw1 (good .wide-low), sym (tile c q) ∙ z, ap (λ (u : ℕ). u * up (b .wide) tw) (next-other th (place (row-axis b) c) th1 e));
   }
     where
-      row : (c : ℕ) → (c + b .wide) / b .wide ≡ suc (c / b .wide)
-      row c = omega (arith, add-div-right c (good .wide-low))
+      tile : (c : ℕ) → suc (place (row-axis b) c) ≢ b .high
+          → tile-of b tw th (c + b .wide) ≡ suc (place (row-axis b) c) / th * up (b .wide) tw + place (column-axis b) c / tw
+      tile c q = rw (place-on (rows-span good) c q, column-kept c)
 
-      tile : (c : ℕ) → tile-of b tw th (c + b .wide) ≡ suc (c / b .wide) / th * up (b .wide) tw + c % b .wide / tw
-      tile c = rw (row c, add-mod-right c (b .wide))
+  pub all-straight : All-straight b tw th (cuts b tw th)
+  all-straight = also columns-straight (also rows-straight none)
 
 -- ---- what lies between a cell and a neighbour
 data Kind (b : Board) (tw th : ℕ) (s c e : ℕ) : Type 0 where
   own : s ≡ inside → tile-of b tw th c ≡ tile-of b tw th e → Kind b tw th s c e
   apart : s ≡ border → tile-of b tw th c ≢ tile-of b tw th e → Kind b tw th s c e
 
-module _ {b : Board} {tw th : ℕ} {a : Axis} (st : Straight b tw th a) (c : ℕ) where
-  on-kind : suc (a .place c) ≢ a .count → Kind b tw th (seam-on a c) c (c + a .unit)
-  on-kind q = elim (ℕ-discrete (suc (a .place c) % a .side) 0) [
-    | yes z ↦ apart (seam-border (a .count) (a .side) (suc (a .place c)) (λ r. omega arith) q z) (λ r. st .apart c q z (sym r))
-    | no z ↦ own (seam-inside (a .count) (a .side) (suc (a .place c)) (λ r. omega arith) q z) (sym (st .own c q z))
-  ]
+module _ {b : Board} {tw th : ℕ} {x : Cut} (st : Straight b tw th x) (c : ℕ) where
+  on-kind : suc (place (x .axis) c) ≢ x .axis .count → Kind b tw th (seam-on x c) c (c + x .axis .unit)
+  on-kind q =
+      let i = suc (place (x .axis) c) in
+      let low : i % x .axis .count ≡ i = mod-eq-of-lt (omega (arith, place-low (st .spans) c, q)) in
+      elim (ℕ-discrete (i % x .side) 0) [
+        | yes z ↦ apart (seam-border (x .axis .count) (x .side) i (λ r. omega (arith, low)) (ap (λ (u : ℕ). u % x .side) low ∙ z)) (λ r. st .apart c q z (sym r))
+        | no z ↦ own (seam-inside (x .axis .count) (x .side) i (λ r. omega (arith, low)) (λ r. z (ap (λ (u : ℕ). u % x .side) (sym low) ∙ r))) (sym (st .own c q z))
+      ]
 
-module _ {b : Board} {tw th : ℕ} {a : Axis} (st : Straight b tw th a) (c : ℕ) (on : c < size b) where
+module _ {b : Board} {tw th : ℕ} {x : Cut} (st : Straight b tw th x) (c : ℕ) where
   turned : {s d e : ℕ} → Kind b tw th s e d → Kind b tw th s d e
   turned (own p q) = own p (sym q)
   turned (apart p q) = apart p (λ r. q (sym r))
 
   -- the cell is its neighbour's next one
-  back-kind : a .place c ≢ 0 → Kind b tw th (seam-back a c) c (c - a .unit)
+  back-kind : place (x .axis) c ≢ 0 → Kind b tw th (seam-back x c) c (c - x .axis .unit)
   back-kind q =
-      let s : c - a .unit + a .unit ≡ c = omega (arith, st .unit-low c q) in
-      let last : suc (a .place (c - a .unit)) ≢ a .count = λ z. omega (arith, st .low c on, st .back c q) in
+      let d = c - x .axis .unit in
       turned
-      (subst (λ u. Kind b tw th (seam-back a c) (c - a .unit) u) s
-      (subst (λ u. Kind b tw th (seam (a .count) (a .side) u) (c - a .unit) (c - a .unit + a .unit)) (st .back c q) (on-kind st (c - a .unit) last)))
+      (subst (λ u. Kind b tw th (seam-back x c) d u) (back-on (st .spans) c q)
+      (subst (λ u. Kind b tw th (seam (x .axis .count) (x .side) u) d (d + x .axis .unit)) (place-back (st .spans) c q)
+      (on-kind st d (not-last (st .spans) c q))))
 
   -- ---- WHAT IS SEEN across a cell's seams is what the rule sees there
   module _ (g : ℕ → ℕ → ℕ) (f : ℕ → ℕ) where
@@ -138,25 +155,28 @@ module _ {b : Board} {tw th : ℕ} {a : Axis} (st : Straight b tw th a) (c : ℕ
     unfolding across
     across-edge s e p = rw p
 
-    pub sees-back : across (seam-back a c) (f (c - a .unit)) (g c (c - a .unit)) ≡ cond (eqb (a .place c) 0) never (ghosted b tw th g f c (c - a .unit))
-    sees-back = elim (ℕ-discrete (a .place c) 0) [
-      | yes q ↦ rw (eq-eqb (a .place c) 0 q) (across-edge _ (c - a .unit) (seam-edge (a .count) (a .side) (a .place c) (inl q)))
-      | no q ↦ rw (ne-eqb (a .place c) 0 q) (across-kind _ (c - a .unit) (back-kind q))
+    sees-back : across (seam-back x c) (f (c - x .axis .unit)) (g c (c - x .axis .unit))
+        ≡ cond (eqb (place (x .axis) c) 0) never (ghosted b tw th g f c (c - x .axis .unit))
+    sees-back = elim (ℕ-discrete (place (x .axis) c) 0) [
+      | yes q ↦ rw (eq-eqb (place (x .axis) c) 0 q)
+          (across-edge _ (c - x .axis .unit) (seam-edge (x .axis .count) (x .side) (place (x .axis) c) (ap (λ (u : ℕ). u % x .axis .count) q ∙ zero-mod (x .axis .count))))
+      | no q ↦ rw (ne-eqb (place (x .axis) c) 0 q) (across-kind _ (c - x .axis .unit) (back-kind q))
     ]
 
-    pub sees-on :
-        across (seam-on a c) (f (c + a .unit)) (g c (c + a .unit)) ≡ cond (eqb (suc (a .place c)) (a .count)) never (ghosted b tw th g f c (c + a .unit))
-    sees-on = elim (ℕ-discrete (suc (a .place c)) (a .count)) [
-      | yes q ↦ rw (eq-eqb (suc (a .place c)) (a .count) q) (across-edge _ (c + a .unit) (seam-edge (a .count) (a .side) (suc (a .place c)) (inr q)))
-      | no q ↦ rw (ne-eqb (suc (a .place c)) (a .count) q) (across-kind _ (c + a .unit) (on-kind st c q))
+    sees-on : across (seam-on x c) (f (c + x .axis .unit)) (g c (c + x .axis .unit))
+        ≡ cond (eqb (suc (place (x .axis) c)) (x .axis .count)) never (ghosted b tw th g f c (c + x .axis .unit))
+    sees-on = elim (ℕ-discrete (suc (place (x .axis) c)) (x .axis .count)) [
+      | yes q ↦ rw (eq-eqb (suc (place (x .axis) c)) (x .axis .count) q)
+          (across-edge _ (c + x .axis .unit) (seam-edge (x .axis .count) (x .side) (suc (place (x .axis) c)) (ap (λ (u : ℕ). u % x .axis .count) q ∙ mod-self (x .axis .count))))
+      | no q ↦ rw (ne-eqb (suc (place (x .axis) c)) (x .axis .count) q) (across-kind _ (c + x .axis .unit) (on-kind st c q))
     ]
 
--- ---- WHO HEARS: which neighbour of c on an axis d is
-data Met (a : Axis) (c d : ℕ) : Type 0 where
-  behind : a .place c ≢ 0 → c - a .unit ≡ d → Met a c d
-  ahead : suc (a .place c) ≢ a .count → c + a .unit ≡ d → Met a c d
+    pub sees : {l r : ℕ} → l ≡ across (seam-back x c) (f (c - x .axis .unit)) (g c (c - x .axis .unit))
+        → r ≡ across (seam-on x c) (f (c + x .axis .unit)) (g c (c + x .axis .unit)) → min l r ≡ sight (x .axis) c (ghosted b tw th g f c)
+    unfolding sight
+    sees p q = sym (earlier-min _ _) ∙ ap₂ earlier (p ∙ sees-back) (q ∙ sees-on)
 
--- a seam to d that is not of the given kind
+-- ---- WHO HEARS: a seam to d that is not of the given kind
 data Unlike (b : Board) (tw th k c d : ℕ) : Type 0 where
   by : {s : ℕ} → Kind b tw th s c d → s ≢ k → Unlike b tw th k c d
 
@@ -164,31 +184,28 @@ hit : (n k s d e : ℕ) → d ≢ hearer n k s e → e ≡ d → s ≢ k
 unfolding hearer
 hit n k s d e o q z = o (sym q ∙ sym (rw (eq-eqb s k z)))
 
-module _ {b : Board} {tw th : ℕ} {a : Axis} (st : Straight b tw th a) (k c d : ℕ) (on : c < size b) where
-  unlike : Met a c d → d ≢ hearer (size b) k (seam-back a c) (c - a .unit) → d ≢ hearer (size b) k (seam-on a c) (c + a .unit) → Unlike b tw th k c d
-  unlike (behind q e) o p = by (subst (λ u. Kind b tw th (seam-back a c) c u) e (back-kind st c on q)) (hit (size b) k _ d _ o e)
-  unlike (ahead q e) o p = by (subst (λ u. Kind b tw th (seam-on a c) c u) e (on-kind st c q)) (hit (size b) k _ d _ p e)
+module _ {b : Board} {tw th : ℕ} (k c d : ℕ) where
+  unlike : {x : Cut} → Straight b tw th x → Next (x .axis) d c ⊎ Next (x .axis) c d → d ≢ hearer (size b) k (seam-back x c) (c - x .axis .unit)
+      → d ≢ hearer (size b) k (seam-on x c) (c + x .axis .unit) → Unlike b tw th k c d
+  unlike {x} st (inl n) o p =
+      let e = next-back (st .spans) n in
+      by (subst (λ u. Kind b tw th (seam-back x c) c u) e (back-kind st c (next-first (st .spans) n))) (hit (size b) k _ d _ o e)
+  unlike {x} st (inr n) o p = by (subst (λ u. Kind b tw th (seam-on x c) c u) (n .step) (on-kind st c (n .inner))) (hit (size b) k _ d _ p (n .step))
 
-module _ {b : Board} (good : Good b) (tw th : ℕ) (tw1 : 1 ≤ tw) (th1 : 1 ≤ th) (c d : ℕ) (on : c < size b) (d-on : d < size b) where
-  -- columns or rows
-  which : Neighbour b d c → Met (column-axis b tw) c d ⊎ Met (row-axis b th) c d
-  unfolding Neighbour Beside size
-  which (inl (inl (p, q))) = inl (behind q (omega arith))
-  which (inl (inr p)) = inr (behind (λ z. omega (arith, above-off (b .wide) c (good .wide-low) z)) (omega arith))
-  which (inr (inl (p, q))) = inl (ahead (λ z. q (ap (λ (u : ℕ). u % b .wide) (sym p) ∙ wraps (b .wide) c z)) (add-one c ∙ p))
-  which (inr (inr p)) = inr (ahead (λ z. omega (arith, below-off (b .wide) (b .high) c z)) p)
-
-  untold : (k : ℕ) → Neighbour b d c → Out d (near b tw th k c) → Unlike b tw th k c d
-  unfolding near
-  untold k n o = go (which n)
+  untold : (xs : List Cut) → All-straight b tw th xs → Near (map (λ x. x .axis) xs) d c → Out d (near-on xs (size b) k c) → Unlike b tw th k c d
+  untold [] none n o = absurd (none-near [] refl n)
+  untold (x ∷ xs) (also st ss) n o = go (near-which n) (untold xs ss)
     where
-      go : Met (column-axis b tw) c d ⊎ Met (row-axis b th) c d → Unlike b tw th k c d
-      go (inl m) = unlike (columns-straight good tw th tw1 th1) k c d on m (o .0) (o .1 .0)
-      go (inr m) = unlike (rows-straight good tw th tw1 th1) k c d on m (o .1 .1 .0) (o .1 .1 .1 .0)
+      go : (Next (x .axis) d c ⊎ Next (x .axis) c d) ⊎ Near (map (λ x. x .axis) xs) d c
+          → (Near (map (λ x. x .axis) xs) d c → Out d (near-on xs (size b) k c) → Unlike b tw th k c d) → Unlike b tw th k c d
+      go (inl m) next = unlike st m (o .0) (o .1 .0)
+      go (inr m) next = next m (o .1 .1)
 
+module _ {b : Board} (good : Good b) (tw th : ℕ) (tw1 : 1 ≤ tw) (th1 : 1 ≤ th) (c d : ℕ) where
   -- a neighbour that is not told within the tile is of another tile
   pub untold-inside : Neighbour b d c → Out d (near b tw th inside c) → tile-of b tw th d ≢ tile-of b tw th c
-  untold-inside n o = go (untold inside n o)
+  unfolding near
+  untold-inside n o = go (untold inside c d _ (all-straight good tw th tw1 th1) n o)
     where
       go : Unlike b tw th inside c d → tile-of b tw th d ≢ tile-of b tw th c
       go (by (own p q) z) = absurd (z p)
@@ -196,7 +213,8 @@ module _ {b : Board} (good : Good b) (tw th : ℕ) (tw1 : 1 ≤ tw) (th1 : 1 ≤
 
   -- and one that is not told across a border is of the same tile
   pub untold-border : Neighbour b d c → Out d (near b tw th border c) → tile-of b tw th d ≡ tile-of b tw th c
-  untold-border n o = go (untold border n o)
+  unfolding near
+  untold-border n o = go (untold border c d _ (all-straight good tw th tw1 th1) n o)
     where
       go : Unlike b tw th border c d → tile-of b tw th d ≡ tile-of b tw th c
       go (by (own p q) z) = sym q

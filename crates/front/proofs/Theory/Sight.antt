@@ -8,7 +8,8 @@ use Rattle.eikonal.specs.Board.{Board, never, size, slowness}
 use Rattle.eikonal.specs.Tiles.{tile-of}
 use Rattle.eikonal.specs.Promise.{Neighbour}
 use Rattle.eikonal.specs.Inner.Good.{Good}
-use Rattle.eikonal.proofs.Neighbours.{arrival-agree, arrival-under, arrival-same, arrival-wall, arrival-late}
+use Rattle.eikonal.proofs.Rule.{arrival-agree, arrival-under, arrival-same}
+use Rattle.eikonal.proofs.Walls.{arrival-wall, arrival-late}
 use Rattle.front.specs.Front.{ghosted, gives}
 use Rattle.front.proofs.Theory.Front.{Lawful}
 
@@ -49,7 +50,7 @@ module _ {b : Board} (good : Good b) (tw th : ℕ) where
   gives-same g g' c l f f' h = ap (min never) (arrival-same good c l (ghosted b tw th g f c) (ghosted b tw th g' f' c) h)
 
   pub gives-wall : (g : ℕ → ℕ → ℕ) (c : ℕ) (f : ℕ → ℕ) → slowness b c ≡ 0 → gives b tw th g c f ≡ never
-  gives-wall g c f w = rw (arrival-wall b c (ghosted b tw th g f c) w)
+  gives-wall g c f w = rw (arrival-wall good c (ghosted b tw th g f c) w)
 
   pub gives-late : (g : ℕ → ℕ → ℕ) (c : ℕ) (f : ℕ → ℕ) → 1 ≤ gives b tw th g c f
-  gives-late g c f = omega (arith, arrival-late b c (ghosted b tw th g f c))
+  gives-late g c f = omega (arith, arrival-late good c (ghosted b tw th g f c))

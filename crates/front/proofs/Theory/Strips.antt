@@ -5,16 +5,17 @@ use mathlib.Core.List.{List, []}
 use Prim.Native.Nat.{ℕ, suc, _+_, _*_, _/_, _%_, _≤_, _<_, min}
 use native.Mathlib.Omega.{arith}
 use native.Mathlib.Decide.{ℕ-discrete}
-use native.Mathlib.Nat.{mul-le-mul-right, mul-comm, div-add-mod', mod-lt, zero-mod, add-mod-right}
+use native.Mathlib.Nat.{mul-le-mul-right, mul-comm, div-add-mod', div-one, mod-lt, mod-eq-of-lt, mod-self, zero-mod, add-mod-right}
 use borrow.Author.Tests.{eq-eqb, ne-eqb}
-use Rattle.eikonal.specs.Board.{never, size}
+use Rattle.eikonal.specs.Axes.{place}
+use Rattle.eikonal.specs.Board.{never, size, column-axis, row-axis}
 use Rattle.eikonal.specs.Tiles.{tile-of, counts-as}
 use Rattle.eikonal.specs.Promise.{Neighbour}
 use Rattle.eikonal.specs.Inner.Clip.{clip}
 use Rattle.eikonal.proofs.Levels.{order}
 use Rattle.one_tile.proofs.March.{same-tile}
 use Rattle.front.specs.Front.{Among, among, ghosted, heard, Out, Midway, Upheld}
-use Rattle.front.specs.Seams.{seam, inside, hearer, near}
+use Rattle.front.specs.Seams.{seam, seam-back, seam-on, cut, inside, hearer, near}
 use Rattle.front.specs.Board.{land, rule-at, tentative, Work, keys, Ground}
 use Rattle.front.specs.State.{Held, Told, all, Placed, Gathered, Ready, Apart, Ready-among, Drained, Inner, Woken, Parted, Worked}
 use Rattle.front.specs.declared.Shape.{Shape}
@@ -50,7 +51,7 @@ module _ {s : Shape} {slow ts cols rows : List ℕ} (gr : Ground s slow ts cols 
     -- a neighbour in the same tile is one of them
     same-tile-in : (c e : ℕ) → Among lo hi c → e < size (land s slow) → Neighbour (land s slow) c e → tile c ≡ tile e → Among lo hi e
     same-tile-in c e i l nb q = ⊎-elim (λ j. j)
-        (λ o. absurd (untold-inside (gr .good) (s .across) (s .down) (gr .across) (gr .down) c e (on c i) l (swapped (land s slow) c e nb)
+        (λ o. absurd (untold-inside (gr .good) (s .across) (s .down) (gr .across) (gr .down) c e (swapped (land s slow) c e nb)
         (apart c e i (omega (arith, cells-size gr)) o) (sym q)))
         (which lo hi e)
 
@@ -183,18 +184,16 @@ module _ {s : Shape} {slow ts cols rows : List ℕ} (gr : Ground s slow ts cols 
         stop (inl l) = l
         stop (inr l) = absurd (omega (arith, parts, mul-le-mul-right w l))
 
-    inner-seam : (count side i : ℕ) → seam count side i ≡ inside → (i ≢ 0) × (i ≢ count)
-    inner-seam count side i q = ((λ z. edge≢ (inl z)), (λ z. edge≢ (inr z)))
-      where
-        edge≢ : (i ≡ 0) ⊎ (i ≡ count) → ⊥
-        edge≢ z = omega (arith, sym q ∙ seam-edge count side i z)
+    -- before and behind an inside seam there are cells
+    inner-back : (n k i : ℕ) → seam n k i ≡ inside → i % n ≢ 0
+    inner-back n k i q z = omega (arith, sym q ∙ seam-edge n k i z)
 
     pub parted-apart : Apart s slow (from * w) (end * w)
-    unfolding near
+    unfolding place near
     parted-apart c d i l o = (
-      out _ _ (λ q. let p = inner-seam _ _ _ q in (omega (arith, row, p), omega arith)),
+      out _ _ (λ q. let p = inner-back w (s .across) _ q in (omega (arith, row, left p), omega arith)),
       (
-        out _ _ (λ q. let p = inner-seam _ _ _ q in (omega arith, omega (arith, row, p, mod-lt c (gr .good .wide-low), low-end))),
+        out _ _ (λ q. let p = inner-back w (s .across) _ q in (omega arith, omega (arith, row, right p, low-end))),
         (
           out _ _ (λ q. (omega (arith, parts, mul-le-mul-right w (above q)), omega arith)),
           (out _ _ (λ q. (omega arith, omega (arith, parts, mod-lt c (gr .good .wide-low), mul-le-mul-right w (below q)))), tt),
@@ -214,15 +213,34 @@ module _ {s : Shape} {slow ts cols rows : List ℕ} (gr : Ground s slow ts cols 
         low-end : suc (c / w) * w ≤ end * w
         low-end = mul-le-mul-right w (at .1)
 
-        above : seam (s .height) (s .down) (c / w) ≡ inside → suc from ≤ c / w
+        -- the cell's places are its column and its row
+        column-is : place (column-axis (land s slow)) c ≡ c % w
+        column-is = ap (λ (u : ℕ). u % w) (div-one c)
+
+        line-is : place (row-axis (land s slow)) c ≡ c / w
+        line-is = mod-eq-of-lt (omega (arith, at, pa .fits))
+
+        left : place (column-axis (land s slow)) c % w ≢ 0 → 1 ≤ c % w
+        left p = elim (ℕ-discrete (c % w) 0) [
+          | yes z ↦ absurd (p (ap (λ (u : ℕ). u % w) (column-is ∙ z) ∙ zero-mod w))
+          | no z ↦ omega arith
+        ]
+
+        right : suc (place (column-axis (land s slow)) c) % w ≢ 0 → suc (c % w) < w
+        right p = elim (ℕ-discrete (suc (c % w)) w) [
+          | yes z ↦ absurd (p (ap (λ (u : ℕ). suc u % w) column-is ∙ ap (λ (u : ℕ). u % w) z ∙ mod-self w))
+          | no z ↦ omega (arith, mod-lt c (gr .good .wide-low))
+        ]
+
+        above : seam-back (cut (row-axis (land s slow)) (s .down)) c ≡ inside → suc from ≤ c / w
         above q = elim (ℕ-discrete (c / w) from) [
-          | yes z ↦ absurd (pa .before (ap (λ (u : ℕ). seam (s .height) (s .down) u) (sym z) ∙ q))
+          | yes z ↦ absurd (pa .before (ap (λ (u : ℕ). seam (s .height) (s .down) u) (sym z ∙ sym line-is) ∙ q))
           | no z ↦ omega (arith, at)
         ]
 
-        below : seam (s .height) (s .down) (suc (c / w)) ≡ inside → suc (suc (c / w)) ≤ end
+        below : seam-on (cut (row-axis (land s slow)) (s .down)) c ≡ inside → suc (suc (c / w)) ≤ end
         below q = elim (ℕ-discrete (suc (c / w)) end) [
-          | yes z ↦ absurd (pa .behind (ap (λ (u : ℕ). seam (s .height) (s .down) u) (sym z) ∙ q))
+          | yes z ↦ absurd (pa .behind (ap (λ (u : ℕ). seam (s .height) (s .down) u) (sym z ∙ ap suc (sym line-is)) ∙ q))
           | no z ↦ omega (arith, at)
         ]
 
@@ -238,7 +256,7 @@ module _ {s : Shape} {slow ts cols rows : List ℕ} (gr : Ground s slow ts cols 
 
   -- ---- rows of tiles, from the top
   pub top-parted : seam (s .height) (s .down) 0 ≢ inside
-  top-parted q = omega (arith, sym q ∙ seam-edge (s .height) (s .down) 0 (inl refl))
+  top-parted q = omega (arith, sym q ∙ seam-edge (s .height) (s .down) 0 (zero-mod (s .height)))
 
   -- the next of them
   module _ {row : ℕ} (l : row < s .height) (first : seam (s .height) (s .down) row ≢ inside) where
@@ -248,8 +266,12 @@ module _ {s : Shape} {slow ts cols rows : List ℕ} (gr : Ground s slow ts cols 
     whole : row % s .down ≡ 0
     whole = elim (ℕ-discrete (row % s .down) 0) [
       | yes q ↦ q
-      | no q ↦ absurd (first (seam-inside (s .height) (s .down) row (λ z. q (ap (λ (u : ℕ). u % s .down) z ∙ zero-mod (s .down))) (λ z. omega arith) q))
+      | no q ↦ absurd (first (seam-inside (s .height) (s .down) row
+          (λ z. q (ap (λ (u : ℕ). u % s .down) (sym low ∙ z) ∙ zero-mod (s .down))) (λ z. q (ap (λ (u : ℕ). u % s .down) (sym low) ∙ z))))
     ]
+      where
+        low : row % s .height ≡ row
+        low = mod-eq-of-lt l
 
     pub next-parted : Parted s row end
     next-parted = record {
@@ -262,10 +284,13 @@ module _ {s : Shape} {slow ts cols rows : List ℕ} (gr : Ground s slow ts cols 
         go : seam (s .height) (s .down) end ≡ inside → (row + s .down < s .height) ⊎ (s .height ≤ row + s .down) → ⊥
         go q (inl h) =
             let at : end ≡ row + s .down = omega arith in
-            let tiles = add-mod-right row (s .down) ∙ whole in
-            let is = seam-border (s .height) (s .down) (row + s .down) (λ z. omega (arith, gr .down)) (λ z. omega arith) tiles in
+            let low : (row + s .down) % s .height ≡ row + s .down = mod-eq-of-lt h in
+            let tiles = ap (λ (u : ℕ). u % s .down) low ∙ add-mod-right row (s .down) ∙ whole in
+            let is = seam-border (s .height) (s .down) (row + s .down) (λ z. omega (arith, low, gr .down)) tiles in
             omega (arith, sym q ∙ ap (λ (u : ℕ). seam (s .height) (s .down) u) at ∙ is)
-        go q (inr h) = omega (arith, sym q ∙ seam-edge (s .height) (s .down) end (inr (omega arith)))
+        go q (inr h) =
+            let last : end ≡ s .height = omega arith in
+            omega (arith, sym q ∙ seam-edge (s .height) (s .down) end (ap (λ (u : ℕ). u % s .height) last ∙ mod-self (s .height)))
 
     -- and the rows before it
     pub first-parted : Parted s 0 row
@@ -277,7 +302,7 @@ module _ {s : Shape} {slow ts cols rows : List ℕ} (gr : Ground s slow ts cols 
     cells = [];
     told = all g;
     within = λ c o. tt;
-    inner = λ c i o e l nb. same-tile (land s slow) (gr .good) (s .across) (s .down) wide high c e (omega (arith, cells-size gr)) l;
+    inner = λ c i o e l nb. same-tile (land s slow) (gr .good) (s .across) (s .down) wide high c e;
   }
 
   pub all-apart : Apart s slow 0 n

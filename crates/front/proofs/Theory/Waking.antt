@@ -36,7 +36,6 @@ out-both c [] fs o p = p
 out-both c (e ∷ es) fs o p = (o .0, out-both c es fs (o .1) p)
 
 pub swapped : (b : Board) (c e : ℕ) → Neighbour b c e → Neighbour b e c
-unfolding Neighbour
 swapped b c e (inl p) = inr p
 swapped b c e (inr p) = inl p
 
@@ -46,7 +45,7 @@ module _ {s : Shape} {slow ts cols rows : List ℕ} (gr : Ground s slow ts cols 
       → least-seam cols rows row col ≡ inside
       → Inner (land s slow) (s .across) (s .down) c
   seams-inside me {c} si q e l nb =
-      sym (untold-border (gr .good) (s .across) (s .down) (gr .across) (gr .down) c e (omega (arith, si .on, me .cells, cells-size gr)) l
+      sym (untold-border (gr .good) (s .across) (s .down) (gr .across) (gr .down) c e
       (swapped (land s slow) c e nb) (near-out gr me si q e l))
 
   -- ---- all but inner cells from lo on and below k have heard, and then the cell k is seen to

@@ -6,21 +6,22 @@ use mathlib.Core.List.{List, [], _∷_}
 use Prim.Native.Nat.{ℕ, zero, suc, _+_, _*_, _-_, _/_, _%_, _≤_, _<_, min}
 use native.Mathlib.Omega.{arith}
 use native.Mathlib.Decide.{ℕ-discrete}
-use native.Mathlib.Nat.{mod-lt, div-add-mod', div-le-self, mul-le-mul, mul-le-mul-right, div-eq-of-lt-le, mul-add-mod-self-right, mod-eq-of-lt}
+use native.Mathlib.Nat.{mod-lt, div-add-mod', div-one, div-le-self, mul-comm, mul-le-mul, mul-le-mul-right, div-eq-of-lt-le, mul-add-mod-self-right, mod-eq-of-lt}
 use native.Mathlib.Numerals.{add-one}
 use lib.Dec.{eqb}
 use lib.ListN.{length, getD, take, drop}
 use lib.Seq.{take-length, getD-take, getD-drop}
 use borrow.Author.Tests.{eqb-true}
 use borrow.Rule.Slice.PartMut.{midOf, mid-len}
-use Rattle.eikonal.specs.Board.{Board}
+use Rattle.eikonal.specs.Axes.{place}
+use Rattle.eikonal.specs.Board.{Board, column-axis, row-axis}
 use Rattle.eikonal.specs.Tiles.{up, tile-of, tile-count}
 use Rattle.eikonal.specs.Refusals.{member, all-there, order-good}
 use Rattle.eikonal.specs.Inner.Clip.{clip}
 use Rattle.eikonal.proofs.Levels.{order}
 use Rattle.eikonal.proofs.Up.{up-short, up-past, up-some}
 use Rattle.eikonal.proofs.Good.{and-true}
-use Rattle.eikonal.proofs.Grid.{row-low}
+use Rattle.eikonal.proofs.Grid.{quotient-low}
 use Rattle.front.specs.Board.{land}
 use Rattle.rows.specs.Lists.{due}
 use Rattle.rows.specs.Rows.{Entered, Block, tile-in, Fitting, Wrote}
@@ -116,39 +117,58 @@ corner {s} r tile =
 
 -- ---- tiles of a board
 module _ (b : Board) (tw th : ℕ) (wide : 1 ≤ b .wide) (tw1 : 1 ≤ tw) (th1 : 1 ≤ th) (c : ℕ) where
-  column-low : c % b .wide / tw < up (b .wide) tw
-  column-low = up-past (b .wide) tw tw1 (c % b .wide) (mod-lt c wide)
+  abbrev row : ℕ
+  row = place (row-axis b) c
 
-  tile-across : tile-of b tw th c % up (b .wide) tw ≡ c % b .wide / tw
+  abbrev column : ℕ
+  column = place (column-axis b) c
+
+  column-low : column / tw < up (b .wide) tw
+  unfolding place
+  column-low = up-past (b .wide) tw tw1 column (mod-lt (c / 1) wide)
+
+  tile-across : tile-of b tw th c % up (b .wide) tw ≡ column / tw
   unfolding tile-of
-  tile-across = mul-add-mod-self-right (c / b .wide / th) (up (b .wide) tw) (c % b .wide / tw) ∙ mod-eq-of-lt column-low
+  tile-across = mul-add-mod-self-right (row / th) (up (b .wide) tw) (column / tw) ∙ mod-eq-of-lt column-low
 
-  tile-down : tile-of b tw th c / up (b .wide) tw ≡ c / b .wide / th
+  tile-down : tile-of b tw th c / up (b .wide) tw ≡ row / th
   unfolding tile-of
   tile-down = div-eq-of-lt-le (up (b .wide) tw) (omega arith) (omega (arith, column-low))
 
   -- a cell lies in the rows and columns of its tile, up to the board's edge
-  pub in-tile : c < b .wide * b .high → {tile bottom right : ℕ} → bottom ≡ min (tile / up (b .wide) tw * th + th) (b .high)
-      → right ≡ min (tile % up (b .wide) tw * tw + tw) (b .wide)
-      → tile-of b tw th c ≡ tile → Block (b .wide) (tile / up (b .wide) tw * th) bottom (tile % up (b .wide) tw * tw) right c
-  in-tile on {tile} {bottom} {right} eb er e = record {
-    top-most = omega (arith, top, quotient-from (c / b .wide) th);
-    bottom-most = omega (arith, top, quotient-to (c / b .wide) th th1, row-low (b .wide) (b .high) c wide on);
-    left-most = omega (arith, left, quotient-from (c % b .wide) tw);
-    right-most = omega (arith, left, quotient-to (c % b .wide) tw tw1, mod-lt c wide);
-  }
-    where
-      top : tile / up (b .wide) tw * th ≡ c / b .wide / th * th
-      top = ap (λ (u : ℕ). u * th) (ap (λ (u : ℕ). u / up (b .wide) tw) (sym e) ∙ tile-down)
+  module _ (on : c < b .wide * b .high) where
+    row-is : row ≡ c / b .wide
+    unfolding place
+    row-is = mod-eq-of-lt (quotient-low c (b .wide) (b .high) (omega (arith, mul-comm (b .wide) (b .high))))
 
-      left : tile % up (b .wide) tw * tw ≡ c % b .wide / tw * tw
-      left = ap (λ (u : ℕ). u * tw) (ap (λ (u : ℕ). u % up (b .wide) tw) (sym e) ∙ tile-across)
+    column-is : column ≡ c % b .wide
+    unfolding place
+    column-is = ap (λ (u : ℕ). u % b .wide) (div-one c)
 
-  tile-low : c < b .wide * b .high → tile-of b tw th c < tile-count b tw th
-  unfolding tile-of tile-count
-  tile-low on =
-      let row : suc (c / b .wide / th) ≤ up (b .high) th = up-past (b .high) th th1 (c / b .wide) (row-low (b .wide) (b .high) c wide on) in
-      omega (arith, column-low, mul-le-mul-right (up (b .wide) tw) row)
+    row-low : row < b .high
+    row-low = omega (arith, row-is, quotient-low c (b .wide) (b .high) (omega (arith, mul-comm (b .wide) (b .high))))
+
+    pub in-tile : {tile bottom right : ℕ} → bottom ≡ min (tile / up (b .wide) tw * th + th) (b .high)
+        → right ≡ min (tile % up (b .wide) tw * tw + tw) (b .wide)
+        → tile-of b tw th c ≡ tile → Block (b .wide) (tile / up (b .wide) tw * th) bottom (tile % up (b .wide) tw * tw) right c
+    in-tile {tile} {bottom} {right} eb er e = record {
+      top-most = omega (arith, row-is, top, quotient-from row th);
+      bottom-most = omega (arith, row-is, top, quotient-to row th th1, row-low);
+      left-most = omega (arith, column-is, left, quotient-from column tw);
+      right-most = omega (arith, column-is, left, quotient-to column tw tw1, mod-lt c wide);
+    }
+      where
+        top : tile / up (b .wide) tw * th ≡ row / th * th
+        top = ap (λ (u : ℕ). u * th) (ap (λ (u : ℕ). u / up (b .wide) tw) (sym e) ∙ tile-down)
+
+        left : tile % up (b .wide) tw * tw ≡ column / tw * tw
+        left = ap (λ (u : ℕ). u * tw) (ap (λ (u : ℕ). u % up (b .wide) tw) (sym e) ∙ tile-across)
+
+    tile-low : tile-of b tw th c < tile-count b tw th
+    unfolding tile-of tile-count
+    tile-low =
+        let last : suc (row / th) ≤ up (b .high) th = up-past (b .high) th th1 row row-low in
+        omega (arith, column-low, mul-le-mul-right (up (b .wide) tw) last)
 
 -- ---- orders
 or-true : (p q : Bool) → p || q ≡ true → (p ≡ true) ⊎ (q ≡ true)

@@ -20,10 +20,10 @@ abbrev finished : tie.After-fill-arg → tie.After-finish
 finished c = c .before .before .before
 
 lay-requires : tie.Need-lay-requires
-lay-requires c κs = let f = c .before .before .before .pre .0 .fit in (f .across-low, f .good .wide-high)
+lay-requires c κs = let f = c .before .before .before .pre .0 .fit in (f .across-low, f .good .wide-low, f .good .wide-high)
 
 lay-requires-2 : tie.Need-lay-requires-2
-lay-requires-2 c κs = let f = c .before .before .before .before .pre .0 .fit in (f .down-low, f .good .high-high)
+lay-requires-2 c κs = let f = c .before .before .before .before .pre .0 .fit in (f .down-low, f .good .high-low, f .good .high-high)
 
 drain-tile-requires : tie.Need-drain-tile-requires
 drain-tile-requires c κs =

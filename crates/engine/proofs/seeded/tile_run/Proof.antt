@@ -27,10 +27,10 @@ fill-requires : tie.Need-fill-requires
 fill-requires c κs = (omega arith, omega (arith, c .before .before .before .before .pre .0 .fit .many))
 
 lay-requires : tie.Need-lay-requires
-lay-requires c κs = let f = start (c .before .before) .pre .0 .fit in (f .across-low, f .good .wide-high)
+lay-requires c κs = let f = start (c .before .before) .pre .0 .fit in (f .across-low, f .good .wide-low, f .good .wide-high)
 
 lay-requires-2 : tie.Need-lay-requires-2
-lay-requires-2 c κs = let f = start (c .before .before .before) .pre .0 .fit in (f .down-low, f .good .high-high)
+lay-requires-2 c κs = let f = start (c .before .before .before) .pre .0 .fit in (f .down-low, f .good .high-low, f .good .high-high)
 
 gather-requires : tie.Need-gather-requires
 gather-requires c κs =
