@@ -57,8 +57,10 @@ int main(int, char **argv) {
     };
     for (const auto &b : all_boards()) {
         boards.emplace_back(b);
-        if (!b.down.empty() && !boards.back().lent[1]->takes_pairs()) {
-            std::printf("%s: %s has no pairs\n", b.name, argv[2]);
+        const Lent &other = *boards.back().lent[1];
+        const bool pairs_missing = !b.down.empty() && !other.takes_pairs();
+        if (pairs_missing || (b.storeys > 1 && !other.takes_storeys())) {
+            std::printf("%s: %s has no %s\n", b.name, argv[2], pairs_missing ? "pairs" : "storeys");
             boards.pop_back();
             continue;
         }
@@ -82,7 +84,7 @@ int main(int, char **argv) {
     for (const Both &b : boards)
         demand(b.lent[0]->times() == b.lent[1]->times(), "the two commits name different times");
 
-    std::printf("%d interleaved runs, medians; 256 x 256 cells, horizon %u\n", runs, horizon);
+    std::printf("%d interleaved runs, medians; 256 x 256 cells but in houses, horizon %u\n", runs, horizon);
     std::printf("%-20s %-10s %14s %14s %8s\n", "board", "call", "this tree (us)", argv[2], "ratio");
     for (const Line &line : lines)
         std::printf("%-20s %-10s %14.0f %14.0f %8.2f\n", line.on.board.name, line.row.name, median(line.took[0]),

@@ -1,8 +1,8 @@
-// The yardstick's boards a to f, and g to m: what is hard for a queue or for tiles.
+// The yardstick's boards a to f, g to m: what is hard for a queue or for tiles, and the houses n and o.
 #pragma once
 #include "yardstick.hpp"
 
-// 256 x 256; numbers from a fixed generator, so that every machine has the same boards.
+// a to m are flat, 256 x 256; numbers from a fixed generator, so that every machine has the same boards.
 inline std::vector<yardstick::Board> all_boards() {
     const int w = 256, n = w * w;
     uint64_t state = 99;
@@ -33,5 +33,14 @@ inline std::vector<yardstick::Board> all_boards() {
     add("l corridor 1 in 4095", [corridor = all[3].slow](int c) { return corridor[c] ? 1u : 4095u; }, n, at_0);
     // each row slower than the one above, and begun before it
     add("m rows 1-4081", [](int c) { return 1u + 16 * (c / w); }, w, [](int c) { return 1000000u - 3900 * (c / w); });
+    // 8 storeys, 64,800 and 8,192 cells
+    auto add_house = [&](const char *name, int side) {
+        yardstick::Board b{name, side, side, {}, {0}, {0}};
+        b.storeys = 8;
+        for (int c = 0; c < 8 * side * side; c++) b.slow.push_back(1 + next(4095));
+        all.push_back(b);
+    };
+    add_house("n house 8 x 90 x 90", 90);
+    add_house("o house 8 x 32 x 32", 32);
     return all;
 }

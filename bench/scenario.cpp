@@ -11,7 +11,7 @@ namespace {
 using List = std::vector<uint32_t>;
 
 struct Scenario {
-    uint32_t width, height, ticks, ground;
+    uint32_t width, height, storeys, ticks, ground;
     List slow, cells, begins;
 };
 
@@ -25,17 +25,17 @@ murgolab_scenario read(decltype(&plain_read_scenario) reader, const Bytes &file,
 }
 
 murgolab_reply write(decltype(&plain_write_scenario) writer, const Scenario &s, Bytes &out) {
-    return writer(s.width, s.height, s.ticks, s.ground, s.slow.data(), s.slow.size(), s.cells.data(), s.cells.size(),
-        s.begins.data(), s.begins.size(), out.data(), out.size());
+    return writer(s.width, s.height, s.storeys, s.ticks, s.ground, s.slow.data(), s.slow.size(), s.cells.data(),
+        s.cells.size(), s.begins.data(), s.begins.size(), out.data(), out.size());
 }
 
 // The number that both readers give; answers and lists must be the same.
 uint32_t read_alike(const Bytes &file, size_t slow, size_t starts) {
     std::vector<std::tuple<List, size_t, List, List, List>> seen;
     for (auto reader : both_readers) {
-        Scenario into{0, 0, 0, 0, List(slow, 7), List(starts, 8), List(starts, 9)};
+        Scenario into{0, 0, 0, 0, 0, List(slow, 7), List(starts, 8), List(starts, 9)};
         auto a = read(reader, file, into);
-        List answers{a.number, a.width, a.height, a.ticks, a.ground, a.starts};
+        List answers{a.number, a.width, a.height, a.storeys, a.ticks, a.ground, a.starts};
         seen.push_back({answers, a.place, into.slow, into.cells, into.begins});
     }
     demand(seen[0] == seen[1], "the readers differ");
@@ -54,21 +54,26 @@ uint32_t write_alike(const Scenario &s, size_t length) {
     return std::get<0>(seen[0]);
 }
 
-// Every refusal of the reader, at the end of the file where it can be.
+// Every refusal of the reader, at the end of the file where it can be, flat and as a house of two storeys.
 void check_readers(const Bytes &file) {
-    const size_t n = 65536, runs_end = 18 + 12 * n, end = file.size();
+    const size_t n = 65536, runs_end = 20 + 12 * n, end = file.size();
     std::set<uint32_t> given = {read_alike(file, n, n), read_alike(file, n + 1, n + 1), read_alike(file, n - 1, n),
         read_alike(file, n, n - 1), read_alike(Bytes(file.begin(), file.end() - 1), n, n)};
     const std::pair<size_t, Bytes> changes[] = {
         {2, {1}},                 // height 257
         {3, {0}},                 // height 0
-        {4, {0}},                 // no ticks
-        {6, {0, 0}},              // the ground's g 0
-        {8, {0, 0}},              // the ground's h 0
+        {4, {0}},                 // no storeys
+        {4, {3}},                 // too many cells
+        {2, {4, 0, 64}},          // too many storeys
+        {6, {0}},                 // no ticks
+        {8, {0, 0}},              // the ground's g 0
+        {10, {0, 0}},             // the ground's h 0
+        {10, {1}},                // the ground's g and h unequal
         {runs_end - 3, {16}},     // the last run's g above 4,095
         {runs_end - 1, {16}},     // its h above 4,095
         {runs_end - 4, {0, 0}},   // its g 0
         {runs_end - 2, {0, 0}},   // its h 0
+        {runs_end - 2, {1}},      // its g and h unequal
         {runs_end - 8, {2}},      // its end beyond the board
         {runs_end - 8, {0}},      // its length 0
         {end - 6, {1}},           // the last start's cell off the board
@@ -76,12 +81,16 @@ void check_readers(const Bytes &file) {
         {end - 2, {16}},          // its time above 1,000,000
         {runs_end - 4, Bytes(4)}, // a wall under it
     };
-    for (const auto &[at, bytes] : changes) {
-        Bytes damaged = file;
-        std::copy(bytes.begin(), bytes.end(), damaged.begin() + at);
-        given.insert(read_alike(damaged, n, n));
-    }
-    demand(given == std::set<uint32_t>{0, 1, 2, 3, 5, 6, 7, 8, 9, 14, 18, 21}, "a refusal of the reader was not tried");
+    const auto changed = [](Bytes bytes, size_t at, const Bytes &with) {
+        std::copy(with.begin(), with.end(), bytes.begin() + at);
+        return bytes;
+    };
+    const Bytes house = changed(file, 2, {128, 0, 2});
+    given.insert(read_alike(house, n, n));
+    for (const auto &[at, bytes] : changes)
+        for (const Bytes *good : {&file, &house}) given.insert(read_alike(changed(*good, at, bytes), n, n));
+    const std::set<uint32_t> all{0, 1, 2, 3, 5, 6, 7, 8, 9, 14, 18, 21, 23};
+    demand(given == all, "a refusal of the reader was not tried");
 }
 
 void check_writers(const Scenario &s, size_t length) {
@@ -100,13 +109,23 @@ void check_writers(const Scenario &s, size_t length) {
         [](Scenario &d) { d.cells.back() = d.cells.front(); },
         [](Scenario &d) { d.begins.back() = 1000001; },
         [](Scenario &d) { d.slow.back() = 0; },
+        [](Scenario &d) { d.slow.back() = MURGOLAB_PAIR(1, 2); },
+        [](Scenario &d) { d.ground = MURGOLAB_PAIR(1, 2); },
+        [](Scenario &d) { d.storeys = 0; },
+        [](Scenario &d) { d.storeys = 0, d.slow.clear(); },
+        [](Scenario &d) { d.storeys *= 2, d.slow.resize(131072, d.ground); },
+        [](Scenario &d) { d.height = 4, d.storeys = 64; },
     };
-    for (auto &damage : damages) {
-        Scenario damaged = s;
-        damage(damaged);
-        given.insert(write_alike(damaged, length));
-    }
-    demand(given == std::set<uint32_t>{0, 2, 3, 4, 5, 7, 8, 9, 14, 18, 21}, "a refusal of the writer was not tried");
+    Scenario house = s;
+    house.height = 128, house.storeys = 2;
+    given.insert(write_alike(house, length));
+    for (auto &damage : damages)
+        for (Scenario damaged : {s, house}) {
+            damage(damaged);
+            given.insert(write_alike(damaged, length));
+        }
+    const std::set<uint32_t> all{0, 2, 3, 4, 5, 7, 8, 9, 14, 18, 21, 23};
+    demand(given == all, "a refusal of the writer was not tried");
 }
 
 } // namespace
@@ -114,9 +133,9 @@ void check_writers(const Scenario &s, size_t length) {
 int main(int, char **argv) {
     const int runs = std::atoi(argv[1]);
     const yardstick::Board b = longest();
-    Scenario s{256, 256, ticks, MURGOLAB_PAIR(ground, ground), {}, b.cells, b.begins};
+    Scenario s{256, 256, 1, ticks, MURGOLAB_PAIR(ground, ground), {}, b.cells, b.begins};
     for (uint32_t slowness : b.slow) s.slow.push_back(MURGOLAB_PAIR(slowness, slowness));
-    Bytes file(18 + 20 * 65536);
+    Bytes file(20 + 20 * 65536);
     demand(write(plain_write_scenario, s, file).count == file.size(), "that is not the longest file");
     check_readers(file);
     check_writers(s, file.size());

@@ -24,7 +24,8 @@ int main(int, char **argv) {
     std::vector<std::vector<Took>> took(boards.size(), std::vector<Took>(calls));
     std::vector<Took> yard(boards.size());
     constexpr size_t on_b = 1, on_f = 5; // the same but for unequal pairs
-    Took rule[2], step[std::size(steps)];
+    const size_t on_n = boards.size() - 2; // the larger house
+    Took rule[3], step[std::size(steps)];
     std::vector<std::unique_ptr<Lent>> lent;
     for (const auto &b : boards) lent.emplace_back(this_tree(b));
     yardstick::FastMarching fast;
@@ -37,11 +38,12 @@ int main(int, char **argv) {
         }
         rule[0].push_back(micros([&] { sink = lent[on_b]->rule(); }));
         rule[1].push_back(micros([&] { sink = lent[on_f]->rule(); }));
+        rule[2].push_back(micros([&] { sink = lent[on_n]->rule(); }));
         for (size_t m = 0; m < std::size(steps); m++)
             step[m].push_back(micros([&] { sink = steps[m].play(*lent[0]); }));
     }
-    std::printf("%d interleaved runs, medians; 256 x 256 cells, horizon %u; times and work not cleared between calls\n",
-        runs, horizon);
+    std::printf("%d interleaved runs, medians; 256 x 256 cells but in houses, horizon %u; times and work not cleared "
+        "between calls\n", runs, horizon);
     std::printf("%-20s %12s %15s", "board", "march (us)", "over yardstick");
     for (size_t m = 1; m < calls; m++) std::printf(" %9s", rows[m].name);
     std::printf("   (over march)\n");
@@ -56,8 +58,8 @@ int main(int, char **argv) {
         std::printf("\n");
     }
     std::printf("march of f over that of b: %.2f\n", ratio(took[on_f][0], took[on_b][0]));
-    std::printf("local rule on b and f: %.1f and %.1f ns a call\n", 1000 * median(rule[0]) / (254 * 256),
-        1000 * median(rule[1]) / (254 * 256));
+    std::printf("local rule on b, f and n: %.1f, %.1f and %.1f ns a call\n", 1000 * median(rule[0]) / (254 * 256),
+        1000 * median(rule[1]) / (254 * 256), 1000 * median(rule[2]) / (6 * 90 * 90));
     for (size_t m = 0; m < std::size(steps); m++)
         std::printf("%s: %.1f ns a call\n", steps[m].name, 1000 * median(step[m]) / steps_calls);
     std::printf("\n");

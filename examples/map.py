@@ -21,6 +21,14 @@ both at 0, and no other cell has one of them at 0.
 Each row then has one letter a cell: any sign but a space and `/`. After `map numbers` in place of `map` it has one
 slowness a cell, with spaces between. There are 1 to 256 rows of 1 to 256 cells.
 
+A house has up to 8 storeys. They are drawn one below the other, from storey 0 on, and all have as many rows. Before the
+rows of each but the first stands its number, and a start may name a storey:
+
+    storey 1                  the rows of storey 1 follow
+    start 4 2 500 storey 1    in the head: a front starts in column 4 of row 2 of storey 1, at time 500
+
+There are at most 65,536 cells in all. With 2 storeys or more a slowness is one number, the same both ways.
+
 In every line `//` and what stands behind it is a remark. Empty lines, spaces before and behind a line's text, and a
 byte order mark do no harm; a space between the letters of a row is refused.
 
@@ -35,10 +43,11 @@ import sys
 
 RANGES = {
     "ticks": (1, 65535), "ground": (0, 4095), "slowness": (0, 4095), "start time": (0, 1000000),
-    "width": (1, 256), "height": (1, 256), "column": (0, 255), "row": (0, 255),
+    "width": (1, 256), "height": (1, 256), "storeys": (1, 8), "cells": (1, 65536),
+    "column": (0, 255), "row": (0, 255), "storey": (0, 7),
 }
 LETTERS = "abcdefghijklmnopqrstuvwxyzABCDEFGHIJKLMNOPQRSTUVWXYZ"
-HEAD, RUN, START = struct.Struct("<HHHHHII"), struct.Struct("<IIHH"), struct.Struct("<II")
+HEAD, RUN, START = struct.Struct("<HHHHHHII"), struct.Struct("<IIHH"), struct.Struct("<II")
 WALL = (0, 0)
 
 
@@ -47,12 +56,15 @@ class Problem(Exception):
 
 
 class Board:
-    """What a map and a file both hold: slownesses row by row, starts as times by cell. A slowness is a pair of numbers,
-    along the row and down the column."""
+    """What a map and a file both hold: slownesses storey by storey and row by row, starts as times by cell. A slowness
+    is a pair of numbers, along the row and down the column."""
 
-    def __init__(self, width, height, ticks, ground, slow, starts):
-        self.width, self.height, self.ticks, self.ground = width, height, ticks, ground
+    def __init__(self, width, height, storeys, ticks, ground, slow, starts):
+        self.width, self.height, self.storeys, self.ticks, self.ground = width, height, storeys, ticks, ground
         self.slow, self.starts = slow, starts
+        for along, down in sorted({ground, *slow}):
+            if storeys > 1 and along != down:
+                raise Problem(f"slowness `{along}:{down}` is two numbers; with 2 storeys or more it is one")
 
 
 @contextlib.contextmanager
@@ -110,10 +122,13 @@ def head_line(words):
 
 
 def start_line(words):
-    """Column, row and time."""
-    if len(words) != 4:
-        raise Problem("a start is `start COLUMN ROW TIME`")
-    return [number(name, word) for name, word in zip(("column", "row", "start time"), words[1:])]
+    """Column, row, time and storey."""
+    if len(words) == 4:
+        words = words + ["storey", "0"]
+    if len(words) != 6 or words[4] != "storey":
+        raise Problem("a start is `start COLUMN ROW TIME` or `start COLUMN ROW TIME storey STOREY`")
+    names = ("column", "row", "start time", "storey")
+    return [number(name, word) for name, word in zip(names, words[1:4] + words[5:])]
 
 
 def cells_of(row, letters):
@@ -128,26 +143,46 @@ def cells_of(row, letters):
     return [letters[letter] for letter in row]
 
 
-def add_row(rows, cells):
-    if rows and len(cells) != len(rows[0]):
-        raise Problem(f"a row of {len(cells)} cells, the first has {len(rows[0])}")
+def add_row(storeys, cells):
+    first, rows = storeys[0], storeys[-1]
+    if first and len(cells) != len(first[0]):
+        raise Problem(f"a row of {len(cells)} cells, the first has {len(first[0])}")
+    if len(storeys) > 1 and len(rows) == len(first):
+        raise Problem(f"a row more than the {len(first)} of storey 0")
     in_range("width", len(cells))
     in_range("height", len(rows) + 1)
     rows.append(cells)
+    in_range("cells", sum(map(len, storeys)) * len(cells))
+
+
+def end_storey(storeys):
+    if not storeys[0]:
+        raise Problem("there are no rows behind the line `map`")
+    if len(storeys[-1]) != len(storeys[0]):
+        raise Problem(f"storey {len(storeys) - 1} has {len(storeys[-1])} rows, storey 0 has {len(storeys[0])}")
+
+
+def begin_storey(storeys, word):
+    if number("storey", word) != len(storeys):
+        raise Problem(f"the storey that comes next is {len(storeys)}")
+    end_storey(storeys)
+    storeys.append([])
 
 
 def from_text(text):
-    head, placed, rows, letters = {}, [], None, None
+    head, placed, storeys, letters = {}, [], None, None
     for place, line in enumerate(io.StringIO(text, newline=None), 1):
         bare = line.partition("//")[0].strip()
         words = bare.split()
         with shown(place, line):
             if not words:
                 continue
-            if rows is not None:
-                add_row(rows, cells_of(bare, letters))
+            if storeys is not None and words[0] == "storey" and len(words) == 2:
+                begin_storey(storeys, words[1])
+            elif storeys is not None:
+                add_row(storeys, cells_of(bare, letters))
             elif words in (["map"], ["map", "numbers"]):
-                rows, letters = [], head if len(words) == 1 else None
+                storeys, letters = [[]], head if len(words) == 1 else None
             elif words[0] == "start":
                 placed.append((place, line, start_line(words)))
             else:
@@ -158,26 +193,29 @@ def from_text(text):
     for name in ("ticks", "ground"):
         if name not in head:
             raise Problem(f"the head has no line `{name}`")
-    if rows is None:
+    if storeys is None:
         raise Problem("there is no line `map`")
-    if not rows:
-        raise Problem("there are no rows behind the line `map`")
-    return board_of(head["ticks"], head["ground"], rows, placed)
+    end_storey(storeys)
+    return board_of(head["ticks"], head["ground"], storeys, placed)
 
 
-def board_of(ticks, ground, rows, placed):
-    width, height, cells = len(rows[0]), len(rows), [cell for row in rows for cell in row]
+def board_of(ticks, ground, storeys, placed):
+    width, height, high = len(storeys[0][0]), len(storeys[0]), len(storeys)
+    cells = [cell for rows in storeys for row in rows for cell in row]
     starts = {cell: time for cell, (_, time) in enumerate(cells) if time is not None}
-    for place, line, (column, row, time) in placed:
+    for place, line, (column, row, time, storey) in placed:
         with shown(place, line):
             if column >= width:
                 raise Problem(f"column {column} is off the board, which is {width} wide")
             if row >= height:
                 raise Problem(f"row {row} is off the board, which is {height} high")
-            if row * width + column in starts:
+            if storey >= high:
+                raise Problem(f"storey {storey} is off the board, whose last one is {high - 1}")
+            cell = (storey * height + row) * width + column
+            if cell in starts:
                 raise Problem("the cell has a start already")
-            starts[row * width + column] = time
-    return Board(width, height, ticks, ground, [slow for slow, _ in cells], starts)
+            starts[cell] = time
+    return Board(width, height, high, ticks, ground, [slow for slow, _ in cells], starts)
 
 
 def runs_of(board):
@@ -194,7 +232,8 @@ def runs_of(board):
 
 def to_file(board):
     runs, starts = runs_of(board), sorted(board.starts.items())
-    head = HEAD.pack(board.width, board.height, board.ticks, *board.ground, len(runs), len(starts))
+    sides = board.width, board.height, board.storeys
+    head = HEAD.pack(*sides, board.ticks, *board.ground, len(runs), len(starts))
     body = [RUN.pack(cell, length, *slow) for cell, length, slow in runs] + [START.pack(*start) for start in starts]
     return head + b"".join(body)
 
@@ -203,21 +242,22 @@ def from_file(file):
     if len(file) < HEAD.size:
         raise Problem(f"a file of {len(file)} bytes is too short for a head")
     *numbers, along, down, runs, starts = HEAD.unpack_from(file)
-    width, height, ticks = map(in_range, ("width", "height", "ticks"), numbers)
+    width, height, storeys, ticks = map(in_range, ("width", "height", "storeys", "ticks"), numbers)
+    size = in_range("cells", width * height * storeys)
     ground = pair("ground", f"{along}:{down}")
     behind_runs = HEAD.size + RUN.size * runs
     if len(file) != behind_runs + START.size * starts:
         raise Problem("the file is not as long as its head says")
-    slow, end = [ground] * (width * height), 0
+    slow, end = [ground] * size, 0
     for place, (offset, length, along, down) in enumerate(RUN.iter_unpack(file[HEAD.size:behind_runs])):
         if offset < end:
             raise Problem(f"run {place}, counted from 0, begins before the end of the one before")
         end = offset + length
-        if end > len(slow):
+        if end > size:
             raise Problem(f"run {place}, counted from 0, passes the board's end")
         slow[offset:end] = [pair("slowness", f"{along}:{down}")] * length
-    begins = begins_of(list(START.iter_unpack(file[behind_runs:])), len(slow))
-    return Board(width, height, ticks, ground, slow, begins)
+    begins = begins_of(list(START.iter_unpack(file[behind_runs:])), size)
+    return Board(width, height, storeys, ticks, ground, slow, begins)
 
 
 def begins_of(records, size):
@@ -243,7 +283,8 @@ def to_text(board):
     lines = [f"ticks {board.ticks}", f"ground {word_for(board.ground)}"]
     letters = letters_for(board)
     for cell, time in sorted(board.starts.items()):
-        lines.append(f"start {cell % board.width} {cell // board.width} {time}")
+        storey, row = divmod(cell // board.width, board.height)
+        lines.append(f"start {cell % board.width} {row} {time}" + (f" storey {storey}" if storey else ""))
     if letters is None:
         lines.append("map numbers")
         between, drawn = " ", word_for
@@ -251,7 +292,10 @@ def to_text(board):
         lines += [f"{letters[slow]} = {word_for(slow)}" for slow in sorted(set(board.slow))]
         lines.append("map")
         between, drawn = "", letters.get
-    for row in range(board.height):
+    for row in range(board.height * board.storeys):
+        storey, first = divmod(row, board.height)
+        if storey and first == 0:
+            lines.append(f"storey {storey}")
         cells = board.slow[row * board.width:(row + 1) * board.width]
         lines.append(between.join(drawn(slow) for slow in cells))
     return "\n".join(lines) + "\n"

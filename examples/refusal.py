@@ -16,7 +16,8 @@ import sys
 def table():
     """The words by number, from refusals.h, which stands beside the script."""
     text = pathlib.Path(__file__).with_name("refusals.h").read_text()
-    return {int(number): words for number, words in re.findall(r'\[(\d+)\] = "(.*)"', text)}
+    entries = re.findall(r'\[(\d+)\] = ((?:"[^"]*"\s*)+)', text)
+    return {int(number): "".join(re.findall('"([^"]*)"', literals)) for number, literals in entries}
 
 
 def with_words(number):

@@ -7,7 +7,7 @@
 
 static const char *const refusals[] = {
     [0] = "accepted",
-    [1] = "file under 18 bytes, or not as long as its counts of runs and starts say",
+    [1] = "file under 20 bytes, or not as long as its counts of runs and starts say",
     [2] = "width or height not 1 to 256",
     [3] = "ticks per turn not 1 to 65,535",
     [4] = "slowness list not N long, or plain start lists of unequal length",
@@ -21,9 +21,11 @@ static const char *const refusals[] = {
     [12] = "order does not name every tile once",
     [13] = "times list not N long",
     [14] = "work list under 4N long, or a list to be filled too short",
-    [15] = "tablet or rings: a side above 32, or for rings a file above 20,498 bytes",
+    [15] = "tablet or rings: a side above 32, N above 1,024, or for rings a file above 20,500 bytes",
     [18] = "start not above the one before",
     [21] = "one number of a slowness, the ground's too, 0 and the other not",
+    [23] = "storeys not 1 to 8, N above 65,536, or an unequal pair from 2 storeys on "
+        "(local rule: over or under not never)",
 };
 
 #endif

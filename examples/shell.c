@@ -1,6 +1,7 @@
 /* Plays a scenario file: prints its width, height and ticks per turn, then the turn in which the front reaches each
- * cell, row by row, `-` for never, as `rings` does; then how many rounds the tile run took. `usage` has its words.
- * Boards may have any size that the library takes. The starts go from the reader to the run as one list of records.
+ * cell, storey by storey and row by row, `-` for never, as `rings` does; then how many rounds the tile run took.
+ * `usage` has its words. Boards may have any size that the library takes. The starts go from the reader to the run as
+ * one list of records.
  *
  * Rounds are counted up to the horizon: with the stride 100 and the horizon 6,000,000 the bounds are 100, 200, 300 and
  * so on, which makes 60,000 rounds, however early the last cell is reached. Those that end before the front's next step
@@ -52,7 +53,7 @@ static void print_turns(const murgolab_scenario *s, const uint32_t *times)
 {
     uint32_t row, column;
     printf("%u %u %u\n", (unsigned)s->width, (unsigned)s->height, (unsigned)s->ticks);
-    for (row = 0; row < s->height; row++)
+    for (row = 0; row < s->height * s->storeys; row++) /* storeys stand one below the other */
         for (column = 0; column < s->width; column++) {
             char behind = column + 1 < s->width ? ' ' : '\n';
             uint32_t turn = murgolab_turn(times[row * s->width + column], s->ticks).turn;
@@ -70,12 +71,12 @@ static int play(const char *name, const uint8_t *file, size_t length, options o,
     murgolab_scenario s = murgolab_read_scenario(file, length, l.slow, MOST_CELLS, l.starts, MOST_CELLS);
     if (s.number != MURGOLAB_ACCEPTED)
         return refused(name, s.number, s.place);
-    cells = s.width * s.height;
+    cells = s.width * s.height * s.storeys;
     tiles = tiles_along(s.width, o.across) * tiles_along(s.height, o.down);
     for (i = 0; i < tiles; i++)
         l.order[i] = i;
-    run = murgolab_tile_run(s.width, s.height, l.slow, cells, l.starts, s.starts, o.across, o.down, o.stride, o.horizon,
-        l.order, tiles, l.times, cells, l.work, 4 * (size_t)cells);
+    run = murgolab_tile_run(s.width, s.height, s.storeys, l.slow, cells, l.starts, s.starts, o.across, o.down, o.stride,
+        o.horizon, l.order, tiles, l.times, cells, l.work, 4 * (size_t)cells);
     if (run.number != MURGOLAB_ACCEPTED)
         return refused(name, run.number, run.place);
     print_turns(&s, l.times);

@@ -1,11 +1,11 @@
-/* The tablet's call: `tablet FILE` runs a scenario of at most 32 by 32 cells with the stride 100, as one tile. From the
- * times that come back it plays the run's progress in rounds: each round in which the front reaches cells, and the
- * last one. Then it says how many rounds there were and when the front reaches the last cell. */
+/* The tablet's call: `tablet FILE` runs a scenario with sides to 32 and at most 1,024 cells with the stride 100, as one
+ * tile. From the times that come back it plays the run's progress in rounds: each round in which the front reaches
+ * cells, and the last one. Then it says how many rounds there were and when the front reaches the last cell. */
 #include "refusals.h"
 
 #include <stdio.h>
 
-enum { STRIDE = 100, SIDE = 32, HORIZON = 6000000 };
+enum { STRIDE = 100, SIDE = 32, MOST_CELLS = 1024, HORIZON = 6000000 };
 
 /* The time of a cell, by its 4 bytes, lowest first. */
 static uint32_t time_of(const uint8_t *out, uint32_t cell)
@@ -16,7 +16,7 @@ static uint32_t time_of(const uint8_t *out, uint32_t cell)
 
 int main(int count, char **words)
 {
-    static uint8_t file[18 + 20 * 65536 + 1], out[4 * SIDE * SIDE]; /* any scenario, and a byte to show a longer file */
+    static uint8_t file[20 + 20 * 65536 + 1], out[4 * MOST_CELLS]; /* any scenario, and a byte to show a longer file */
     FILE *from = count == 2 ? fopen(words[1], "rb") : NULL;
     size_t length = from == NULL ? 0 : fread(file, 1, sizeof file, from);
     if (from == NULL || ferror(from)) {
@@ -30,7 +30,7 @@ int main(int count, char **words)
         fprintf(stderr, "refused by %u: %s\n", (unsigned)answer, refusals[answer]);
         return 1;
     }
-    uint32_t cells = (uint32_t)file[0] * file[2]; /* width and height, at most 32, begin the file */
+    uint32_t cells = (uint32_t)file[0] * file[2] * file[4]; /* width, height and storeys, below 256, begin the file */
     for (uint32_t round = 1, before = 0; round <= rounds; round++) {
         uint32_t reached = 0; /* one tile holds after a round what the march to its bound gives */
         for (uint32_t cell = 0; cell < cells; cell++)

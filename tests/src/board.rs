@@ -1,13 +1,14 @@
 //! Boards with plain start lists, as a caller hands them in: nothing here says that they are good.
 
 use crate::rule::parts;
-use crate::{Cause, Start, LATEST_START, LONGEST_SIDE, NEVER, SLOWEST};
+use crate::{Cause, Start, LATEST_START, LONGEST_SIDE, MOST_CELLS, MOST_STOREYS, NEVER, SLOWEST};
 
 #[derive(Clone, Debug, PartialEq, Eq)]
 pub struct Board {
     pub width: u32,
     pub height: u32,
-    /// Slownesses by cell, pairs as `rule::pair` packs them, 0 being a wall.
+    pub storeys: u32,
+    /// Slownesses by cell, storey by storey and row by row, pairs as `rule::pair` packs them, 0 being a wall.
     pub slow: Vec<u32>,
     /// Starts: their cells, and beside them their times.
     pub cells: Vec<u32>,
@@ -18,17 +19,28 @@ pub fn side_is_good(side: u32) -> bool {
     (1..=LONGEST_SIDE).contains(&side)
 }
 
+/// Width × height × storeys. The storeys may be any number of 32 bits: with good sides the product is far below 2⁶⁴.
+pub fn size_of(sides: [u32; 3]) -> u64 {
+    sides.into_iter().map(u64::from).product()
+}
+
 impl Board {
-    /// N, for sides that are good.
+    /// N, for sides that are good and any number of storeys.
     pub fn size(&self) -> usize {
-        (self.width * self.height) as usize
+        size_of(self.sides()) as usize
     }
 
-    /// Refusals 2, 4, 5, 21, 7, 18, 8 and 9.
+    /// Width, height and storeys.
+    pub fn sides(&self) -> [u32; 3] {
+        [self.width, self.height, self.storeys]
+    }
+
+    /// Refusals 2, 4, 5, 21, 23, 7, 18, 8 and 9.
     pub fn judge(&self) -> Result<(), Cause> {
         self.judge_sides()?;
         self.judge_lengths()?;
         judge_slownesses(&self.slow)?;
+        judge_storeys(self.sides(), &self.slow)?;
         judge_starts(&self.slow, &self.cells, &self.begins)
     }
 
@@ -66,6 +78,20 @@ pub fn judge_slownesses<'a>(slow: impl IntoIterator<Item = &'a u32>) -> Result<(
     Ok(())
 }
 
+/// Refusal 23, for sides that are good: storeys that are none or too many, too many cells in all, or an unequal pair
+/// where there are several storeys.
+pub fn judge_storeys<'a>(sides: [u32; 3], slow: impl IntoIterator<Item = &'a u32>) -> Result<(), Cause> {
+    let storeys = sides[2];
+    if !(1..=MOST_STOREYS).contains(&storeys) || size_of(sides) > MOST_CELLS {
+        return Err(23.into());
+    }
+    let is_unequal = |&s: &u32| parts(s)[0] != parts(s)[1];
+    if storeys >= 2 && slow.into_iter().any(is_unequal) {
+        return Err(23.into());
+    }
+    Ok(())
+}
+
 /// Refusals 7, 18, 8 and 9; each looks at the whole list.
 pub fn judge_starts(slow: &[u32], cells: &[u32], begins: &[u32]) -> Result<(), Cause> {
     if let Some(place) = cells.iter().position(|&c| c as usize >= slow.len()) {
@@ -91,21 +117,21 @@ pub struct Grid {
     pub slow: Vec<u32>,
     /// Start time by cell, never where the cell has none.
     pub start: Vec<u32>,
-    /// Left, right, above and below of each cell; `OFF` beyond the edge.
-    pub near: Vec<[usize; 4]>,
+    /// Left, right, above, below, over and under of each cell; `OFF` beyond the edge.
+    pub near: Vec<[usize; 6]>,
 }
 
 pub const OFF: usize = usize::MAX;
 
 impl Grid {
     pub fn new(board: &Board) -> Grid {
-        let (width, height) = (board.width as usize, board.height as usize);
-        let mut start = vec![NEVER; width * height];
+        let sides = board.sides().map(|side| side as usize);
+        let mut start = vec![NEVER; board.size()];
         for (&cell, &time) in board.cells.iter().zip(&board.begins) {
             start[cell as usize] = time;
         }
-        let near = (0..width * height).map(|c| neighbours(c, width, height)).collect();
-        Grid { width, height, slow: board.slow.clone(), start, near }
+        let near = (0..board.size()).map(|c| neighbours(c, sides)).collect();
+        Grid { width: sides[0], height: sides[1], slow: board.slow.clone(), start, near }
     }
 
     pub fn size(&self) -> usize {
@@ -113,12 +139,16 @@ impl Grid {
     }
 }
 
-fn neighbours(c: usize, width: usize, height: usize) -> [usize; 4] {
-    let (row, column) = (c / width, c % width);
+/// Over is the next storey, under the one before. A storey's last row is not above the next storey's first.
+fn neighbours(c: usize, [width, height, storeys]: [usize; 3]) -> [usize; 6] {
+    let (storey, row, column) = (c / width / height, c / width % height, c % width);
+    let at = |storey: usize, row: usize, column: usize| (storey * height + row) * width + column;
     [
-        if column > 0 { c - 1 } else { OFF },
-        if column + 1 < width { c + 1 } else { OFF },
-        if row > 0 { c - width } else { OFF },
-        if row + 1 < height { c + width } else { OFF },
+        if column > 0 { at(storey, row, column - 1) } else { OFF },
+        if column + 1 < width { at(storey, row, column + 1) } else { OFF },
+        if row > 0 { at(storey, row - 1, column) } else { OFF },
+        if row + 1 < height { at(storey, row + 1, column) } else { OFF },
+        if storey + 1 < storeys { at(storey + 1, row, column) } else { OFF },
+        if storey > 0 { at(storey - 1, row, column) } else { OFF },
     ]
 }

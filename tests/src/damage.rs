@@ -5,7 +5,7 @@ use crate::calls::{Call, Kind};
 use crate::random::Random;
 use crate::rule::pair;
 use crate::scenario::Held;
-use crate::{LARGEST, LATEST_START, LONGEST_SIDE, NEVER, SLOWEST};
+use crate::{LARGEST, LATEST_START, LONGEST_SIDE, MOST_STOREYS, NEVER, SLOWEST};
 
 const BAD_SIDES: [u32; 8] = [0, LONGEST_SIDE + 1, LONGEST_SIDE + 2, 1_000, 65_536, 65_537, 1 << 31, NEVER];
 /// Pairs of which a number is above 4,095; the other one is good, 0 or too slow too.
@@ -24,14 +24,18 @@ pub const TOO_SLOW: [u32; 8] = [
 /// in the pair (s, 0).
 pub const HALF_WALLS: [u32; 6] = [1, 10, SLOWEST, pair(0, 1), pair(0, 10), pair(0, SLOWEST)];
 
+/// Good pairs for a board of one storey, and for no house.
+pub const UNEQUAL: [u32; 6] =
+    [pair(10, 11), pair(11, 10), pair(1, SLOWEST), pair(SLOWEST, 1), pair(SLOWEST, SLOWEST - 1), pair(256, 1)];
+
 /// The numbers of the table in the order in which they are looked for.
-pub const ORDER: [u32; 17] = [1, 2, 15, 3, 4, 5, 21, 6, 7, 18, 8, 9, 10, 11, 12, 13, 14];
+pub const ORDER: [u32; 18] = [1, 2, 15, 3, 4, 5, 21, 23, 6, 7, 18, 8, 9, 10, 11, 12, 13, 14];
 
 /// Those that a march, a round or a run can be refused by.
-pub const CALL_CAUSES: [u32; 13] = [2, 4, 5, 21, 7, 18, 8, 9, 10, 11, 12, 13, 14];
+pub const CALL_CAUSES: [u32; 14] = [2, 4, 5, 21, 23, 7, 18, 8, 9, 10, 11, 12, 13, 14];
 
 /// Those that the writer of scenario files can refuse by.
-pub const WRITER_CAUSES: [u32; 10] = [2, 3, 4, 5, 21, 7, 18, 8, 9, 14];
+pub const WRITER_CAUSES: [u32; 11] = [2, 3, 4, 5, 21, 23, 7, 18, 8, 9, 14];
 
 /// Which of several causes is given.
 pub fn first_of(causes: &[u32]) -> u32 {
@@ -56,19 +60,21 @@ pub fn spoil_writing(r: &mut Random, held: &mut Held, out: &mut usize, number: u
         3 => held.ticks = r.pick(&[0, 65_536, 65_537, 1 << 31, NEVER]),
         5 if r.once_in(3) => held.ground = r.pick(&TOO_SLOW),
         21 if r.once_in(3) => held.ground = r.pick(&HALF_WALLS),
-        14 => *out = r.pick(&[0, 17, *out / 2, out.saturating_sub(1)]),
+        23 if held.board.storeys >= 2 && r.once_in(3) => held.ground = r.pick(&UNEQUAL),
+        14 => *out = r.pick(&[0, 19, *out / 2, out.saturating_sub(1)]),
         _ => spoil_board(r, &mut held.board, number),
     }
 }
 
-/// 2, 4, 5, 21, 7, 18, 8 and 9.
+/// 2, 4, 5, 21, 23, 7, 18, 8 and 9.
 fn spoil_board(r: &mut Random, board: &mut Board, number: u32) {
     match number {
         2 if r.once_in(2) => board.width = r.pick(&BAD_SIDES),
         2 => board.height = r.pick(&BAD_SIDES),
         4 => spoil_length(r, board),
-        5 => *any_of(r, &mut board.slow) = r.pick(&TOO_SLOW),
-        21 => *any_of(r, &mut board.slow) = r.pick(&HALF_WALLS),
+        5 => put_slowness(r, board, &TOO_SLOW),
+        21 => put_slowness(r, board, &HALF_WALLS),
+        23 => spoil_storeys(r, board),
         7 => start_off_the_board(r, board),
         18 => starts_that_do_not_rise(r, board),
         8 => {
@@ -90,6 +96,29 @@ fn any_of<'a, T>(r: &mut Random, list: &'a mut [T]) -> &'a mut T {
     &mut list[at]
 }
 
+/// Anywhere; a board without cells has no place for it.
+fn put_slowness(r: &mut Random, board: &mut Board, from: &[u32]) {
+    if !board.slow.is_empty() {
+        *any_of(r, &mut board.slow) = r.pick(from);
+    }
+}
+
+/// None or too many storeys, or an unequal pair in a house; a board of one storey is made a house for that. The list of
+/// slownesses goes with the storeys, so that it fits if it did before.
+fn spoil_storeys(r: &mut Random, board: &mut Board) {
+    let storeys = match r.below(5) {
+        0 => 0,
+        1 | 2 => r.pick(&[MOST_STOREYS + 1, MOST_STOREYS + 1, 10, 16]),
+        _ => board.storeys.max(2),
+    };
+    let length = board.slow.len() * storeys as usize / board.storeys.max(1) as usize;
+    board.slow = board.slow.iter().copied().cycle().take(length).collect();
+    board.storeys = storeys;
+    if storeys >= 2 {
+        put_slowness(r, board, &UNEQUAL);
+    }
+}
+
 fn start_at_least_once(board: &mut Board) {
     if board.cells.is_empty() || board.begins.is_empty() {
         board.cells = vec![0];
@@ -97,7 +126,12 @@ fn start_at_least_once(board: &mut Board) {
     }
 }
 
+/// A list that is an entry too long or too short, or storeys that the slownesses do not fit.
 fn spoil_length(r: &mut Random, board: &mut Board) {
+    if r.once_in(8) {
+        board.storeys = r.pick(&[0, board.storeys.wrapping_add(1), 65_535, 65_536, 1 << 31, NEVER]);
+        return;
+    }
     let list = match r.below(4) {
         0 | 1 => &mut board.slow,
         2 => &mut board.cells,
@@ -107,10 +141,6 @@ fn spoil_length(r: &mut Random, board: &mut Board) {
         list.push(NEVER);
     } else if list.pop().is_none() {
         list.push(0);
-    }
-    // an empty list stays empty for nobody: later damages pick an entry
-    if board.slow.is_empty() {
-        board.slow.extend([pair(10, 10), pair(10, 20)]);
     }
 }
 

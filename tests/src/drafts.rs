@@ -1,14 +1,15 @@
 //! Scenario files taken apart, so that they can be damaged in every way that the table names.
 
-use crate::damage::{HALF_WALLS, TOO_SLOW};
+use crate::damage::{HALF_WALLS, TOO_SLOW, UNEQUAL};
 use crate::random::Random;
-use crate::scenario::{file_of, Held};
-use crate::{LATEST_START, LONGEST_SIDE, NEVER};
+use crate::scenario::{file_of, Held, HEAD};
+use crate::shown::SHOWN_CELLS;
+use crate::{LATEST_START, LONGEST_SIDE, MOST_STOREYS, NEVER};
 
 #[derive(Clone, Debug)]
 pub struct Draft {
-    /// Width, height, ticks.
-    pub head: [u16; 3],
+    /// Width, height, storeys, ticks.
+    pub head: [u16; 4],
     pub ground: u32,
     /// Counts of runs and of starts, as the file states them.
     pub counts: [u32; 2],
@@ -22,21 +23,21 @@ pub struct Draft {
 }
 
 /// The numbers of the table that a file can be refused by; 15 is the tablet's and that of `rings`.
-pub const FILE_CAUSES: [u32; 10] = [1, 2, 3, 5, 21, 6, 7, 18, 8, 9];
+pub const FILE_CAUSES: [u32; 11] = [1, 2, 3, 5, 21, 23, 6, 7, 18, 8, 9];
 
 impl Draft {
     pub fn of(held: &Held) -> Draft {
         let file = file_of(&held.board, held.ticks, held.ground);
         let two = |at: usize| u16::from_le_bytes([file[at], file[at + 1]]);
         let four = |at: usize| u32::from_le_bytes([file[at], file[at + 1], file[at + 2], file[at + 3]]);
-        let counts = [four(10), four(14)];
-        let first_start = 18 + 12 * counts[0] as usize;
-        let run = |i: u32| 18 + 12 * i as usize;
+        let counts = [four(12), four(16)];
+        let first_start = HEAD + 12 * counts[0] as usize;
+        let run = |i: u32| HEAD + 12 * i as usize;
         let start = |i: u32| first_start + 8 * i as usize;
         let slow = &held.board.slow;
         Draft {
-            head: [two(0), two(2), two(4)],
-            ground: four(6),
+            head: [two(0), two(2), two(4), two(6)],
+            ground: four(8),
             counts,
             runs: (0..counts[0]).map(|i| (four(run(i)), four(run(i) + 4), four(run(i) + 8))).collect(),
             starts: (0..counts[1]).map(|i| (four(start(i)), four(start(i) + 4))).collect(),
@@ -74,9 +75,10 @@ impl Draft {
         match number {
             1 => self.spoil_length(r),
             2 => self.head[r.below(2) as usize] = r.pick(&[0, LONGEST_SIDE as u16 + 1, 511, 512, 32_768, 65_535]),
-            3 => self.head[2] = 0,
+            3 => self.head[3] = 0,
             5 => *self.any_slowness(r) = r.pick(&TOO_SLOW),
             21 => *self.any_slowness(r) = r.pick(&HALF_WALLS),
+            23 => self.spoil_storeys(r),
             6 => self.spoil_run(r),
             7 => self.start_off_the_board(r),
             18 => self.starts_that_do_not_rise(r),
@@ -88,6 +90,34 @@ impl Draft {
                 }
             }
             9 => self.start_on_a_wall(r),
+            _ => self.too_large_to_be_shown(r),
+        }
+    }
+
+    /// None or too many storeys, a board too large for its storeys, or an unequal pair in a house; a board that has one
+    /// storey is made a house for that.
+    fn spoil_storeys(&mut self, r: &mut Random) {
+        match r.below(8) {
+            0 => self.head[2] = r.pick(&[10, 255, 256, 257, 32_768, 65_535]),
+            1 => self.head[..3].copy_from_slice(&r.pick(&[[256, 256, 2], [256, 129, 2], [256, 37, 7], [91, 91, 8]])),
+            2 | 3 => self.head[2] = 0,
+            4 | 5 => self.head[2] = MOST_STOREYS as u16 + 1,
+            _ => {
+                self.head[2] = self.head[2].max(2);
+                *self.any_slowness(r) = r.pick(&UNEQUAL);
+            }
+        }
+    }
+
+    /// A side above 32, or so many storeys that there are more than 1,024 cells.
+    fn too_large_to_be_shown(&mut self, r: &mut Random) {
+        let floor = u32::from(self.head[0]) * u32::from(self.head[1]);
+        match r.below(4) {
+            0 if (1..=SHOWN_CELLS).contains(&floor) => {
+                let most = SHOWN_CELLS / floor;
+                self.head[2] = r.pick(&[most + 1, most + 2, 65_535]) as u16;
+            }
+            1 => self.head[..3].copy_from_slice(&r.pick(&[[32, 32, 2], [16, 32, 3], [32, 17, 2], [13, 13, 8]])),
             _ => self.head[r.below(2) as usize] = r.within(33, LONGEST_SIDE) as u16,
         }
     }

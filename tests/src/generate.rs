@@ -1,13 +1,13 @@
 //! Seeded boards, calls and scenarios that the table has nothing against.
 
-use crate::board::{Board, Grid};
+use crate::board::{size_of, Board, Grid};
 use crate::calls::{Call, Kind};
 use crate::march::solved;
 use crate::random::Random;
 use crate::rule::{equal, pair, parts};
 use crate::scenario::Held;
 use crate::tiles::{tile_count, up};
-use crate::{LARGEST, LATEST_START, LONGEST_SIDE, NEVER, SLOWEST};
+use crate::{LARGEST, LATEST_START, LONGEST_SIDE, MOST_CELLS, MOST_STOREYS, NEVER, SLOWEST};
 
 /// An open cell's slowness: the two numbers of the pair are drawn apart, or they are equal.
 pub fn open(r: &mut Random, apart: bool, mut number: impl FnMut(&mut Random) -> u32) -> u32 {
@@ -15,10 +15,11 @@ pub fn open(r: &mut Random, apart: bool, mut number: impl FnMut(&mut Random) -> 
     pair(g, if apart { number(r) } else { g })
 }
 
-/// Slownesses of n cells: even ground, stretches, scattered ones, with few walls or many. On half of the boards the two
-/// numbers of a pair are drawn apart, on the others they are equal.
-pub fn slownesses(r: &mut Random, n: usize) -> Vec<u32> {
-    let (style, apart) = (r.below(7), r.once_in(2));
+/// Slownesses of a board with these sides: even ground, stretches, scattered ones, with few walls or many. On half of
+/// the boards of one storey the two numbers of a pair are drawn apart, on all others they are equal.
+pub fn slownesses(r: &mut Random, sides: [u32; 3]) -> Vec<u32> {
+    let n = size_of(sides) as usize;
+    let (style, apart) = (r.below(7), r.once_in(2) && sides[2] == 1);
     let walls = r.pick(&[0, 0, 0, 5, 20, 40, 60]);
     let highest = r.spread(SLOWEST).max(1);
     let ten = if apart { r.pick(&[pair(10, 20), pair(20, 10)]) } else { equal(10) };
@@ -68,17 +69,25 @@ pub fn starts(r: &mut Random, slow: &[u32]) -> (Vec<u32>, Vec<u32>) {
     (open, begins)
 }
 
-pub fn board_of(r: &mut Random, width: u32, height: u32) -> Board {
-    let slow = slownesses(r, (width * height) as usize);
+pub fn board_of(r: &mut Random, sides: [u32; 3]) -> Board {
+    let slow = slownesses(r, sides);
     let (cells, begins) = starts(r, &slow);
-    Board { width, height, slow, cells, begins }
+    let [width, height, storeys] = sides;
+    Board { width, height, storeys, slow, cells, begins }
 }
 
-/// A board with sides up to `longest`, small ones more often.
+/// A board with sides up to `longest`, small ones more often. Every second is a house.
 pub fn board(r: &mut Random, longest: u32) -> Board {
-    let side = r.within(1, longest);
+    board_within(r, longest, MOST_CELLS as u32)
+}
+
+/// The same with so many cells at most.
+pub fn board_within(r: &mut Random, longest: u32, most: u32) -> Board {
+    let storeys = if r.once_in(2) { 1 } else { r.within(2, MOST_STOREYS) };
+    // a house is half as wide and high, so that it takes about as long
+    let side = r.within(1, if storeys == 1 { longest } else { longest / 2 + 1 });
     let (width, height) = (r.within(1, side), r.within(1, side));
-    board_of(r, width, height)
+    board_of(r, [width, height, storeys.min(most / (width * height))])
 }
 
 /// One winding corridor from the top left, of equal pairs, with the latest start there.
@@ -90,7 +99,21 @@ pub fn snake(width: u32, height: u32, slowness: u32) -> Board {
             slow[(row * width + column) as usize] = 0;
         }
     }
-    Board { width, height, slow, cells: vec![0], begins: vec![1_000_000] }
+    Board { width, height, storeys: 1, slow, cells: vec![0], begins: vec![1_000_000] }
+}
+
+/// A house of which every second storey is such a corridor and those between are walls but for one cell: the corridor
+/// goes on over its end, then over its beginning, and so on. The height is even.
+pub fn stairs(width: u32, height: u32, storeys: u32, slowness: u32) -> Board {
+    let floor = snake(width, height, slowness);
+    let end = (height - 1) * width + if height % 4 == 2 { width - 1 } else { 0 };
+    let mut slow = Vec::new();
+    for storey in 0..storeys {
+        let stair = if storey % 4 == 1 { end } else { 0 };
+        let cell = |c: u32| if storey % 2 == 0 || c == stair { floor.slow[c as usize] } else { 0 };
+        slow.extend((0..width * height).map(cell));
+    }
+    Board { storeys, slow, ..floor }
 }
 
 /// What a list of times may hold before a call: anything at all.
@@ -206,7 +229,7 @@ fn ticks(r: &mut Random) -> u32 {
 pub fn scenario(r: &mut Random, board: Board) -> Held {
     let ground = match r.below(5) {
         0 => 0,
-        1 => neither(r, 0, 0),
+        1 => neither(r, 0, 0, board.storeys == 1),
         _ => r.pick(&board.slow),
     };
     Held { ticks: ticks(r), ground, board }
@@ -230,17 +253,19 @@ pub fn small_scenario(r: &mut Random) -> Held {
         let board = board(r, 14);
         return scenario(r, board);
     }
-    let (width, height, lay) = (r.within(1, 12), r.within(1, 12), r.pick(&LAYS));
-    laid_scenario(r, width, height, lay)
+    let (sides, lay) = ([r.within(1, 12), r.within(1, 12), r.pick(&[1, 1, 1, 2, 3, 8])], r.pick(&LAYS));
+    laid_scenario(r, sides, lay)
 }
 
-/// Scenarios with the shortest and the longest sides, in every lay; each has a seed of its own.
+/// Scenarios with the shortest and the longest sides, few storeys and many, in every lay; each has a seed of its own.
 pub fn scenarios_of_extreme_sides(first_seed: u64, mut each: impl FnMut(&mut Random, &Held, u64)) {
     let mut seed = first_seed;
-    for (width, height, times) in [(1, 1, 60), (256, 1, 20), (1, 256, 20), (256, 256, 2)] {
+    let flat = [([1, 1, 1], 60), ([256, 1, 1], 20), ([1, 256, 1], 20), ([256, 256, 1], 2)];
+    let houses = [([1, 1, 8], 30), ([256, 1, 8], 4), ([1, 256, 2], 6), ([256, 32, 8], 2), ([90, 90, 8], 1)];
+    for (sides, times) in flat.into_iter().chain(houses) {
         for lay in LAYS.into_iter().cycle().take(LAYS.len() * times) {
             let mut r = Random::new(seed);
-            let held = laid_scenario(&mut r, width, height, lay);
+            let held = laid_scenario(&mut r, sides, lay);
             each(&mut r, &held, seed);
             seed += 1;
         }
@@ -251,18 +276,22 @@ pub fn scenarios_of_extreme_sides(first_seed: u64, mut each: impl FnMut(&mut Ran
 pub fn longest_scenario() -> Held {
     let slow = (0..65_536).map(|c| pair(1 + c % 4_094, 1 + c % 4_095)).collect();
     let (cells, begins) = ((0..65_536).collect(), vec![LATEST_START; 65_536]);
-    Held { ticks: 65_535, ground: equal(SLOWEST), board: Board { width: 256, height: 256, slow, cells, begins } }
+    let board = Board { width: 256, height: 256, storeys: 1, slow, cells, begins };
+    Held { ticks: 65_535, ground: equal(SLOWEST), board }
 }
 
 /// A scenario whose slownesses lie as said.
-fn laid_scenario(r: &mut Random, width: u32, height: u32, lay: Lay) -> Held {
-    let ground = r.pick(&[0, equal(10), pair(10, 20), equal(SLOWEST), pair(SLOWEST, 1)]);
-    let slow = laid(r, (width * height) as usize, ground, lay);
+fn laid_scenario(r: &mut Random, sides: [u32; 3], lay: Lay) -> Held {
+    let [width, height, storeys] = sides;
+    let is_flat = storeys == 1;
+    let [near, far] = if is_flat { [pair(10, 20), pair(SLOWEST, 1)] } else { [equal(11), equal(1)] };
+    let ground = r.pick(&[0, equal(10), near, equal(SLOWEST), far]);
+    let slow = laid(r, size_of(sides) as usize, ground, lay, is_flat);
     let (cells, begins) = starts(r, &slow);
-    Held { ticks: ticks(r), ground, board: Board { width, height, slow, cells, begins } }
+    Held { ticks: ticks(r), ground, board: Board { width, height, storeys, slow, cells, begins } }
 }
 
-fn laid(r: &mut Random, n: usize, ground: u32, lay: Lay) -> Vec<u32> {
+fn laid(r: &mut Random, n: usize, ground: u32, lay: Lay, is_flat: bool) -> Vec<u32> {
     let mut slow = Vec::with_capacity(n);
     let mut last = ground;
     let longest = r.pick(&[6, 40, 1_000]);
@@ -270,7 +299,7 @@ fn laid(r: &mut Random, n: usize, ground: u32, lay: Lay) -> Vec<u32> {
         last = match lay {
             Lay::NoRun => ground,
             Lay::GroundBetween if last != ground => ground,
-            _ => neither(r, ground, last),
+            _ => neither(r, ground, last, is_flat),
         };
         let length = match lay {
             Lay::NoRun | Lay::OneRun => n,
@@ -282,16 +311,16 @@ fn laid(r: &mut Random, n: usize, ground: u32, lay: Lay) -> Vec<u32> {
     slow
 }
 
-/// A slowness that is neither of two; at times one number of its pair is.
-fn neither(r: &mut Random, one: u32, other: u32) -> u32 {
+/// A slowness that is neither of two; on a board of one storey one number of its pair is, at times.
+fn neither(r: &mut Random, one: u32, other: u32, is_flat: bool) -> u32 {
     loop {
-        let apart = r.once_in(2);
+        let apart = is_flat && r.once_in(2);
         let drawn = open(r, apart, |r| r.within(1, SLOWEST));
         let ([g, h], [near_g, near_h]) = (parts(drawn), parts(r.pick(&[one, other])));
         let s = match r.below(8) {
             0 | 1 => 0,
-            2 if near_g > 0 => pair(near_g, h),
-            3 if near_h > 0 => pair(g, near_h),
+            2 if is_flat && near_g > 0 => pair(near_g, h),
+            3 if is_flat && near_h > 0 => pair(g, near_h),
             _ => drawn,
         };
         if s != one && s != other {

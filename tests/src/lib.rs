@@ -9,7 +9,7 @@
 //! | Module | Holds |
 //! |---|---|
 //! | `rule` | pairs, the local rule and D by search, turn numbers by quotient and remainder |
-//! | `board` | boards with plain start lists, and refusals 2, 4, 5, 21, 7, 18, 8, 9 |
+//! | `board` | boards with plain start lists, and refusals 2, 4, 5, 21, 23, 7, 18, 8, 9 |
 //! | `march` | the times of a whole board: by passes, and by an advancing front |
 //! | `tiles` | one round over tiles, a tile run with every round worked out, how many rounds a single tile takes |
 //! | `leap` | a tile run that skips idle rounds, written apart from `tiles` |
@@ -17,7 +17,7 @@
 //! | `scenario` | the scenario file's reader and writer |
 //! | `shown` | what the tablet's call answers and what `rings` prints |
 //! | `random`, `generate` | seeded boards, calls and scenarios |
-//! | `typed` | a scenario file typed by hand |
+//! | `typed` | scenario files typed by hand, one of them a house |
 //! | `damage`, `drafts` | calls and files that are damaged in every way that the table names |
 //! | `lent`, `compare` | lists lent with marked entries on both sides; calls and lists of calls played on both |
 //! | `ffi` | the engine's C names, one module to a family, so that a test links what it calls |
@@ -57,6 +57,9 @@ pub const SLOWEST: u32 = 4_095;
 pub const LATEST_START: u32 = 1_000_000;
 /// The longest side of a board or a tile.
 pub const LONGEST_SIDE: u32 = 256;
+/// The most storeys, and the most cells in all of them.
+pub const MOST_STOREYS: u32 = 8;
+pub const MOST_CELLS: u64 = 65_536;
 
 /// Why a call is refused.
 #[derive(Clone, Copy, Debug, PartialEq, Eq)]

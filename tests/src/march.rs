@@ -10,8 +10,7 @@ use std::collections::BinaryHeap;
 /// What cell c must hold when it sees the times `seen`: the earlier of its start and the local rule.
 pub fn met(grid: &Grid, c: usize, seen: impl Fn(usize) -> u32) -> u32 {
     let see = |e: usize| if e == OFF { NEVER } else { seen(e) };
-    let [left, right, above, below] = grid.near[c];
-    let by_front = local(grid.slow[c], see(left), see(right), see(above), see(below));
+    let by_front = local(grid.slow[c], grid.near[c].map(see));
     grid.start[c].min(by_front)
 }
 

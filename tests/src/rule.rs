@@ -26,48 +26,59 @@ pub fn counted(time: u32) -> u32 {
     }
 }
 
-/// Whether p² × h² + q² × g² is at least g² × h², p and q being what t is later than a and than b.
-pub fn passes([g, h]: [u32; 2], a: u32, b: u32, t: u32) -> bool {
-    let [g, h, p, q] = [g, h, t.saturating_sub(a), t.saturating_sub(b)].map(|number| u64::from(number).pow(2));
-    p * h + q * g >= g * h
+/// The earlier time on each axis: of left and right, of above and below, of over and under.
+pub fn axes([left, right, above, below, over, under]: [u32; 6]) -> [u32; 3] {
+    [left.min(right), above.min(below), over.min(under)]
 }
 
-/// The local rule as card 10 has it: t is tried from the earlier of a and b on. The slowness is a pair, a wall or open.
-pub fn local_by_search(slowness: u32, left: u32, right: u32, above: u32, below: u32) -> u32 {
-    let a = left.min(right);
-    let b = above.min(below);
-    let mut t = a.min(b);
+/// Whether p² × h² + q² × g² + r² × g² is at least g² × h², p, q and r being what t is later than a, b and z.
+pub fn passes([g, h]: [u32; 2], axes: [u32; 3], t: u32) -> bool {
+    let square = |number: u32| u64::from(number).pow(2);
+    let [p, q, r] = axes.map(|time| square(t.saturating_sub(time)));
+    let (g, h) = (square(g), square(h));
+    p * h + q * g + r * g >= g * h
+}
+
+/// The local rule as cards 10 and 12 have it: t is tried from the earliest of a, b and z on. The slowness is a pair, a
+/// wall or open; the times are those left, right, above, below, over and under.
+pub fn local_by_search(slowness: u32, near: [u32; 6]) -> u32 {
+    let axes = axes(near);
+    let mut t = earliest(axes);
     if slowness == 0 || t == NEVER {
         return NEVER;
     }
-    while !passes(parts(slowness), a, b, t) {
+    while !passes(parts(slowness), axes, t) {
         t += 1;
     }
     t
 }
 
-/// The same by halving: a time that passes stays so when it is made later, and g ticks after a or h after b one passes.
-pub fn local(slowness: u32, left: u32, right: u32, above: u32, below: u32) -> u32 {
-    let a = left.min(right);
-    let b = above.min(below);
-    let first = a.min(b);
+/// The same by halving: a time that passes stays so when it is made later, and g ticks after a or z or h after b one
+/// passes.
+pub fn local(slowness: u32, near: [u32; 6]) -> u32 {
+    let axes @ [a, b, z] = axes(near);
+    let first = earliest(axes);
     if slowness == 0 || first == NEVER {
         return NEVER;
     }
     let [g, h] = parts(slowness);
-    let (mut fails, mut holds) = (first, a.saturating_add(g).min(b.saturating_add(h)));
-    if a.max(b) >= holds {
+    let (mut fails, mut holds) = (first, earliest([a.saturating_add(g), b.saturating_add(h), z.saturating_add(g)]));
+    if axes.iter().filter(|&&time| time < holds).count() == 1 {
         return holds;
     }
     while holds - fails > 1 {
         let t = fails + (holds - fails) / 2;
-        if passes([g, h], a, b, t) {
+        if passes([g, h], axes, t) {
             holds = t;
         } else {
             fails = t;
         }
     }
     holds
+}
+
+fn earliest(times: [u32; 3]) -> u32 {
+    times[0].min(times[1]).min(times[2])
 }
 
 /// D(s): the least d with 2d² at least s².
@@ -80,15 +91,18 @@ pub fn diagonal_step(s: u32) -> u32 {
 }
 
 /// What the call `local_rule` answers.
-pub fn local_rule([g, h]: [u32; 2], times: [u32; 4]) -> Reply {
+pub fn local_rule([g, h]: [u32; 2], times: [u32; 6]) -> Reply {
     if g > SLOWEST || h > SLOWEST {
         return Reply::refused(5);
     }
     if (g == 0) != (h == 0) {
         return Reply::refused(21);
     }
-    let [left, right, above, below] = times.map(counted);
-    Reply::accepted(local(pair(g, h), left, right, above, below))
+    let near = times.map(counted);
+    if g != h && axes(near)[2] != NEVER {
+        return Reply::refused(23);
+    }
+    Reply::accepted(local(pair(g, h), near))
 }
 
 /// What the call `diagonal` answers.

@@ -1,6 +1,6 @@
 //! The scenario file: its reader and its writer.
 
-use crate::board::{judge_slownesses, judge_starts, side_is_good, Board};
+use crate::board::{judge_slownesses, judge_starts, judge_storeys, side_is_good, size_of, Board};
 use crate::{Cause, Reply};
 
 /// What the reader answers: number 0 and what the file's head says, or a refusal's number, zeros and its place.
@@ -10,6 +10,7 @@ pub struct Scenario {
     pub number: u32,
     pub width: u32,
     pub height: u32,
+    pub storeys: u32,
     pub ticks: u32,
     pub ground: u32,
     pub starts: u32,
@@ -19,7 +20,7 @@ pub struct Scenario {
 impl Scenario {
     pub fn refused(cause: impl Into<Cause>) -> Scenario {
         let Cause { number, place } = cause.into();
-        Scenario { number, width: 0, height: 0, ticks: 0, ground: 0, starts: 0, place }
+        Scenario { number, width: 0, height: 0, storeys: 0, ticks: 0, ground: 0, starts: 0, place }
     }
 }
 
@@ -46,29 +47,42 @@ fn four(file: &[u8], at: usize) -> u32 {
     two(file, at) + 65_536 * two(file, at + 2)
 }
 
-/// Refusals 1, 2, 3, 5, 21, 6, 7, 18, 8 and 9, or what the file holds. `longest` gives 15, directly after 2,
-/// for a side above it.
-pub fn judge(file: &[u8], longest: Option<u32>) -> Result<Held, Cause> {
-    if file.len() < 18 {
+/// What the tablet and `rings` take at most.
+#[derive(Clone, Copy)]
+pub struct Limit {
+    pub side: u32,
+    pub cells: u64,
+}
+
+/// The bytes of a file's head.
+pub const HEAD: usize = 20;
+
+/// Refusals 1, 2, 3, 5, 21, 23, 6, 7, 18, 8 and 9, or what the file holds. A limit gives 15, directly after 2, for a
+/// board above it, by the storeys that the file states, whether they are good or not.
+pub fn judge(file: &[u8], limit: Option<Limit>) -> Result<Held, Cause> {
+    if file.len() < HEAD {
         return Err(1.into());
     }
-    let (run_count, start_count) = (u64::from(four(file, 10)), u64::from(four(file, 14)));
-    if file.len() as u64 != 18 + 12 * run_count + 8 * start_count {
+    let (run_count, start_count) = (u64::from(four(file, 12)), u64::from(four(file, 16)));
+    if file.len() as u64 != HEAD as u64 + 12 * run_count + 8 * start_count {
         return Err(1.into());
     }
-    let (width, height, ticks, ground) = (two(file, 0), two(file, 2), two(file, 4), four(file, 6));
+    let sides @ [width, height, storeys] = [two(file, 0), two(file, 2), two(file, 4)];
+    let (ticks, ground) = (two(file, 6), four(file, 8));
     if !side_is_good(width) || !side_is_good(height) {
         return Err(2.into());
     }
-    if longest.map_or(false, |most| width > most || height > most) {
+    if limit.map_or(false, |most| width.max(height) > most.side || size_of(sides) > most.cells) {
         return Err(15.into());
     }
     if ticks == 0 {
         return Err(3.into());
     }
-    let runs: Vec<Run> = (0..run_count as usize).map(|i| run_at(file, 18 + 12 * i)).collect();
-    judge_slownesses(runs.iter().map(|run| &run.slowness).chain([&ground]))?;
-    let size = u64::from(width * height);
+    let runs: Vec<Run> = (0..run_count as usize).map(|i| run_at(file, HEAD + 12 * i)).collect();
+    let pairs = || runs.iter().map(|run| &run.slowness).chain([&ground]);
+    judge_slownesses(pairs())?;
+    judge_storeys(sides, pairs())?;
+    let size = size_of(sides);
     if !runs_are_good(&runs, size, ground) {
         return Err(6.into());
     }
@@ -76,12 +90,12 @@ pub fn judge(file: &[u8], longest: Option<u32>) -> Result<Held, Cause> {
     for run in &runs {
         slow[run.offset as usize..(run.offset + run.length) as usize].fill(run.slowness);
     }
-    let first_start = 18 + 12 * run_count as usize;
+    let first_start = HEAD + 12 * run_count as usize;
     let places = (0..start_count as usize).map(|i| first_start + 8 * i);
     let cells: Vec<u32> = places.clone().map(|at| four(file, at)).collect();
     let begins: Vec<u32> = places.map(|at| four(file, at + 4)).collect();
     judge_starts(&slow, &cells, &begins)?;
-    Ok(Held { ticks, ground, board: Board { width, height, slow, cells, begins } })
+    Ok(Held { ticks, ground, board: Board { width, height, storeys, slow, cells, begins } })
 }
 
 fn run_at(file: &[u8], at: usize) -> Run {
@@ -114,6 +128,7 @@ pub fn read(file: &[u8], slow: &mut [u32], cells: &mut [u32], begins: &mut [u32]
         number: 0,
         width: held.board.width,
         height: held.board.height,
+        storeys: held.board.storeys,
         ticks: held.ticks,
         ground: held.ground,
         starts: starts as u32,
@@ -135,7 +150,7 @@ pub fn file_of(board: &Board, ticks: u32, ground: u32) -> Vec<u8> {
         }
     }
     let mut file = Vec::new();
-    for number in [board.width, board.height, ticks] {
+    for number in [board.width, board.height, board.storeys, ticks] {
         file.extend_from_slice(&(number as u16).to_le_bytes());
     }
     file.extend_from_slice(&ground.to_le_bytes());
@@ -153,14 +168,16 @@ pub fn file_of(board: &Board, ticks: u32, ground: u32) -> Vec<u8> {
     file
 }
 
-/// Refusals 2, 3, 4, 5, 21, 7, 18, 8 and 9.
+/// Refusals 2, 3, 4, 5, 21, 23, 7, 18, 8 and 9.
 fn judge_writing(board: &Board, ticks: u32, ground: u32) -> Result<(), Cause> {
     board.judge_sides()?;
     if ticks == 0 || ticks > 65_535 {
         return Err(3.into());
     }
     board.judge_lengths()?;
-    judge_slownesses(board.slow.iter().chain([&ground]))?;
+    let pairs = || board.slow.iter().chain([&ground]);
+    judge_slownesses(pairs())?;
+    judge_storeys(board.sides(), pairs())?;
     judge_starts(&board.slow, &board.cells, &board.begins)
 }
 

@@ -4,7 +4,7 @@ use crate::board::{side_is_good, Grid};
 use crate::calls::rounds;
 use crate::march::{cut, solved};
 use crate::rule::turn;
-use crate::scenario::{judge, Held};
+use crate::scenario::{judge, Held, Limit};
 use crate::tiles::Tiling;
 use crate::{LARGEST, NEVER};
 
@@ -12,12 +12,16 @@ use crate::{LARGEST, NEVER};
 pub const SHOWN_HORIZON: u32 = 6_000_000;
 /// The longest side that they take.
 pub const SHOWN_SIDE: u32 = 32;
+/// The most cells that they take, all storeys together.
+pub const SHOWN_CELLS: u32 = 1_024;
 /// The longest file that `rings` takes.
-pub const SHOWN_FILE: usize = 20_498;
+pub const SHOWN_FILE: usize = 20_500;
+
+const SHOWN: Limit = Limit { side: SHOWN_SIDE, cells: SHOWN_CELLS as u64 };
 
 /// What the tablet's call answers, and what the lent output holds afterwards.
 pub fn tablet(file: &[u8], stride: u32, across: u32, down: u32, out: &mut [u8]) -> u64 {
-    let held = match judge(file, Some(SHOWN_SIDE)) {
+    let held = match judge(file, Some(SHOWN)) {
         Ok(held) => held,
         Err(cause) => return u64::from(cause.number),
     };
@@ -43,14 +47,15 @@ pub fn rings(file: &[u8]) -> String {
     if file.len() > SHOWN_FILE {
         return "refused 15\n".to_string();
     }
-    let held = match judge(file, Some(SHOWN_SIDE)) {
+    let held = match judge(file, Some(SHOWN)) {
         Ok(held) => held,
         Err(cause) => return format!("refused {}\n", cause.number),
     };
     turns(&held, SHOWN_HORIZON)
 }
 
-/// The lines of a scenario: width, height and ticks, then the turns of each row.
+/// The lines of a scenario: width, height and ticks, then the turns of each row. Storeys stand one below the other, the
+/// lowest number first, with nothing between.
 pub fn turns(held: &Held, horizon: u32) -> String {
     let mut lines = format!("{} {} {}\n", held.board.width, held.board.height, held.ticks);
     let times = cut(solved(&Grid::new(&held.board)), horizon);

@@ -6,7 +6,7 @@ use crate::rule::counted;
 use crate::NEVER;
 
 /// The tile of each cell, and the cells of each tile, tiles being laid from the top left, cut at the
-/// edge and numbered row by row.
+/// edge and numbered row by row. They span all storeys.
 pub struct Tiling {
     pub of: Vec<usize>,
     pub cells: Vec<Vec<usize>>,
@@ -29,7 +29,7 @@ impl Tiling {
         let mut cells = vec![Vec::new(); in_a_row * in_a_column];
         let mut of = Vec::with_capacity(grid.size());
         for c in 0..grid.size() {
-            let (row, column) = (c / grid.width, c % grid.width);
+            let (row, column) = (c / grid.width % grid.height, c % grid.width);
             let tile = row / down * in_a_row + column / across;
             of.push(tile);
             cells[tile].push(c);

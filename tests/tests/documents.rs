@@ -6,7 +6,7 @@ use second_solver::declared::{files, read, repository};
 use second_solver::pages::{blocks, rows};
 use second_solver::programs::{run, told};
 use second_solver::rule::{equal, pair};
-use second_solver::scenario::{judge, Held};
+use second_solver::scenario::{judge, Held, HEAD};
 use std::collections::BTreeMap;
 use std::fs;
 use std::path::PathBuf;
@@ -102,11 +102,11 @@ fn the_scenario_page_has_the_bytes_of_its_files() {
     assert_eq!(bytes.len(), 2, "files on the page");
     assert_eq!(bytes[0], fs::read(repository().join("examples/three-by-three.scenario")).expect("the example"));
     let mut second = bytes.remove(1);
-    second[..18].copy_from_slice(&bytes[0][..18]);
-    second[10] = 2;
+    second[..HEAD].copy_from_slice(&bytes[0][..HEAD]);
+    second[12] = 2;
     let (ground, furrow) = (equal(10), pair(10, 30));
     let slow = vec![ground, ground, ground, ground, 0, furrow, furrow, ground, ground];
-    let board = Board { width: 3, height: 3, slow, cells: vec![0], begins: vec![0] };
+    let board = Board { width: 3, height: 3, storeys: 1, slow, cells: vec![0], begins: vec![0] };
     assert_eq!(judge(&second, None), Ok(Held { ticks: 10, ground, board }));
 }
 

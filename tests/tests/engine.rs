@@ -1,4 +1,5 @@
-//! Marches, single rounds and tile runs of the engine beside the second solver, on seeded boards.
+//! Marches, single rounds and tile runs of the engine beside the second solver, on seeded boards, of one storey and of
+//! several.
 
 use second_solver::board::{Board, Grid};
 use second_solver::calls::{Call, Kind, MOST_WORKED};
@@ -8,7 +9,7 @@ use second_solver::ffi::engine_records;
 use second_solver::generate::{self, board_of};
 use second_solver::march::solved;
 use second_solver::random::Random;
-use second_solver::tiles::{bound_of, round, tile_count, Tiling};
+use second_solver::tiles::{bound_of, round, tile_count, up, Tiling};
 use second_solver::{LARGEST, NEVER};
 use std::collections::BTreeSet;
 
@@ -36,42 +37,60 @@ fn tiles(r: &mut Random, board: &Board) -> (u32, u32, Vec<u32>) {
     (across, down, generate::order(r, tile_count(board.width, board.height, across, down)))
 }
 
+/// Counts boards by their storeys.
+fn assert_houses(of_storeys: [u32; 9]) {
+    let houses = &of_storeys[2..];
+    assert!(houses.iter().sum::<u32>() > 14_000 && houses.iter().all(|&count| count > 1_500), "{:?}", of_storeys);
+}
+
 #[test]
 fn marches_of_random_boards_are_the_second_solvers() {
+    let mut of_storeys = [0; 9];
     for seed in 1_000_000..1_040_000 {
         let mut r = Random::new(seed);
         let board = random_board(&mut r);
+        of_storeys[board.storeys as usize] += 1;
         let kind = Kind::March { horizon: generate::horizon(&mut r, &board) };
         compare(&mut r, &Call { board, kind }, seed);
     }
+    assert_houses(of_storeys);
 }
 
 #[test]
 fn rounds_over_random_boards_and_any_stored_times_are_the_second_solvers() {
+    let mut of_storeys = [0; 9];
     for seed in 2_000_000..2_040_000 {
         let mut r = Random::new(seed);
         let board = random_board(&mut r);
+        of_storeys[board.storeys as usize] += 1;
         let (across, down, order) = tiles(&mut r, &board);
         let kind = Kind::Round { across, down, bound: generate::horizon(&mut r, &board), order };
         compare(&mut r, &Call { board, kind }, seed);
     }
+    assert_houses(of_storeys);
 }
 
+/// As many rounds as strides to the horizon, rounded up, and at most one more for each cell that is reached.
 #[test]
 fn tile_runs_of_random_boards_are_the_second_solvers() {
-    let (mut long, mut leapt) = (0, 0);
+    let (mut long, mut leapt, mut of_storeys) = (0, 0, [0; 9]);
     for seed in 3_000_000..3_030_000 {
         let mut r = Random::new(seed);
         let board = random_board(&mut r);
+        of_storeys[board.storeys as usize] += 1;
         let (across, down, order) = tiles(&mut r, &board);
         let horizon = generate::horizon(&mut r, &board);
         let stride = generate::stride(&mut r, board.size(), horizon);
         let (size, kind) = (board.size() as u64, Kind::Run { across, down, stride, horizon, order });
-        let (rounds, _) = compare(&mut r, &Call { board, kind }, seed);
+        let (rounds, times) = compare(&mut r, &Call { board, kind }, seed);
+        let reached = times.iter().filter(|&&t| t != NEVER).count() as u32;
+        let least = up(horizon, stride).max(1);
+        assert!((least..=least + reached).contains(&rounds), "seed {}: {} rounds", seed, rounds);
         long += u32::from(rounds > 1_000);
         leapt += u32::from(u64::from(rounds) * size > MOST_WORKED);
     }
     assert!(long > 1_000 && leapt > 300, "too few long runs: {} and {}", long, leapt);
+    assert_houses(of_storeys);
 }
 
 /// Every tile side across and down, on boards as long as the longest tile.
@@ -83,7 +102,8 @@ fn every_tile_side_cuts_the_board_alike() {
         let (other, tile_other) = (r.within(1, 3), r.within(1, 4));
         let (width, height) = if is_across { (256, other) } else { (other, 256) };
         let (across, down) = if is_across { (side, tile_other) } else { (tile_other, side) };
-        let board = board_of(&mut r, width, height);
+        let storeys = r.pick(&[1, 1, 1, 2]);
+        let board = board_of(&mut r, [width, height, storeys]);
         let order = generate::order(&mut r, tile_count(width, height, across, down));
         let horizon = generate::horizon(&mut r, &board);
         let round = Kind::Round { across, down, bound: horizon, order: order.clone() };
@@ -139,8 +159,9 @@ fn rounds_go_on_where_the_stride_times_their_number_passes_32_bits() {
         let mut r = Random::new(seed);
         let (length, other) = (r.within(30, 70), r.within(1, 2));
         let (width, height) = if r.once_in(2) { (length, other) } else { (other, length) };
-        let mut board = board_of(&mut r, width, height);
-        let apart = r.once_in(2);
+        let storeys = r.within(1, 2);
+        let mut board = board_of(&mut r, [width, height, storeys]);
+        let apart = storeys == 1 && r.once_in(2);
         board.slow.fill(generate::open(&mut r, apart, |r| r.within(1, 4_095)));
         board.cells = vec![r.below(3)];
         board.begins = vec![r.spread(1_000_000)];
@@ -222,8 +243,8 @@ fn every_order_of_the_tiles_gives_the_same() {
     let mut several = 0;
     for seed in 9_000_000..9_000_400 {
         let mut r = Random::new(seed);
-        let (width, height) = (r.within(4, 8), r.within(4, 8));
-        let board = board_of(&mut r, width, height);
+        let sides = [r.within(4, 8), r.within(4, 8), r.within(1, 3)];
+        let board = board_of(&mut r, sides);
         let (across, down) = (r.within(1, 3), r.within(1, 3));
         let bound = generate::horizon(&mut r, &board);
         let times = generate::stored(&mut r, &board);

@@ -8,6 +8,7 @@ use second_solver::damage::{spoil_call, CALL_CAUSES};
 use second_solver::ffi::{engine, engine_records};
 use second_solver::generate::{self, garbage};
 use second_solver::random::Random;
+use second_solver::{LONGEST_SIDE, MOST_STOREYS};
 use std::collections::BTreeMap;
 
 /// How starts are handed over.
@@ -60,12 +61,13 @@ fn are_unequal(board: &Board) -> bool {
 
 /// Another board of the same size, seldom one of another.
 fn board_for(r: &mut Random, size: u32) -> Board {
-    let widths: Vec<u32> = (1..=size.min(256)).filter(|w| size % w == 0 && size / w <= 256).collect();
-    let width = r.pick(&widths);
     if r.once_in(12) {
         return generate::board(r, 8);
     }
-    generate::board_of(r, width, size / width)
+    let divisors = |of: u32, most: u32| (1..=most).filter(|d| of % d == 0).collect::<Vec<u32>>();
+    let storeys = if r.once_in(2) { 1 } else { r.pick(&divisors(size, MOST_STOREYS)) };
+    let width = r.pick(&divisors(size / storeys, LONGEST_SIDE));
+    generate::board_of(r, [width, size / storeys / width, storeys])
 }
 
 /// A call on the board of the one before it, mostly, so that rounds build on each other.

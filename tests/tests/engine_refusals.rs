@@ -3,7 +3,7 @@
 use second_solver::board::Board;
 use second_solver::calls::{Call, Kind};
 use second_solver::compare::{play_both, Engine, Tally};
-use second_solver::damage::{first_of, spoil_call, CALL_CAUSES};
+use second_solver::damage::{first_of, spoil_call, CALL_CAUSES, UNEQUAL};
 use second_solver::ffi::engine::play;
 use second_solver::ffi::engine_records;
 use second_solver::generate::{self, garbage};
@@ -64,9 +64,10 @@ fn of_three_causes_the_first_in_order_is_given() {
     assert!(given > 7_000, "the first in {} of 8,000", given);
 }
 
+/// Three by two in one storey.
 fn good_board() -> Board {
     let slow = vec![equal(10), pair(20, 10), 0, equal(4_095), pair(1, 4_095), pair(4_095, 1)];
-    Board { width: 3, height: 2, slow, cells: vec![0, 4], begins: vec![0, 1_000_000] }
+    Board { width: 3, height: 2, storeys: 1, slow, cells: vec![0, 4], begins: vec![0, 1_000_000] }
 }
 
 fn number(board: Board, kind: Kind, times: usize, work: usize) -> u32 {
@@ -126,6 +127,140 @@ fn a_pair_that_is_too_slow_beats_half_a_wall_wherever_it_stands_and_both_beat_th
     }
 }
 
+/// The board with so many storeys, all cells of slowness 10 and no starts, and a list of `length`: by march, round and
+/// run, over plain lists and records, with times and work that would fit the list.
+fn of_storeys([width, height, storeys]: [u32; 3], length: usize) -> u32 {
+    let board = Board { width, height, storeys, slow: vec![equal(10); length], cells: vec![], begins: vec![] };
+    refused_alike(&board, length)
+}
+
+/// What a march, a round and a run answer to the board, in both forms: one number, and nothing is altered but where it
+/// is accepted.
+fn refused_alike(board: &Board, length: usize) -> u32 {
+    let round = Kind::Round { across: 256, down: 256, bound: 9, order: vec![0] };
+    let run = Kind::Run { across: 256, down: 256, stride: 9, horizon: 9, order: vec![0] };
+    let mut numbers = Vec::new();
+    for kind in [Kind::March { horizon: 9 }, round, run] {
+        let call = Call { board: board.clone(), kind };
+        for engine in [play, engine_records::play] {
+            numbers.push(play_both(engine, &call, &vec![5; length], &vec![6; 4 * length], 0).0.number);
+        }
+    }
+    assert!(numbers.iter().all(|number| *number == numbers[0]), "{:?} of {:?}", numbers, board.sides());
+    numbers[0]
+}
+
+/// 4 takes N by whatever the storeys are, in 64 bits, and comes before 23: a list that fits is 23, one that does not is
+/// 4. No list fits products above what memory has; 256 × 256 × 65,536 is 0 in 32 bits, and others wrap to a small one.
+#[test]
+fn storeys_that_are_none_or_too_many_are_23_with_a_list_that_fits_and_4_with_another() {
+    for (sides, length) in [
+        ([1, 1, 0], 0),
+        ([3, 2, 0], 0),
+        ([256, 256, 0], 0),
+        ([1, 1, 9], 9),
+        ([3, 2, 9], 54),
+        ([2, 1, 300], 600),
+        ([256, 1, 9], 2_304),
+        ([1, 1, 65_535], 65_535),
+        ([1, 1, 65_536], 65_536),
+        ([1, 1, 65_537], 65_537),
+        ([1, 2, 65_535], 131_070),
+        ([256, 256, 2], 131_072),
+        ([256, 129, 2], 66_048),
+        ([145, 113, 4], 65_540), // the least N above 65,536 that good sides and storeys have
+        ([91, 91, 8], 66_248),
+        ([256, 33, 8], 67_584),
+    ] {
+        assert_eq!(of_storeys(sides, length), 23, "{:?}", sides);
+        for other in [0, 1, 6, length.saturating_sub(1), length + 1, 65_536].into_iter().filter(|&l| l != length) {
+            assert_eq!(of_storeys(sides, other), 4, "{:?} and {} entries", sides, other);
+        }
+    }
+    for sides @ [width, height, storeys] in [
+        [1, 1, NEVER],
+        [1, 1, 1 << 31],
+        [2, 1, 1 << 31],
+        [16, 16, 1 << 24],
+        [256, 256, 65_536],
+        [256, 256, 65_537],
+        [256, 256, NEVER],
+        [3, 1, 1_431_655_766],
+        [5, 1, 858_993_460],
+        [255, 255, 66_052],
+    ] {
+        let wrapped = width.wrapping_mul(height).wrapping_mul(storeys) as usize;
+        for length in [wrapped, 0, 1, 2, 6, 65_536].into_iter().filter(|&length| length <= 1 << 20) {
+            assert_eq!(of_storeys(sides, length), 4, "{:?} and {} entries", sides, length);
+        }
+    }
+    for (sides, length) in [([1, 1, 8], 8), ([3, 2, 8], 48), ([256, 32, 8], 65_536), ([90, 90, 8], 64_800)] {
+        assert_eq!([of_storeys(sides, length), of_storeys(sides, length - 1)], [0, 4], "{:?}", sides);
+    }
+}
+
+/// An unequal pair anywhere is 23 from two storeys on, and good on one. Walls are equal.
+#[test]
+fn unequal_pairs_are_for_boards_of_one_storey() {
+    for storeys in 1..=8 {
+        let size = 6 * storeys as usize;
+        let even =
+            Board { storeys, slow: [equal(10), 0].repeat(size / 2), cells: vec![], begins: vec![], ..good_board() };
+        assert_eq!(refused_alike(&even, size), 0, "{} storeys", storeys);
+        for unequal in UNEQUAL {
+            for at in [0, size / 2, size - 1] {
+                let mut board = even.clone();
+                board.slow[at] = unequal;
+                let want = if storeys == 1 { 0 } else { 23 };
+                assert_eq!(refused_alike(&board, size), want, "{} storeys, {} at {}", storeys, unequal, at);
+            }
+        }
+    }
+}
+
+/// Each looks at the whole list before the next does: 5, then 21, then 23, then the starts, wherever they stand. Half a
+/// wall is an unequal pair too, and 21 all the same.
+#[test]
+fn storeys_are_looked_for_after_half_walls_and_before_the_starts() {
+    let [slow, half, unequal] = [pair(10, 4_096), pair(10, 0), pair(10, 11)];
+    for (storeys, want) in [(2, 23), (0, 23), (9, 23), (1, 7)] {
+        let size = 6 * storeys as usize;
+        let ten =
+            Board { storeys, slow: vec![equal(10); size], cells: vec![NEVER], begins: vec![NEVER], ..good_board() };
+        if size == 0 {
+            assert_eq!(refused_alike(&ten, size), want);
+            continue;
+        }
+        for (first, second, third) in [(0, size / 2, size - 1), (size - 1, size / 2, 0), (size / 2, 0, size - 1)] {
+            let mut board = ten.clone();
+            let mut with = |at: usize, s: u32| {
+                board.slow[at] = s;
+                refused_alike(&board, size)
+            };
+            assert_eq!([with(first, unequal), with(second, half), with(third, slow)], [want, 21, 5], "{}", storeys);
+            let mut board = ten.clone();
+            board.slow[first] = half;
+            assert_eq!(refused_alike(&board, size), 21, "{} storeys", storeys);
+        }
+    }
+    // .. and 2 and 4 before it
+    let board = Board { storeys: 9, slow: vec![equal(10); 54], ..good_board() };
+    assert_eq!(refused_alike(&Board { width: 0, ..board.clone() }, 54), 2);
+    assert_eq!(refused_alike(&Board { height: 257, ..board.clone() }, 54), 2);
+    let unequal_lists = Board { begins: vec![0], ..board };
+    assert_eq!(number(unequal_lists, Kind::March { horizon: 9 }, 54, 216), 4);
+}
+
+/// A start's cell may be anywhere in the house, and not behind its last cell.
+#[test]
+fn starts_stand_on_every_storey() {
+    let slow = [vec![equal(10); 23], vec![0]].concat();
+    for (cell, want) in [(0, 0), (5, 0), (6, 0), (12, 0), (18, 0), (22, 0), (23, 9), (24, 7), (25, 7), (NEVER, 7)] {
+        let board = Board { storeys: 4, slow: slow.clone(), cells: vec![cell], begins: vec![0], ..good_board() };
+        assert_eq!(refused_alike(&board, 24), want, "cell {}", cell);
+    }
+}
+
 /// The lists of a caller who still hands in one number a cell.
 #[test]
 fn bare_slownesses_are_half_walls() {
@@ -172,17 +307,18 @@ fn each_limit_of_tiles_and_strides_passes_and_one_beyond_it_does_not() {
     assert_eq!([run(2, 1, 1, 1, &[3, 1, 0, 2]), round(2, 1, 1, &[2, 3, 1, 0])], [0, 0]);
 }
 
-/// All causes at once; each is taken away in turn. The starts are 4 and 6, then 4 and 2, then 0 and 2, which is a wall,
-/// then 0 and 4. Records have no lists of unequal length.
+/// All causes at once, on two storeys; each is taken away in turn. The starts are 4 and 12, then 4 and 2, then 0 and 2,
+/// which is a wall, then 0 and 4. Records have no lists of unequal length.
 #[test]
 fn of_all_causes_the_first_in_order_is_given() {
     // a call, and the lengths of its times and its work
     type Mend = fn(&mut Call, &mut [usize; 2]);
-    let mends: [(Cause, Mend); 13] = [
+    let mends: [(Cause, Mend); 14] = [
         (2.into(), |call, _| call.board.width = 3),
         (4.into(), |call, _| call.board.begins.truncate(2)),
         (5.into(), |call, _| call.board.slow[3] = equal(4_095)),
         (21.into(), |call, _| call.board.slow[5] = equal(10)),
+        (23.into(), |call, _| call.board.slow[1] = equal(20)),
         (Cause { number: 7, place: 1 }, |call, _| call.board.cells[1] = 2),
         (Cause { number: 18, place: 1 }, |call, _| call.board.cells[0] = 0),
         (8.into(), |call, _| call.board.begins[1] = 1_000_000),
@@ -201,17 +337,18 @@ fn of_all_causes_the_first_in_order_is_given() {
                 *order = vec![3, 1, 0, 2];
             }
         }),
-        (13.into(), |_, lengths| lengths[0] = 6),
-        (14.into(), |_, lengths| lengths[1] = 24),
+        (13.into(), |_, lengths| lengths[0] = 12),
+        (14.into(), |_, lengths| lengths[1] = 48),
     ];
     let slow = vec![equal(10), pair(20, 10), 0, equal(4_096), equal(1), pair(10, 0)];
-    let wrong = Board { width: 257, height: 2, slow, cells: vec![4, 6], begins: vec![0, 1_000_001, 0] };
+    let slow = [slow, vec![equal(30); 6]].concat();
+    let wrong = Board { width: 257, height: 2, storeys: 2, slow, cells: vec![4, 12], begins: vec![0, 1_000_001, 0] };
     let above = LARGEST + 1;
     let round = Kind::Round { across: 0, down: 1, bound: above, order: vec![] };
     let run = Kind::Run { across: 0, down: 1, stride: 9, horizon: above, order: vec![] };
     for kind in [Kind::March { horizon: above }, round, run] {
         let is_march = matches!(kind, Kind::March { .. });
-        let (mut call, mut lengths) = (Call { board: wrong.clone(), kind }, [5, 23]);
+        let (mut call, mut lengths) = (Call { board: wrong.clone(), kind }, [11, 47]);
         for (cause, mend) in mends {
             if is_march && [11, 12].contains(&cause.number) {
                 continue;
@@ -223,7 +360,7 @@ fn of_all_causes_the_first_in_order_is_given() {
             }
             mend(&mut call, &mut lengths);
         }
-        assert_eq!(play_both(play, &call, &[5; 6], &[6; 24], 0).0.number, 0);
+        assert_eq!(play_both(play, &call, &[5; 12], &[6; 48], 0).0.number, 0);
     }
 }
 
@@ -232,7 +369,7 @@ fn of_all_causes_the_first_in_order_is_given() {
 fn sides_whose_product_wraps_are_refused_by_2() {
     let sides = [(65_536, 65_536, 0), (1 << 31, 2, 0), (65_537, 65_535, 0), (0, 0, 0), (0, 5, 0), (3, 0, 0)];
     for (width, height, size) in sides.into_iter().chain([(1_431_655_766, 3, 2), (257, 1, 257), (1, 257, 257)]) {
-        let board = Board { width, height, slow: vec![equal(10); size], cells: vec![], begins: vec![] };
+        let board = Board { width, height, storeys: 1, slow: vec![equal(10); size], cells: vec![], begins: vec![] };
         assert_eq!(number(board, Kind::March { horizon: 1 }, size, 4 * size), 2, "{} by {}", width, height);
     }
 }
@@ -240,7 +377,8 @@ fn sides_whose_product_wraps_are_refused_by_2() {
 /// A long order over the most tiles that there are, wrong in one place.
 #[test]
 fn an_order_of_65536_tiles_is_judged_to_its_last_entry() {
-    let board = Board { width: 256, height: 256, slow: vec![equal(1); 65_536], cells: vec![], begins: vec![] };
+    let board =
+        Board { width: 256, height: 256, storeys: 1, slow: vec![equal(1); 65_536], cells: vec![], begins: vec![] };
     let mut r = Random::new(5);
     let mut order = generate::order(&mut r, 65_536);
     let round = |order: &[u32]| {

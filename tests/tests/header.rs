@@ -115,7 +115,8 @@ fn the_header_says_by_which_numbers_each_call_is_refused() {
         assert_eq!(numbers, in_order, "{} looks for them in another order", call);
         assert_eq!(numbers.contains(&7), numbers.contains(&18), "{} judges starts by 7 and 18, or not at all", call);
         let takes_pairs = numbers.contains(&5) && call != "murgolab_diagonal";
-        assert_eq!(takes_pairs, numbers.contains(&21), "{} judges pairs by 5 and 21, or not at all", call);
+        let judges = [21, 23].map(|number| numbers.contains(&number));
+        assert_eq!(judges, [takes_pairs; 2], "{} judges pairs by 5, 21 and 23, or not at all", call);
         assert_eq!(numbers, refused_by(&text, call.trim_end_matches("_plain")), "{} with plain lists", call);
     }
 }

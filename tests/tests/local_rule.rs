@@ -2,21 +2,32 @@
 
 use second_solver::ffi::local_rule::{diagonal, local_rule};
 use second_solver::random::Random;
-use second_solver::rule::{self, counted, local_by_search, pair, passes};
+use second_solver::rule::{self, axes, counted, local_by_search, pair, passes};
 use second_solver::{Reply, LARGEST, NEVER, SLOWEST};
 
-/// Four times of which the earlier of the first two is a and the earlier of the others b; the other
-/// two are later or never.
-fn placed(a: u32, b: u32, way: u32) -> [u32; 4] {
+/// Six times of which the earlier of the first two is a, of the next two b and of the last two z; the others are later
+/// or never.
+fn placed([a, b, z]: [u32; 3], way: u32) -> [u32; 6] {
     let later = |t: u32| if way & 4 == 0 { NEVER } else { t.saturating_add(way) };
     let two = |t: u32, swapped: bool| if swapped { [later(t), t] } else { [t, later(t)] };
-    let ([left, right], [above, below]) = (two(a, way & 1 > 0), two(b, way & 2 > 0));
-    [left, right, above, below]
+    let ([left, right], [above, below], [over, under]) =
+        (two(a, way & 1 > 0), two(b, way & 2 > 0), two(z, way & 8 > 0));
+    [left, right, above, below, over, under]
 }
 
-fn check(slowness: [u32; 2], times: [u32; 4], want: Reply) {
+/// The same without neighbours over and under.
+fn flat(a: u32, b: u32, way: u32) -> [u32; 6] {
+    placed([a, b, NEVER], way)
+}
+
+fn check(slowness: [u32; 2], times: [u32; 6], want: Reply) {
     let got = local_rule(slowness, times);
-    assert_eq!(got, want, "g and h {:?}, left right above below {:?}", slowness, times);
+    assert_eq!(got, want, "g and h {:?}, left right above below over under {:?}", slowness, times);
+}
+
+/// Every order of three.
+fn orders([a, b, z]: [u32; 3]) -> [[u32; 3]; 6] {
+    [[a, b, z], [a, z, b], [b, a, z], [b, z, a], [z, a, b], [z, b, a]]
 }
 
 /// The rule of document 01, for one slowness: whether p² + q² is at least s².
@@ -40,8 +51,8 @@ fn equal_pairs_give_the_least_time_of_the_old_rule_for_every_slowness_and_differ
             let latest = LARGEST - difference;
             for first in [0, (s * 73_244 + difference * 31) % latest, latest] {
                 let want = Reply::accepted(first + step);
-                check([s, s], placed(first, first + difference, way), want);
-                check([s, s], placed(first + difference, first, way + 1), want);
+                check([s, s], flat(first, first + difference, way), want);
+                check([s, s], flat(first + difference, first, way + 1), want);
                 way = (way + 1) % 8;
             }
         }
@@ -60,11 +71,11 @@ fn unequal_pairs_give_the_least_time_that_passes_for_every_difference() {
             let [mut step, way] = [0, i as u32 % 8];
             for difference in 0..=of_earlier + 2 {
                 let [a, b] = if is_row { [0, difference] } else { [difference, 0] };
-                while !passes([g, h], a, b, step) {
+                while !passes([g, h], [a, b, NEVER], step) {
                     step += 1;
                 }
                 let first = (g * 73_244 + h * 977 + difference * 31) % (LARGEST - difference);
-                check([g, h], placed(first + a, first + b, way), Reply::accepted(first + step));
+                check([g, h], flat(first + a, first + b, way), Reply::accepted(first + step));
             }
         }
     }
@@ -76,13 +87,129 @@ fn local_rule_is_what_a_search_from_the_earlier_time_finds() {
     for g in (0..=20).chain([1_000, 2_047, 2_048, 4_094, 4_095]) {
         for h in (0..=20).chain([g, g + 1, 4_095]).filter(|&h| h <= SLOWEST && (g == 0) == (h == 0)) {
             for difference in (0..=g.max(h) + 2).step_by(1 + g.max(h) as usize / 50) {
-                let times @ [left, right, above, below] = placed(17, 17 + difference, difference % 8);
-                check([g, h], times, Reply::accepted(local_by_search(pair(g, h), left, right, above, below)));
-                let times @ [left, right, above, below] = placed(17 + difference, 17, difference % 8);
-                check([g, h], times, Reply::accepted(local_by_search(pair(g, h), left, right, above, below)));
+                for [a, b] in [[17, 17 + difference], [17 + difference, 17]] {
+                    let times = flat(a, b, difference % 8);
+                    check([g, h], times, Reply::accepted(local_by_search(pair(g, h), times)));
+                }
             }
         }
     }
+}
+
+/// The rule of card 12 for an equal pair, worked out in whole numbers from the earliest time on: the least t with p² +
+/// q² + r² at least s².
+fn by_three_squares(s: u32, times: [u32; 3]) -> u32 {
+    let first = times.into_iter().min().expect("three times");
+    if s == 0 || first == NEVER {
+        return NEVER;
+    }
+    let squares = |t: u32| times.into_iter().filter(|&time| time < t).map(|time| (t - time).pow(2)).sum::<u32>();
+    (first..).find(|&t| squares(t) >= s * s).expect("a time")
+}
+
+/// Every slowness to 12 and every three times to past it, never among them, placed in every way: ties, times that do
+/// not count any more, and two or three axes that do.
+#[test]
+fn all_small_times_on_three_axes_are_the_rules() {
+    let mut of_axes = [0; 4];
+    for s in 0..=12 {
+        let times = || (0..=s + 1).chain([NEVER]);
+        for a in times() {
+            for b in times() {
+                for z in times() {
+                    let want = by_three_squares(s, [a, b, z]);
+                    for way in 0..16 {
+                        check([s, s], placed([a, b, z], way), Reply::accepted(want));
+                    }
+                    let count = [a, b, z].into_iter().filter(|&time| want != NEVER && time < want).count();
+                    of_axes[count] += 1;
+                }
+            }
+        }
+    }
+    assert!(of_axes[1..].iter().all(|&cases| cases > 400), "cases by how many axes count: {:?}", of_axes);
+}
+
+/// Every slowness, with differences of the three times that lie close to each other, to where an axis does not count
+/// any more, and anywhere; early, late and at the end of what is a time.
+#[test]
+fn three_axes_give_the_least_time_that_passes_for_every_slowness() {
+    let (mut seed, mut three) = (0, 0);
+    for s in 1..=SLOWEST {
+        for _ in 0..24 {
+            let mut r = Random::new(seed);
+            seed += 1;
+            let [one, other] = [(); 2].map(|()| match r.below(4) {
+                0 => r.below(3),
+                1 => (s + r.below(3)).saturating_sub(1),
+                2 => (diagonal(s).count + r.below(5)).saturating_sub(2),
+                _ => r.within(0, s),
+            });
+            let latest = LARGEST - one.max(other);
+            let first = match r.below(3) {
+                0 => 0,
+                1 => latest,
+                _ => r.within(0, latest),
+            };
+            let mut times = [first, first + one, first + other];
+            r.shuffle(&mut times);
+            let t = local_rule([s, s], placed(times, r.below(16))).count;
+            let least = t > first && passes([s, s], times, t) && !passes([s, s], times, t - 1);
+            assert!(least, "slowness {}, {:?} gives {}", s, times, t);
+            three += u32::from(times.iter().all(|&time| time < t));
+        }
+    }
+    assert!(three > 20_000, "all three axes count in {} cases only", three);
+}
+
+/// For an equal pair no axis is another than the rest, and on each the earlier of two times counts, wherever it stands.
+#[test]
+fn the_three_axes_are_alike_for_an_equal_pair() {
+    for seed in 0..20_000 {
+        let mut r = Random::new(seed);
+        let (s, apart) = (number(&mut r), r.spread(2 * SLOWEST));
+        let times = [(); 3].map(|()| if r.once_in(6) { NEVER } else { r.within(0, apart) });
+        let want = local_rule([s, s], placed(times, 0));
+        for times in orders(times) {
+            check([s, s], placed(times, r.below(16)), want);
+        }
+    }
+}
+
+/// 23 looks at the two times alone, and not at what they would do: an unequal pair may have neither, however late, but
+/// for times above 300,000,000, which are never.
+#[test]
+fn an_unequal_pair_has_no_neighbours_over_and_under() {
+    let unequal = [[10, 20], [20, 10], [1, SLOWEST], [SLOWEST, SLOWEST - 1]];
+    for [g, h] in unequal {
+        for time in [0, 1, 7, 1_000_000, LARGEST - 1, LARGEST] {
+            for [over, under] in [[time, NEVER], [NEVER, time], [time, time], [time, LARGEST + 1]] {
+                check([g, h], [0, 0, 0, 0, over, under], Reply::refused(23));
+                check([g, h], [NEVER, NEVER, NEVER, NEVER, over, under], Reply::refused(23));
+            }
+        }
+        let [step, alone] = [local_rule([g, h], [0, NEVER, 0, NEVER, NEVER, NEVER]), Reply::accepted(g)];
+        for never in [LARGEST + 1, LARGEST + 2, 1 << 31, NEVER - 1, NEVER] {
+            check([g, h], [0, NEVER, 0, NEVER, never, NEVER], step);
+            check([g, h], [NEVER, 0, never, NEVER, NEVER, never], alone);
+            check([g, h], [never; 6], Reply::accepted(NEVER));
+        }
+    }
+}
+
+/// 5 is looked for before 21, and 21 before 23, which half a wall would have too.
+#[test]
+fn of_several_causes_the_first_in_order_is_given() {
+    for near in [[0; 6], [NEVER, NEVER, NEVER, NEVER, 0, NEVER], [0, 0, 0, 0, NEVER, 5], [NEVER; 6]] {
+        for [g, h] in [[4_096, 0], [0, 4_096], [4_096, 10], [10, 65_536], [NEVER, 1]] {
+            check([g, h], near, Reply::refused(5));
+        }
+        for [g, h] in [[10, 0], [0, 10], [1, 0], [0, SLOWEST]] {
+            check([g, h], near, Reply::refused(21));
+        }
+    }
+    check([10, 11], [0; 6], Reply::refused(23));
+    check([0, 0], [0; 6], Reply::accepted(NEVER));
 }
 
 /// One number of a pair, the extremes more often than others.
@@ -95,11 +222,12 @@ fn number(r: &mut Random) -> u32 {
 }
 
 /// Half of the pairs are unequal, half equal; 1 and 4,095, and 4,095 and 4,094 are among them, and times just before
-/// and behind never and 300,000,000. What is answered is held to the definition itself: it passes, and nothing from the
-/// earlier of a and b on does before it.
+/// and behind never and 300,000,000. Half of the cells have neighbours over and under, which is 23 for unequal pairs.
+/// What is answered is held to the definition itself: it passes, and nothing from the earliest of a, b and z on does
+/// before it.
 #[test]
 fn a_million_seeded_calls_are_the_definitions() {
-    let (mut unequal, mut extreme, mut at_the_limit) = (0, 0, 0);
+    let (mut unequal, mut extreme, mut at_the_limit, mut refused, mut three) = (0, 0, 0, 0, 0);
     for seed in 0..1_000_000 {
         let mut r = Random::new(seed);
         let g = number(&mut r);
@@ -113,17 +241,24 @@ fn a_million_seeded_calls_are_the_definitions() {
             3 => r.any(),
             _ => about + r.within(0, apart),
         };
-        let times = [time(), time(), time(), time()];
-        check([g, h], times, rule::local_rule([g, h], times));
-        let [left, right, above, below] = times.map(counted);
-        let (a, b, t) = (left.min(right), above.min(below), local_rule([g, h], times).count);
-        let first = a.min(b);
-        if first == NEVER {
+        let mut times = [time(), time(), time(), time(), time(), time()];
+        if seed % 2 == 0 {
+            times[4..].fill(NEVER);
+        }
+        let want = rule::local_rule([g, h], times);
+        check([g, h], times, want);
+        let (axes, t) = (axes(times.map(counted)), local_rule([g, h], times).count);
+        let first = axes.into_iter().min().expect("three axes");
+        if want.number != 0 {
+            assert!(want == Reply::refused(23) && g != h && axes[2] != NEVER, "seed {}", seed);
+            refused += 1;
+        } else if first == NEVER {
             assert_eq!(t, NEVER, "seed {}", seed);
         } else {
             // a time that passes stays so when it is made later, so the one just before it is enough
-            let least = t > first && passes([g, h], a, b, t) && !passes([g, h], a, b, t - 1);
+            let least = t > first && passes([g, h], axes, t) && !passes([g, h], axes, t - 1);
             assert!(least, "seed {}: g {}, h {}, {:?} gives {}", seed, g, h, times, t);
+            three += u32::from(axes.iter().all(|&time| time < t));
         }
         unequal += u32::from(g != h);
         extreme += u32::from([[1, SLOWEST], [SLOWEST, 1], [SLOWEST, SLOWEST - 1]].contains(&[g, h]));
@@ -131,18 +266,19 @@ fn a_million_seeded_calls_are_the_definitions() {
     }
     assert!((400_000..600_000).contains(&unequal), "{} unequal pairs", unequal);
     assert!(extreme > 1_000 && at_the_limit > 10_000, "{} extreme pairs, {} past 300,000,000", extreme, at_the_limit);
+    assert!(refused > 100_000 && three > 30_000, "{} refused, {} with three axes", refused, three);
 }
 
-/// All four times and both numbers at the ends of their ranges, and beyond.
+/// All six times and both numbers at the ends of their ranges, and beyond.
 #[test]
 fn local_rule_agrees_at_the_ends_of_the_ranges() {
-    let times = [0, 1, LARGEST - 1, LARGEST, LARGEST + 1, NEVER - 1, NEVER];
+    let times = [0, LARGEST - 1, LARGEST, LARGEST + 1, NEVER];
     let numbers = [0, 1, 2, 10, SLOWEST - 1, SLOWEST, SLOWEST + 1, 65_535, 65_536, 1 << 31, NEVER];
     for g in numbers {
         for h in numbers {
-            for code in 0..7usize.pow(4) {
-                let four = [times[code % 7], times[code / 7 % 7], times[code / 49 % 7], times[code / 343]];
-                check([g, h], four, rule::local_rule([g, h], four));
+            for code in 0..5usize.pow(6) {
+                let six = [1, 5, 25, 125, 625, 3_125].map(|place| times[code / place % 5]);
+                check([g, h], six, rule::local_rule([g, h], six));
             }
         }
     }
@@ -154,43 +290,56 @@ fn local_rule_agrees_at_the_ends_of_the_ranges() {
 fn numbers_that_are_too_large_are_5_and_one_zero_alone_is_21() {
     for above in [4_096, 4_097, 65_535, 65_536, 1 << 31, NEVER] {
         for other in [0, 1, 10, 4_095, 4_096, NEVER] {
-            check([above, other], [0; 4], Reply::refused(5));
-            check([other, above], [NEVER; 4], Reply::refused(5));
+            check([above, other], [0; 6], Reply::refused(5));
+            check([other, above], [NEVER; 6], Reply::refused(5));
         }
     }
     for s in 1..=SLOWEST {
-        check([s, 0], [0, NEVER, 0, NEVER], Reply::refused(21));
-        check([0, s], [NEVER; 4], Reply::refused(21));
+        check([s, 0], flat(0, 0, 0), Reply::refused(21));
+        check([0, s], [NEVER; 6], Reply::refused(21));
     }
 }
 
-/// The boards worked by hand that are about one cell, as document 01 prints them, with equal pairs; a and b may be
-/// swapped. Then an unequal pair, for which they may not.
+/// The boards worked by hand that are about one cell, as document 01 prints them, with equal pairs, then some with
+/// three axes; a, b and z may stand in any order. Then an unequal pair, for which they may not.
 #[test]
 fn local_rule_gives_the_values_worked_by_hand() {
     let worked = [
-        (10, 0, NEVER, 10),
-        (10, 0, 0, 8),
-        (10, 0, 4, 9),
-        (10, 0, 5, 10),
-        (10, 0, 10, 10),
-        (5, 0, 1, 4),
-        (1, 0, 0, 1),
-        (0, 0, 0, NEVER),
+        (10, [0, NEVER, NEVER], 10),
+        (10, [0, 0, NEVER], 8),
+        (10, [0, 4, NEVER], 9),
+        (10, [0, 5, NEVER], 10),
+        (10, [0, 10, NEVER], 10),
+        (5, [0, 1, NEVER], 4),
+        (1, [0, 0, NEVER], 1),
+        (0, [0, 0, NEVER], NEVER),
+        (10, [0, 0, 0], 6),
+        (10, [0, 0, 7], 8),
+        (10, [0, 0, 6], 8), // 7² + 7² + 1² is 99
+        (10, [0, 0, 5], 7),
+        (10, [0, 4, 8], 9),
+        (10, [0, 4, 9], 9),
+        (10, [0, 5, 9], 10), // 9² + 4² is 97
+        (10, [0, 5, 7], 9),
+        (3, [0, 0, 1], 2), // 2² + 2² + 1² is just 3²
+        (3, [0, 0, 2], 3),
+        (1, [0, 0, 0], 1),
+        (0, [0, 0, 0], NEVER),
     ];
     let unequal = [(0, NEVER, 10), (NEVER, 0, 20), (0, 0, 9), (NEVER, NEVER, NEVER)];
-    for way in 0..8 {
-        for (s, a, b, t) in worked {
-            check([s, s], placed(a, b, way), Reply::accepted(t));
-            check([s, s], placed(b, a, way), Reply::accepted(t));
+    for way in 0..16 {
+        for (s, times, t) in worked {
+            for times in orders(times) {
+                check([s, s], placed(times, way), Reply::accepted(t));
+            }
         }
         for (a, b, t) in unequal {
-            check([10, 20], placed(a, b, way), Reply::accepted(t));
-            check([20, 10], placed(b, a, way), Reply::accepted(t));
+            check([10, 20], flat(a, b, way), Reply::accepted(t));
+            check([20, 10], flat(b, a, way), Reply::accepted(t));
         }
     }
     // (26 - 20)² × 20² + (26 - 10)² × 10² is 14,400 + 25,600, just 10² × 20²
-    check([10, 20], placed(20, 10, 0), Reply::accepted(26));
+    check([10, 20], flat(20, 10, 0), Reply::accepted(26));
 }
 
 /// A board seen across its diagonal: g and h change places where the row's times and the column's do.
@@ -200,7 +349,7 @@ fn the_row_is_to_g_what_the_column_is_to_h() {
     for seed in 0..100_000 {
         let mut r = Random::new(seed);
         let [g, h, a, b] = [number(&mut r), number(&mut r), r.below(5_000), r.below(5_000)];
-        let [row, column] = [placed(a, b, 0), placed(b, a, 0)];
+        let [row, column] = [flat(a, b, 0), flat(b, a, 0)];
         assert_eq!(local_rule([g, h], row), local_rule([h, g], column), "g {}, h {}, {} and {}", g, h, a, b);
         differ += u32::from(local_rule([g, h], row) != local_rule([g, h], column));
     }
@@ -231,11 +380,27 @@ fn diagonal_goes_on_where_its_table_ends() {
 fn local_rule_adds_the_diagonal_step_of_an_equal_pair_where_both_times_are_equal() {
     for s in 1..=SLOWEST {
         for t in [0, 5, 123_456_789, LARGEST] {
-            check([s, s], placed(t, t, s % 8), Reply::accepted(t + diagonal(s).count));
+            check([s, s], flat(t, t, s % 8), Reply::accepted(t + diagonal(s).count));
         }
     }
-    let [low, step, high] = [diagonal(10).count, local_rule([10, 20], [0; 4]).count, diagonal(20).count];
-    assert_eq!([low, step, high], [8, 9, 15]);
+    let step = local_rule([10, 20], flat(0, 0, 4)).count;
+    assert_eq!([diagonal(10).count, step, diagonal(20).count], [8, 9, 15]);
+}
+
+/// D serves where the third square is zero: where z is not before a + D. Three equal times take a shorter step.
+#[test]
+fn the_diagonal_step_serves_where_the_third_time_is_not_before_it() {
+    for s in 1..=SLOWEST {
+        let (t, d) = (1_000 + s * 17, diagonal(s).count);
+        for later in [t + d, t + d + 1, t + s, t + 2 * s, LARGEST, LARGEST + 1] {
+            for times in orders([t, t, later.max(t + d)]) {
+                check([s, s], placed(times, s % 16), Reply::accepted(t + d));
+            }
+        }
+        let three = local_rule([s, s], placed([t; 3], s % 16)).count - t;
+        assert!(3 * three * three >= s * s && 3 * (three - 1) * (three - 1) < s * s, "slowness {}: {}", s, three);
+        assert!(three < d || s < 8, "slowness {}: {} and {}", s, three, d);
+    }
 }
 
 #[test]

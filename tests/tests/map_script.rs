@@ -1,6 +1,6 @@
 //! The example boards, the script that makes scenario files of drawn maps, and the one that says refusals in words.
 
-use second_solver::board::Board;
+use second_solver::board::{size_of, Board};
 use second_solver::compare::Tally;
 use second_solver::declared::{files, read, repository};
 use second_solver::ffi::scenario;
@@ -42,7 +42,7 @@ fn made(way: &str, input: &[u8]) -> Vec<u8> {
 
 fn examples(ending: &str) -> Vec<PathBuf> {
     let found = files(&repository().join("examples"), ending);
-    assert!(found.len() >= 6, "{} examples end with {}", found.len(), ending);
+    assert!(found.len() >= 7, "{} examples end with {}", found.len(), ending);
     found
 }
 
@@ -119,7 +119,7 @@ fn random_scenario(seed: u64) -> Held {
 }
 
 fn written(held: &Held) -> Vec<u8> {
-    let mut out = vec![0; 18 + 20 * held.board.size()];
+    let mut out = vec![0; 20 + 20 * held.board.size()];
     let reply = scenario::write(&held.board, held.ticks, held.ground, &mut out);
     assert_eq!(reply.number, 0);
     out.truncate(reply.count as usize);
@@ -131,10 +131,11 @@ fn held_in(file: &[u8]) -> Held {
     let (mut slow, mut cells, mut begins) = (vec![0; 65_536], vec![0; 65_536], vec![0; 65_536]);
     let s = scenario::read(file, &mut slow, &mut cells, &mut begins);
     assert_eq!(s.number, 0);
-    slow.truncate((s.width * s.height) as usize);
+    let (width, height, storeys) = (s.width, s.height, s.storeys);
+    slow.truncate(size_of([width, height, storeys]) as usize);
     cells.truncate(s.starts as usize);
     begins.truncate(s.starts as usize);
-    Held { ticks: s.ticks, ground: s.ground, board: Board { width: s.width, height: s.height, slow, cells, begins } }
+    Held { ticks: s.ticks, ground: s.ground, board: Board { width, height, storeys, slow, cells, begins } }
 }
 
 #[test]
@@ -166,7 +167,13 @@ fn drawn(r: &mut Random, held: &Held) -> String {
     let by_numbers = r.once_in(4);
     for (&cell, &begin) in board.cells.iter().zip(&board.begins) {
         if by_numbers || r.once_in(2) {
-            text += &format!("start {} {} {}\n", cell % board.width, cell / board.width, begin);
+            let (row, column) = (cell / board.width, cell % board.width);
+            text += &format!("start {} {} {}", column, row % board.height, begin);
+            // the lowest storey need not be named
+            if row >= board.height || r.once_in(8) {
+                text += &format!(" storey {}", row / board.height);
+            }
+            text.push('\n');
         } else {
             cells[cell as usize].1 = Some(begin);
         }
@@ -184,7 +191,10 @@ fn drawn(r: &mut Random, held: &Held) -> String {
         text += &format!("{} = {}{}\n", letter(cell), word_for(r, cell.0), start);
     }
     text += if by_numbers { "" } else { "map\n" };
-    for row in cells.chunks(board.width as usize) {
+    for (i, row) in (0..).zip(cells.chunks(board.width as usize)) {
+        if i > 0 && i % board.height == 0 {
+            text += &format!("storey {}\n", i / board.height);
+        }
         if by_numbers {
             let numbers: Vec<String> = row.iter().map(|cell| word_for(r, cell.0)).collect();
             text += &numbers.join(" ");
@@ -251,6 +261,8 @@ fn the_script_says_which_line_of_a_map_it_refuses_and_why() {
     let digits = format!("# = {}", "9".repeat(5_000));
     let wide = format!("map\n{}", ".".repeat(257));
     let high = format!("map\n{}", ".\n".repeat(257));
+    let ninth: String = (0..9).map(|storey| format!("storey {}\n.\n", storey)).collect();
+    let ninth = ninth.replacen("storey 0", "map", 1);
     let cases = [
         ("turns 4", "line 4: not a line of a map's head; rows stand behind a line `map`: turns 4"),
         ("turns // so", "line 4: not a line of a map's head; rows stand behind a line `map`: turns // so"),
@@ -278,7 +290,10 @@ fn the_script_says_which_line_of_a_map_it_refuses_and_why() {
             "line 4: start time `1000001` is not a number from 0 to 1,000,000: S = 9 start 1000001",
         ),
         ("/ = 10", "line 4: `/` is no letter: two of them begin a remark: / = 10"),
-        ("start 0 0", "line 4: a start is `start COLUMN ROW TIME`: start 0 0"),
+        ("start 0 0", "line 4: a start is `start COLUMN ROW TIME` or `start COLUMN ROW TIME storey STOREY`: start 0 0"),
+        ("start 0 0 5 1", "line 4: a start is `start COLUMN ROW TIME` or `start COLUMN ROW TIME storey STOREY`: start"),
+        ("start 0 0 5 storey 8\nmap\n.", "line 4: storey `8` is not a number from 0 to 7: start 0 0 5 storey 8"),
+        ("start 0 0 5 storey 1\nmap\n.", "line 4: storey 1 is off the board, whose last one is 0: start 0 0 5 storey"),
         ("start 0 0 1000001\nmap\n.", "line 4: start time `1000001` is not a number from 0 to 1,000,000: start 0 0 1"),
         ("start 256 0 0\nmap\n.", "line 4: column `256` is not a number from 0 to 255: start 256 0 0"),
         ("start 2 0 0\nmap\n..", "line 4: column 2 is off the board, which is 2 wide: start 2 0 0"),
@@ -295,6 +310,14 @@ fn the_script_says_which_line_of_a_map_it_refuses_and_why() {
         (&high, "line 261: height `257` is not a number from 1 to 256: ."),
         ("map", "there are no rows behind the line `map`"),
         ("", "there is no line `map`"),
+        ("map\n..\nstorey 2\n..", "line 6: the storey that comes next is 1: storey 2"),
+        ("map\nstorey 1\n..", "line 5: there are no rows behind the line `map`: storey 1"),
+        ("map\n..\nstorey 1\n...", "line 7: a row of 3 cells, the first has 2: ..."),
+        ("map\n..\nstorey 1\n..\n..", "line 8: a row more than the 1 of storey 0: .."),
+        ("map\n..\n..\nstorey 1\n..\nstorey 2", "line 9: storey 1 has 1 rows, storey 0 has 2: storey 2"),
+        ("map\n..\n..\nstorey 1\n..", "storey 1 has 1 rows, storey 0 has 2"),
+        (&ninth, "line 20: storey `8` is not a number from 0 to 7: storey 8"),
+        ("f = 10:20\nmap\n.f\nstorey 1\n..", "slowness `10:20` is two numbers; with 2 storeys or more it is one"),
     ];
     assert_complaints("file", &cases.map(|(text, why)| (format!("{}{}\n", HEAD, text).into_bytes(), why)));
 }
@@ -319,9 +342,11 @@ fn the_script_says_what_is_wrong_with_ticks_and_ground() {
 fn the_largest_and_the_least_of_everything_are_drawn() {
     let wide = format!("ticks 65535\nground 4095:1\n. = 0\nS = 4095 start 1000000\nmap\n{}S\n", ".".repeat(255));
     let high = format!("ticks 1\nground 0\n. = 0\nstart 0 255 0\nmap\n{}", ".\n".repeat(256));
-    for (drawn, sides) in [(wide, [0, 1, 1, 0]), (high, [1, 0, 0, 1])] {
+    let storeys: String = (1..8).map(|storey| format!("storey {}\n{}", storey, ".\n".repeat(256))).collect();
+    let highest = format!("{}{}", high, storeys).replace("start 0 255 0", "start 0 255 0 storey 7");
+    for (drawn, sides) in [(wide, [0, 1, 1, 0, 1, 0]), (high, [1, 0, 0, 1, 1, 0]), (highest, [1, 0, 0, 1, 8, 0])] {
         let file = made("file", drawn.as_bytes());
-        assert_eq!(file[..4], sides);
+        assert_eq!(file[..6], sides);
         assert_eq!(made("file", &made("text", &file)), file);
     }
 }
@@ -342,9 +367,9 @@ fn two_numbers_are_drawn_where_they_differ() {
     assert_eq!(held.board.slow, [pair(5, 6), equal(5), equal(6), pair(6, 5), 0, 0]);
 }
 
-/// Width, height, ticks, the ground's two numbers, then the counts of runs and starts; a run is of a first cell, a
-/// length and two numbers.
-fn file(head: [u16; 5], runs: &[(u32, u32, [u16; 2])], starts: &[[u32; 2]]) -> Vec<u8> {
+/// Width, height, storeys, ticks, the ground's two numbers, then the counts of runs and starts; a run is of a first
+/// cell, a length and two numbers.
+fn file(head: [u16; 6], runs: &[(u32, u32, [u16; 2])], starts: &[[u32; 2]]) -> Vec<u8> {
     let mut file: Vec<u8> = head.iter().flat_map(|number| number.to_le_bytes()).collect();
     file.extend([runs.len(), starts.len()].iter().flat_map(|&count| (count as u32).to_le_bytes()));
     for (first, length, slowness) in runs {
@@ -357,17 +382,25 @@ fn file(head: [u16; 5], runs: &[(u32, u32, [u16; 2])], starts: &[[u32; 2]]) -> V
 
 #[test]
 fn the_script_says_what_it_cannot_draw_of_a_file() {
-    let (good, five) = ([2, 2, 10, 10, 20], [5, 5]);
+    let (good, house, five) = ([2, 2, 1, 10, 10, 20], [2, 2, 2, 10, 10, 10], [5, 5]);
     made("text", &file(good, &[(1, 2, five)], &[[0, 0], [3, 7]]));
+    made("text", &file(house, &[(1, 6, five)], &[[0, 0], [7, 7]]));
     let cases = [
         (b"short".to_vec(), "a file of 5 bytes is too short for a head"),
-        (file([65_535; 5], &[], &[]), "width `65535` is not a number from 1 to 256"),
-        (file([1, 257, 10, 10, 10], &[], &[]), "height `257` is not a number from 1 to 256"),
-        (file([0, 1, 10, 10, 10], &[], &[]), "width `0` is not a number from 1 to 256"),
-        (file([2, 2, 0, 10, 10], &[], &[]), "ticks `0` is not a number from 1 to 65,535"),
-        (file([2, 2, 10, 4_096, 0], &[], &[]), "ground `4096` is not a number from 0 to 4,095"),
-        (file([2, 2, 10, 10, 4_096], &[], &[]), "ground `4096` is not a number from 0 to 4,095"),
-        (file([2, 2, 10, 10, 0], &[], &[]), "ground `10:0` has one number that is 0, and a wall has two"),
+        (file([65_535; 6], &[], &[]), "width `65535` is not a number from 1 to 256"),
+        (file([1, 257, 1, 10, 10, 10], &[], &[]), "height `257` is not a number from 1 to 256"),
+        (file([0, 1, 1, 10, 10, 10], &[], &[]), "width `0` is not a number from 1 to 256"),
+        (file([2, 2, 0, 10, 10, 10], &[], &[]), "storeys `0` is not a number from 1 to 8"),
+        (file([2, 2, 9, 10, 10, 10], &[], &[]), "storeys `9` is not a number from 1 to 8"),
+        (file([256, 129, 2, 10, 10, 10], &[], &[]), "cells `66048` is not a number from 1 to 65,536"),
+        (file([2, 2, 1, 0, 10, 10], &[], &[]), "ticks `0` is not a number from 1 to 65,535"),
+        (file([2, 2, 1, 10, 4_096, 0], &[], &[]), "ground `4096` is not a number from 0 to 4,095"),
+        (file([2, 2, 1, 10, 10, 4_096], &[], &[]), "ground `4096` is not a number from 0 to 4,095"),
+        (file([2, 2, 1, 10, 10, 0], &[], &[]), "ground `10:0` has one number that is 0, and a wall has two"),
+        (file([2, 2, 2, 10, 10, 20], &[], &[]), "slowness `10:20` is two numbers; with 2 storeys or more it is one"),
+        (file(house, &[(1, 6, [5, 6])], &[]), "slowness `5:6` is two numbers; with 2 storeys or more it is one"),
+        (file(house, &[(1, 8, five)], &[]), "run 0, counted from 0, passes the board's end"),
+        (file(house, &[], &[[8, 0]]), "start 0, counted from 0, is off the board"),
         ([file(good, &[], &[]), vec![0]].concat(), "the file is not as long as its head says"),
         (file(good, &[(0, 1, [4_096, 5])], &[]), "slowness `4096` is not a number from 0 to 4,095"),
         (file(good, &[(0, 1, [5, 4_096])], &[]), "slowness `4096` is not a number from 0 to 4,095"),
@@ -391,7 +424,7 @@ fn the_script_says_what_it_cannot_draw_of_a_file() {
 fn the_script_names_the_start_that_the_library_names() {
     let mut r = Random::new(72_000_000);
     let mut starts = || (0..r.within(2, 6)).map(|_| [r.below(11), 0]).collect::<Vec<_>>();
-    let files: Vec<Vec<u8>> = (0..1_000).map(|_| file([3, 3, 10, 10, 20], &[], &starts())).collect();
+    let files: Vec<Vec<u8>> = (0..1_000).map(|_| file([3, 3, 1, 10, 10, 20], &[], &starts())).collect();
     let mut tally = Tally::default();
     for (file, told) in files.iter().zip(many(&["text"], &files)) {
         let s = scenario::read(file, &mut [0; 9], &mut [0; 6], &mut [0; 6]);
@@ -424,7 +457,7 @@ fn the_scripts_say_how_they_are_called() {
 #[test]
 fn output_that_cannot_be_written_ends_the_scripts_badly_and_without_a_traceback() {
     let slow = (0..65_536).map(|cell| equal(cell % 4_096)).collect();
-    let board = Board { width: 256, height: 256, slow, cells: vec![1], begins: vec![0] };
+    let board = Board { width: 256, height: 256, storeys: 1, slow, cells: vec![1], begins: vec![0] };
     let held = Held { ticks: 10, ground: equal(1), board };
     let drawn = made("text", &written(&held));
     let shown = rings(&fs::read(repository().join("examples/maze.scenario")).expect("a scenario")).into_bytes();

@@ -4,13 +4,14 @@ use second_solver::board::{Board, Grid};
 use second_solver::calls::{Call, Kind};
 use second_solver::compare::{play_both, tablet_both};
 use second_solver::ffi::{engine, engine_records, tablet};
-use second_solver::generate::{self, garbage, snake};
+use second_solver::generate::{self, garbage, snake, stairs};
 use second_solver::march::solved;
 use second_solver::random::Random;
 use second_solver::rule::equal;
 use second_solver::scenario::file_of;
 use second_solver::shown::{SHOWN_HORIZON, SHOWN_SIDE};
 use second_solver::tiles::{rounds_of_one_tile, tile_count, up};
+use second_solver::typed::open_house;
 use second_solver::{LARGEST, LONGEST_SIDE};
 
 /// The seed of what lent lists hold at first.
@@ -66,11 +67,11 @@ fn assert_typed(board: &Board, tile: [u32; 2], typed: &[(u32, u32, u64)]) {
     }
 }
 
-/// The slownesses are those of equal pairs.
+/// A board of one storey; the slownesses are those of equal pairs.
 fn board(width: u32, height: u32, slow: Vec<u32>, starts: &[(u32, u32)]) -> Board {
     let slow = slow.into_iter().map(equal).collect();
     let (cells, begins) = starts.iter().copied().unzip();
-    Board { width, height, slow, cells, begins }
+    Board { width, height, storeys: 1, slow, cells, begins }
 }
 
 /// Its times are 0 10 20, 10 18 26, 20 26 34.
@@ -87,6 +88,21 @@ fn the_three_by_three_board_takes_the_rounds_worked_by_hand() {
         (10, 31, 4), (10, 34, 5), (17, 34, 3), (33, 34, 3), (34, 34, 2), (34, 35, 2), (1, 0, 2), (1, 1, 2), (1, 2, 2),
         (1, 9, 9), (1, 10, 11), (1, 11, 11), (1, 18, 19), (1, 20, 21), (1, 26, 27), (1, 33, 33), (1, 34, 35),
     ]);
+}
+
+/// Its times are 0 10, 10 18, and over them 10 18, 18 24. A tile spans both storeys, so one of two by two covers it.
+#[test]
+#[rustfmt::skip]
+fn a_house_takes_the_rounds_worked_by_hand() {
+    assert_typed(&open_house(), [2, 2], &[
+        (10, 0, 2), (10, 9, 2), (10, 10, 2), (10, 17, 2), (10, 18, 3), (10, 23, 3), (10, 24, 4), (10, 30, 4),
+        (10, 31, 4), (20, 23, 2), (20, 24, 3), (24, 24, 2), (24, 35, 2), (18, 35, 3), (6, 24, 5), (9, 18, 3),
+        (1, 18, 19), (1, 23, 23), (1, 24, 25),
+    ]);
+    for tile in [[1, 1], [2, 1], [1, 2]] {
+        let (rounds, times) = run(&open_house(), tile, 24, 24);
+        assert!(rounds > 2 && rounds_of_one_tile(&times, 24, 24) == 2, "tiles {:?}: {} rounds", tile, rounds);
+    }
 }
 
 /// One way only is not enough.
@@ -175,7 +191,8 @@ fn without_starts_and_among_walls_the_rounds_are_exactly_k() {
     }
 }
 
-/// The corridor's last cell is its 32,896th, at 135,705,025.
+/// The corridor's last cell is its 32,896th, at 135,705,025. The house has four storeys of 4,112 cells each, and four
+/// stairs of one cell: the last is the 16,452nd, at 68,366,845.
 #[test]
 #[rustfmt::skip]
 fn the_largest_boards_and_numbers_take_the_rounds_worked_by_hand() {
@@ -186,6 +203,10 @@ fn the_largest_boards_and_numbers_take_the_rounds_worked_by_hand() {
     assert_typed(&snake(256, 256, 4_095), [256, 256], &[
         (1, 135_705_024, 135_705_024), (1, 135_705_025, 135_705_026), (1, 135_705_026, 135_705_026),
         (2, 135_705_026, 67_852_514),
+    ]);
+    assert_typed(&stairs(256, 32, 8, 4_095), [256, 32], &[
+        (1, 68_366_844, 68_366_844), (1, 68_366_845, 68_366_846), (1, 68_366_846, 68_366_846),
+        (2, 68_366_845, 34_183_424),
     ]);
 }
 

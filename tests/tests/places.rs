@@ -1,5 +1,6 @@
 //! Which start is at fault: the number and the place that every call which judges starts answers, over records and over
-//! plain lists, on lists with many faults and on those that a library which judges in parts may get wrong.
+//! plain lists, on boards of one storey and of several, on lists with many faults and on those that a library which
+//! judges in parts may get wrong.
 
 use second_solver::board::Board;
 use second_solver::calls::{Call, Kind};
@@ -13,7 +14,7 @@ use second_solver::random::Random;
 use second_solver::rule::equal;
 use second_solver::scenario::{file_of, Held, Scenario};
 use second_solver::tiles::tile_count;
-use second_solver::{Cause, Start, LATEST_START, NEVER};
+use second_solver::{Cause, Start, LATEST_START, MOST_STOREYS, NEVER};
 
 const ENGINES: [Engine; 2] = [engine::play, engine_records::play];
 const WRITERS: [Writer; 2] = [scenario::write, scenario_records::write];
@@ -61,10 +62,16 @@ fn judged(board: &Board, seed: u64) -> Cause {
 }
 
 /// An open board with starts in these cells.
-fn open(width: u32, height: u32, cells: Vec<u32>) -> Board {
+fn open([width, height, storeys]: [u32; 3], cells: Vec<u32>) -> Board {
     let begins = vec![0; cells.len()];
-    Board { width, height, slow: vec![equal(10); (width * height) as usize], cells, begins }
+    let slow = vec![equal(10); (width * height * storeys) as usize];
+    Board { width, height, storeys, slow, cells, begins }
 }
+
+/// Boards of 1,024 cells and of 65,536, each flat and as a house; one of nine.
+const MEDIUM: [[u32; 3]; 2] = [[32, 32, 1], [8, 16, 8]];
+const LARGE: [[u32; 3]; 2] = [[256, 256, 1], [128, 64, 8]];
+const SMALL: [[u32; 3]; 2] = [[3, 3, 1], [1, 3, 3]];
 
 fn off(place: usize) -> Cause {
     Cause { number: 7, place }
@@ -80,12 +87,13 @@ const ACCEPTED: Cause = Cause { number: 0, place: 0 };
 fn crowded(r: &mut Random) -> Board {
     let longest = if r.once_in(10) { 32 } else { 8 };
     let (width, height) = (r.within(1, longest), r.within(1, longest));
-    let slow = generate::slownesses(r, (width * height) as usize);
+    let storeys = if r.once_in(2) { 1 } else { r.within(1, MOST_STOREYS).min(1_024 / (width * height)) };
+    let slow = generate::slownesses(r, [width, height, storeys]);
     let rare = r.within(2, 10);
-    let open = (0..width * height).filter(|&c| slow[c as usize] > 0);
+    let open = (0..slow.len() as u32).filter(|&c| slow[c as usize] > 0);
     let cells: Vec<u32> = open.filter(|_| !r.once_in(rare)).collect();
     let begins = cells.iter().map(|_| r.within(0, 400)).collect();
-    Board { width, height, slow, cells, begins }
+    Board { width, height, storeys, slow, cells, begins }
 }
 
 /// One fault anywhere; a cell off the board only where that is asked for, since it beats the others.
@@ -117,7 +125,7 @@ fn at_fault(board: &Board) -> usize {
 /// 7 beats 18 also where 18's start comes first, and the place is then 7's own; of several starts the first is named.
 #[test]
 fn seeded_lists_with_several_faults_are_judged_as_the_second_solver_judges_them() {
-    let mut tally = Tally::default();
+    let [mut on_flat_boards, mut in_houses] = [(); 2].map(|()| Tally::default());
     let (mut past_a_fall, mut of_its_kind, mut several, mut past_a_part) = (0, 0, 0, 0);
     for seed in 90_000_000..90_060_000 {
         let mut r = Random::new(seed);
@@ -127,6 +135,7 @@ fn seeded_lists_with_several_faults_are_judged_as_the_second_solver_judges_them(
             put_fault(&mut r, &mut board, is_off);
         }
         let cause = judged(&board, seed);
+        let tally = if board.storeys == 1 { &mut on_flat_boards } else { &mut in_houses };
         tally.note(cause.number);
         let size = board.size() as u32;
         let past = board.cells.iter().enumerate().skip(cause.place + 1);
@@ -137,7 +146,7 @@ fn seeded_lists_with_several_faults_are_judged_as_the_second_solver_judges_them(
         let before = &board.cells[..cause.place];
         past_a_fall += u32::from(cause.number == 7 && before.windows(2).any(|pair| pair[1] <= pair[0]));
     }
-    tally.assert_each(&[7, 18, 8, 9], 1_000);
+    [on_flat_boards, in_houses].iter().for_each(|tally| tally.assert_each(&[7, 18, 8, 9], 300));
     assert!(past_a_fall > 1_000 && of_its_kind > 3_000, "{} past a fall, {} of several", past_a_fall, of_its_kind);
     assert!(several > 20_000 && past_a_part > 400, "{} with several faults, {} past a part", several, past_a_part);
 }
@@ -146,11 +155,12 @@ fn seeded_lists_with_several_faults_are_judged_as_the_second_solver_judges_them(
 /// behind them nothing, good starts, starts that are at fault by the same cause, and by the other one.
 #[test]
 fn faults_beside_the_seams_of_parts_are_found_at_their_places() {
-    for (side, place) in [255, 256, 257, 511, 512, 513].map(|place| (32, place)).into_iter().chain([(256, 65_535)]) {
-        let (size, last) = (side * side, place as u32);
+    let medium = MEDIUM.into_iter().flat_map(|sides| [255, 256, 257, 511, 512, 513].map(|place| (sides, place)));
+    for (sides, place) in medium.chain(LARGE.map(|sides| (sides, 65_535))) {
+        let (size, last) = (sides.iter().product(), place as u32);
         let with = |fault: u32, behind: &[u32]| {
             let cells = (0..last).chain([fault]).chain(behind.iter().copied()).collect();
-            judged(&open(side, side, cells), u64::from(last))
+            judged(&open(sides, cells), u64::from(last))
         };
         for fault in [size, NEVER] {
             for behind in [&[][..], &[0, 5], &[0, 0, 7, 3], &[size + 1, 3, size]] {
@@ -171,69 +181,101 @@ fn faults_beside_the_seams_of_parts_are_found_at_their_places() {
 /// Every part of 256 rises by itself: only the pair that straddles two of them does not.
 #[test]
 fn a_pair_that_straddles_two_parts_is_looked_at() {
-    let of = |ranges: &[std::ops::Range<u32>]| judged(&open(32, 32, ranges.iter().cloned().flatten().collect()), 0);
-    assert_eq!(of(&[0..256, 256..512, 512..768]), ACCEPTED);
-    assert_eq!(of(&[0..256, 255..511]), not_rising(256));
-    assert_eq!(of(&[300..556, 0..256]), not_rising(256));
-    assert_eq!(of(&[0..256, 256..512, 511..767]), not_rising(512));
-    assert_eq!(of(&[0..256, 600..856, 0..256]), not_rising(512));
-    assert_eq!(of(&[512..768, 256..512, 0..256]), not_rising(256));
-    assert_eq!(of(&[0..256, 256..512, 0..256, 1_023..1_025]), off(769));
+    for sides in MEDIUM {
+        let of = |ranges: &[std::ops::Range<u32>]| judged(&open(sides, ranges.iter().cloned().flatten().collect()), 0);
+        assert_eq!(of(&[0..256, 256..512, 512..768]), ACCEPTED);
+        assert_eq!(of(&[0..256, 255..511]), not_rising(256));
+        assert_eq!(of(&[300..556, 0..256]), not_rising(256));
+        assert_eq!(of(&[0..256, 256..512, 511..767]), not_rising(512));
+        assert_eq!(of(&[0..256, 600..856, 0..256]), not_rising(512));
+        assert_eq!(of(&[512..768, 256..512, 0..256]), not_rising(256));
+        assert_eq!(of(&[0..256, 256..512, 0..256, 1_023..1_025]), off(769));
+    }
 }
 
 #[test]
 fn a_rising_list_longer_than_the_board_is_off_it_at_the_first_start_too_many() {
-    for (width, height, count) in [(1, 1, 2), (1, 1, 300), (16, 16, 257), (32, 32, 5_000), (256, 256, 65_537)] {
-        let size = width * height;
-        assert_eq!(judged(&open(width, height, (0..count).collect()), 0), off(size as usize), "{} starts", count);
+    let flat = [([1, 1, 1], 2), ([1, 1, 1], 300), ([16, 16, 1], 257), ([32, 32, 1], 5_000), ([256, 256, 1], 65_537)];
+    let houses = [([1, 1, 8], 9), ([2, 3, 4], 300), ([8, 16, 8], 5_000), ([128, 64, 8], 65_537), ([90, 90, 8], 65_537)];
+    for (sides, count) in flat.into_iter().chain(houses) {
+        let size = sides.iter().product::<u32>() as usize;
+        assert_eq!(judged(&open(sides, (0..count).collect()), 0), off(size), "{} starts on {:?}", count, sides);
+    }
+}
+
+/// A cell that is off one storey is on the next one, to the last: N counts, and not width × height.
+#[test]
+fn cells_of_every_storey_are_on_the_board() {
+    for storeys in 1..=8 {
+        let sides = [3, 2, storeys];
+        let (first_of_each, size) = ((0..storeys).map(|storey| 6 * storey), 6 * storeys);
+        let with = |more: &[u32]| judged(&open(sides, first_of_each.clone().chain(more.iter().copied()).collect()), 0);
+        let place = storeys as usize;
+        assert_eq!([with(&[]), with(&[size - 1])], [ACCEPTED; 2], "{} storeys", storeys);
+        assert_eq!([with(&[size]), with(&[size - 6, size])], [off(place), off(place + 1)], "{} storeys", storeys);
+        assert_eq!([with(&[size - 6]), with(&[0])], [not_rising(place); 2], "{} storeys", storeys);
     }
 }
 
 /// A list with no place that is good is at fault from its second start on.
 #[test]
 fn equal_and_falling_lists_are_at_fault_at_their_second_start() {
-    for count in [2, 255, 256, 257, 1_024, 70_000] {
-        assert_eq!(judged(&open(32, 32, vec![1_023; count]), 0), not_rising(1), "{} times the last cell", count);
-        assert_eq!(judged(&open(32, 32, vec![0; count]), 0), not_rising(1), "{} times the first cell", count);
-        assert_eq!(judged(&open(32, 32, vec![1_024; count]), 0), off(0), "{} times a cell off the board", count);
+    for sides in MEDIUM {
+        for count in [2, 255, 256, 257, 1_024, 70_000] {
+            assert_eq!(judged(&open(sides, vec![1_023; count]), 0), not_rising(1), "{} times the last cell", count);
+            assert_eq!(judged(&open(sides, vec![0; count]), 0), not_rising(1), "{} times the first cell", count);
+            assert_eq!(judged(&open(sides, vec![1_024; count]), 0), off(0), "{} times a cell off the board", count);
+        }
     }
-    for count in [2, 256, 257, 65_536] {
-        assert_eq!(judged(&open(256, 256, (0..count).rev().collect()), 0), not_rising(1), "{} falling", count);
+    for sides in LARGE {
+        for count in [2, 256, 257, 65_536] {
+            assert_eq!(judged(&open(sides, (0..count).rev().collect()), 0), not_rising(1), "{} falling", count);
+        }
     }
-    assert_eq!(judged(&open(3, 3, vec![8, 0, 1, 2]), 0), not_rising(1), "a high cell first, then a fall");
-    assert_eq!(judged(&open(3, 3, vec![9, 0, 1, 2]), 0), off(0), "a first cell off the board, then a fall");
+    for sides in SMALL {
+        assert_eq!(judged(&open(sides, vec![8, 0, 1, 2]), 0), not_rising(1), "a high cell first, then a fall");
+        assert_eq!(judged(&open(sides, vec![9, 0, 1, 2]), 0), off(0), "a first cell off the board, then a fall");
+    }
 }
 
 /// 7 beats 18, however many starts before it fall, and its place is its own.
 #[test]
 fn one_start_off_the_board_behind_a_long_falling_list_is_found() {
-    for (count, cell) in [(255, 65_536), (256, 65_536), (257, NEVER), (65_536, 65_536), (65_536, 1 << 31)] {
-        let cells = (0..count).rev().chain([cell, 0, NEVER]).collect();
-        assert_eq!(judged(&open(256, 256, cells), 0), off(count as usize), "{} falling, then {}", count, cell);
+    for sides in LARGE {
+        for (count, cell) in [(255, 65_536), (256, 65_536), (257, NEVER), (65_536, 65_536), (65_536, 1 << 31)] {
+            let cells = (0..count).rev().chain([cell, 0, NEVER]).collect();
+            assert_eq!(judged(&open(sides, cells), 0), off(count as usize), "{} falling, then {}", count, cell);
+        }
     }
 }
 
 /// Cells that are on the board where they are cut to 8, 16, 24 or 31 bits, and the largest numbers there are.
 #[test]
 fn the_largest_numbers_are_no_cells_and_no_times() {
-    for cell in [9, 1 << 8, 1 << 16, (1 << 16) + 4, 1 << 24, 1 << 29, 1 << 31, (1 << 31) + 4, NEVER - 1, NEVER] {
-        assert_eq!(judged(&open(3, 3, vec![0, 3, cell]), 0), off(2), "{}", cell);
-        assert_eq!(judged(&open(3, 3, vec![cell, cell]), 0), off(0), "{} twice", cell);
-        assert_eq!(judged(&open(3, 3, vec![8, 8, cell, 0]), 0), off(2), "{} behind two that do not rise", cell);
+    for sides in SMALL {
+        for cell in [9, 1 << 8, 1 << 16, (1 << 16) + 4, 1 << 24, 1 << 29, 1 << 31, (1 << 31) + 4, NEVER - 1, NEVER] {
+            assert_eq!(judged(&open(sides, vec![0, 3, cell]), 0), off(2), "{}", cell);
+            assert_eq!(judged(&open(sides, vec![cell, cell]), 0), off(0), "{} twice", cell);
+            assert_eq!(judged(&open(sides, vec![8, 8, cell, 0]), 0), off(2), "{} behind two that do not rise", cell);
+        }
+        let timed = |cells: Vec<u32>| judged(&Board { begins: vec![NEVER; cells.len()], ..open(sides, cells) }, 0);
+        assert_eq!(timed(vec![0, 3, 8]), 8.into());
+        assert_eq!(timed(vec![0, 3, NEVER]), off(2));
+        assert_eq!(timed(vec![0, 3, 3]), not_rising(2));
+        assert_eq!(timed(vec![NEVER; 300]), off(0));
     }
-    let timed = |cells: Vec<u32>| judged(&Board { begins: vec![NEVER; cells.len()], ..open(3, 3, cells) }, 0);
-    assert_eq!(timed(vec![0, 3, 8]), 8.into());
-    assert_eq!(timed(vec![0, 3, NEVER]), off(2));
-    assert_eq!(timed(vec![0, 3, 3]), not_rising(2));
-    assert_eq!(timed(vec![NEVER; 300]), off(0));
 }
 
 #[test]
 fn an_empty_list_and_one_that_rises_have_no_place() {
-    assert_eq!(judged(&open(3, 3, vec![]), 0), ACCEPTED);
-    assert_eq!(judged(&open(3, 3, vec![8]), 0), ACCEPTED);
-    assert_eq!(judged(&open(3, 3, (0..9).collect()), 0), ACCEPTED);
-    assert_eq!(judged(&open(20, 20, (0..400).collect()), 0), ACCEPTED);
+    for sides in SMALL {
+        assert_eq!(judged(&open(sides, vec![]), 0), ACCEPTED);
+        assert_eq!(judged(&open(sides, vec![8]), 0), ACCEPTED);
+        assert_eq!(judged(&open(sides, (0..9).collect()), 0), ACCEPTED);
+    }
+    for sides in MEDIUM {
+        assert_eq!(judged(&open(sides, (0..1_024).collect()), 0), ACCEPTED);
+    }
 }
 
 /// No cause, one, or one and a start at fault beside it.

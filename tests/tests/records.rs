@@ -73,16 +73,17 @@ fn calls_over_records_are_the_second_solvers() {
 /// Counts of starts on both sides of the powers of two at which a list of records may be cut.
 const COUNTS: [usize; 16] = [0, 1, 2, 63, 64, 65, 127, 128, 129, 255, 256, 257, 511, 512, 513, 1_024];
 
-/// An open board of 32 by 32 with so many starts, anywhere.
+/// An open board of 32 by 32, or of 16 by 16 in four storeys, with so many starts, anywhere.
 fn crowded(r: &mut Random, count: usize) -> Board {
-    let apart = r.once_in(2);
+    let (is_flat, apart) = (r.once_in(2), r.once_in(2));
+    let (side, storeys, apart) = if is_flat { (32, 1, apart) } else { (16, 4, false) };
     let slow: Vec<u32> = (0..1_024).map(|_| generate::open(r, apart, |r| r.within(1, 400))).collect();
     let mut cells: Vec<u32> = (0..1_024).collect();
     r.shuffle(&mut cells);
     cells.truncate(count);
     cells.sort_unstable();
     let begins = cells.iter().map(|_| r.within(0, 20_000)).collect();
-    Board { width: 32, height: 32, slow, cells, begins }
+    Board { width: side, height: side, storeys, slow, cells, begins }
 }
 
 /// Spoils one start, or two neighbours; a board without starts stays good.
@@ -112,8 +113,9 @@ fn every_start_of_a_long_list_is_judged_and_used() {
         if r.once_in(2) {
             spoil_start(&mut r, &mut board);
         }
-        let (across, down) = (generate::tile_side(&mut r, 32), generate::tile_side(&mut r, 32));
-        let order = generate::order(&mut r, tile_count(32, 32, across, down));
+        let side = board.width;
+        let (across, down) = (generate::tile_side(&mut r, side), generate::tile_side(&mut r, side));
+        let order = generate::order(&mut r, tile_count(side, side, across, down));
         let kind = match seed / 16 % 3 {
             0 => Kind::March { horizon: LARGEST },
             1 => Kind::Round { across, down, bound: 30_000, order },
@@ -127,19 +129,22 @@ fn every_start_of_a_long_list_is_judged_and_used() {
     assert!(refused > 1_000 && accepted > 1_000, "{} refused, {} accepted", refused, accepted);
 }
 
-/// As many starts as there are cells on the largest board.
+/// As many starts as there are cells on the largest boards.
 #[test]
-fn a_start_in_every_cell_of_the_largest_board_gives_the_same() {
-    let cells: Vec<u32> = (0..65_536).collect();
-    let begins = cells.iter().map(|c| c * 40_503 % 1_000_001).collect();
-    let board = Board { width: 256, height: 256, slow: vec![equal(10); 65_536], cells, begins };
-    let run = Kind::Run { across: 8, down: 8, stride: 65_536, horizon: LARGEST, order: (0..1_024).collect() };
-    let mut late = board.clone();
-    late.begins[65_535] = 1_000_001;
-    for (board, want) in [(board, 0), (late, 8)] {
-        for kind in [Kind::March { horizon: LARGEST }, run.clone()] {
-            let call = Call { board: board.clone(), kind };
-            assert_eq!(play_in_both_forms(&call, &vec![7; 65_536], &vec![9; 4 * 65_536], 0).number, want);
+fn a_start_in_every_cell_of_the_largest_boards_gives_the_same() {
+    for (width, height, storeys) in [(256, 256, 1), (128, 64, 8)] {
+        let cells: Vec<u32> = (0..65_536).collect();
+        let begins = cells.iter().map(|c| c * 40_503 % 1_000_001).collect();
+        let board = Board { width, height, storeys, slow: vec![equal(10); 65_536], cells, begins };
+        let order = (0..tile_count(width, height, 8, 8)).collect();
+        let run = Kind::Run { across: 8, down: 8, stride: 65_536, horizon: LARGEST, order };
+        let mut late = board.clone();
+        late.begins[65_535] = 1_000_001;
+        for (board, want) in [(board, 0), (late, 8)] {
+            for kind in [Kind::March { horizon: LARGEST }, run.clone()] {
+                let call = Call { board: board.clone(), kind };
+                assert_eq!(play_in_both_forms(&call, &vec![7; 65_536], &vec![9; 4 * 65_536], 0).number, want);
+            }
         }
     }
 }
@@ -212,7 +217,7 @@ fn files_are_written_the_same_in_both_forms() {
         let mut r = Random::new(seed);
         let Held { mut ticks, mut ground, mut board } = random_scenario(&mut r);
         let need = second_solver::scenario::file_of(&board, ticks, ground).len();
-        match r.below(14) {
+        match r.below(16) {
             0 => ticks = r.pick(&[0, 65_536]),
             1 => ground = r.pick(&[pair(4_096, 1), pair(1, 4_096)]),
             2 => board.width = r.pick(&[0, 257]),
@@ -220,6 +225,12 @@ fn files_are_written_the_same_in_both_forms() {
             4 => board.slow[0] = r.pick(&[pair(4_096, 1), pair(1, 4_096)]),
             9 => ground = r.pick(&[pair(1, 0), pair(0, 1)]),
             10 => board.slow[0] = r.pick(&[pair(1, 0), pair(0, 1)]),
+            11 if board.storeys > 1 => board.slow[0] = pair(1, 2),
+            12 if board.storeys > 1 => ground = pair(2, 1),
+            11 | 12 => {
+                board.slow = board.slow.repeat(9);
+                board.storeys = 9;
+            }
             5 => {
                 board.cells.push(board.slow.len() as u32);
                 board.begins.push(0);

@@ -10,7 +10,8 @@ use second_solver::programs::{run, told};
 use second_solver::random::Random;
 use second_solver::rule::{equal, pair};
 use second_solver::scenario::{file_of, Held};
-use second_solver::shown::{self, SHOWN_FILE, SHOWN_HORIZON, SHOWN_SIDE};
+use second_solver::shown::{self, SHOWN_CELLS, SHOWN_FILE, SHOWN_HORIZON, SHOWN_SIDE};
+use second_solver::typed::{HOUSE, HOUSE_LINES};
 use second_solver::NEVER;
 use std::fs;
 use std::io::Write;
@@ -34,7 +35,7 @@ fn shown(file: &[u8], seed: u64) -> String {
 #[test]
 fn the_examples_are_shown_as_they_stand() {
     let examples = files(&repository().join("examples"), ".scenario");
-    assert!(examples.len() >= 5);
+    assert!(examples.len() >= 7);
     for path in examples {
         let want = fs::read_to_string(path.with_extension("rings")).expect("what rings prints");
         assert_eq!(shown(&fs::read(&path).expect("a scenario"), 0), want, "{}", path.display());
@@ -42,7 +43,7 @@ fn the_examples_are_shown_as_they_stand() {
 }
 
 fn random_scenario(r: &mut Random, longest: u32) -> Held {
-    let board = generate::board(r, longest);
+    let board = generate::board_within(r, longest, SHOWN_CELLS);
     generate::scenario(r, board)
 }
 
@@ -83,7 +84,7 @@ fn damaged_files_are_refused_as_the_second_solver_refuses_them() {
         let number = lines.strip_prefix("refused ").map(|number| number.trim_end().parse().expect("a number"));
         tally.note(number.unwrap_or(0));
     }
-    tally.assert_each(&causes, 50);
+    tally.assert_each(&causes, 30);
 }
 
 /// 7 beats 18, though its start comes last.
@@ -91,7 +92,7 @@ fn damaged_files_are_refused_as_the_second_solver_refuses_them() {
 fn a_start_at_fault_is_refused_by_the_number_alone() {
     for (cells, line) in [(vec![0, 9], "refused 7\n"), (vec![8, 0], "refused 18\n"), (vec![3, 3, 9], "refused 7\n")] {
         let begins = vec![0; cells.len()];
-        let board = Board { width: 3, height: 3, slow: vec![equal(10); 9], cells, begins };
+        let board = Board { width: 3, height: 3, storeys: 1, slow: vec![equal(10); 9], cells, begins };
         assert_eq!(shown(&file_of(&board, 10, equal(10)), 0), line, "{:?}", board.cells);
     }
 }
@@ -99,7 +100,14 @@ fn a_start_at_fault_is_refused_by_the_number_alone() {
 /// 5 beats 21 wherever they stand, and 21 beats 6 and 7.
 #[test]
 fn a_pair_at_fault_is_refused_by_its_number() {
-    let good = Board { width: 3, height: 1, slow: [10, 20, 10].map(equal).to_vec(), cells: vec![0], begins: vec![0] };
+    let good = Board {
+        width: 3,
+        height: 1,
+        storeys: 1,
+        slow: [10, 20, 10].map(equal).to_vec(),
+        cells: vec![0],
+        begins: vec![0],
+    };
     let line = |slow: [u32; 3], ground: u32, cell: u32| {
         shown(&file_of(&Board { slow: slow.to_vec(), cells: vec![cell], ..good.clone() }, 10, ground), 0)
     };
@@ -117,18 +125,64 @@ fn a_pair_at_fault_is_refused_by_its_number() {
     assert_eq!(line([ten, pair(1, 4_095), ten], ten, 0), "3 1 10\n0 1 2\n");
 }
 
+/// Storeys one below the other, the lowest number first, no line between, and the first line has the height of one.
+#[test]
+fn a_house_is_shown_storey_by_storey() {
+    assert_eq!(shown(&HOUSE, 0), HOUSE_LINES);
+    let slow = vec![equal(10); 8];
+    let tower = Board { width: 1, height: 1, storeys: 8, slow: slow.clone(), cells: vec![2], begins: vec![0] };
+    assert_eq!(shown(&file_of(&tower, 20, equal(10)), 0), "1 1 20\n1\n1\n0\n1\n1\n2\n2\n3\n");
+    let row = Board { width: 4, height: 1, storeys: 2, slow, cells: vec![4], begins: vec![0] };
+    assert_eq!(shown(&file_of(&row, 1, equal(10)), 0), "4 1 1\n10 18 26 35\n0 10 20 30\n");
+}
+
+/// The file of an even board of 10 with these storeys in its head.
+fn of_storeys(width: u32, height: u32, storeys: u16) -> Vec<u8> {
+    let slow = vec![equal(10); (width * height) as usize];
+    let board = Board { width, height, storeys: u32::from(storeys), slow, cells: vec![0], begins: vec![0] };
+    file_of(&board, 10, equal(10))
+}
+
+/// 15 takes N by the storeys that the file states, good or not: nine of them are 23 on a small board alone.
+#[test]
+fn houses_of_1024_cells_are_shown_and_15_is_judged_before_the_storeys_are() {
+    for (width, height, storeys, first) in [(32, 32, 1, "32 32 10"), (16, 16, 4, "16 16 10"), (8, 16, 8, "8 16 10")] {
+        let lines = shown(&of_storeys(width, height, storeys), 0);
+        assert_eq!(lines.lines().next(), Some(first));
+        assert_eq!(lines.lines().count() as u32, 1 + height * u32::from(storeys));
+    }
+    for (width, height, storeys) in [(32, 32, 2), (8, 16, 9), (32, 32, 9), (32, 32, 65_535), (1, 1, 1_025), (33, 1, 0)]
+    {
+        let line = shown(&of_storeys(width, height, storeys), 0);
+        assert_eq!(line, "refused 15\n", "{} × {} × {}", width, height, storeys);
+    }
+    for (width, height, storeys) in [(3, 3, 9), (3, 3, 0), (32, 32, 0), (1, 1, 1_024), (10, 11, 9)] {
+        let line = shown(&of_storeys(width, height, storeys), 0);
+        assert_eq!(line, "refused 23\n", "{} × {} × {}", width, height, storeys);
+    }
+    let mut unequal = of_storeys(3, 3, 2);
+    unequal[8] = 11;
+    assert_eq!(shown(&unequal, 0), "refused 23\n");
+    unequal[8] = 0;
+    assert_eq!(shown(&unequal, 0), "refused 21\n");
+    unequal[6] = 0;
+    assert_eq!(shown(&unequal, 0), "refused 3\n");
+    unequal[5] = 1;
+    assert_eq!(shown(&unequal, 0), "refused 15\n");
+}
+
 /// 32 by 32, each cell a run and a start of its own.
 fn largest() -> Vec<u8> {
     let cells: Vec<u32> = (0..1_024).collect();
     let begins = cells.iter().map(|c| c * 977 % 1_000_001).collect();
     let slow = cells.iter().map(|c| pair(4_094 + c % 2, 4_095)).collect();
-    let file = file_of(&Board { width: 32, height: 32, slow, cells, begins }, 7, equal(1));
+    let file = file_of(&Board { width: 32, height: 32, storeys: 1, slow, cells, begins }, 7, equal(1));
     assert_eq!(file.len(), SHOWN_FILE);
     file
 }
 
 #[test]
-fn files_of_20498_bytes_pass_and_longer_ones_are_refused_by_15_first() {
+fn files_of_20500_bytes_pass_and_longer_ones_are_refused_by_15_first() {
     let mut file = largest();
     assert!(shown(&file, 0).starts_with("32 32 7\n"));
     assert_eq!(shown(&file[..SHOWN_FILE - 1], 0), "refused 1\n");
@@ -136,8 +190,8 @@ fn files_of_20498_bytes_pass_and_longer_ones_are_refused_by_15_first() {
     assert_eq!(shown(&file, 0), "refused 15\n");
     // as long as its head says, and still too long
     file.extend([0; 7]);
-    file[14] = 1;
-    file[15] = 4;
+    file[16] = 1;
+    file[17] = 4;
     assert_eq!(shown(&file, 0), "refused 15\n");
     for length in SHOWN_FILE - 1..=SHOWN_FILE + 1 {
         let want = if length > SHOWN_FILE { "refused 15\n" } else { "refused 1\n" };
@@ -153,7 +207,7 @@ fn more_than_a_pipe_holds_is_refused_by_15_and_nothing_by_1() {
     let mut large = largest();
     large.resize(200_000, 0);
     assert_eq!(shown(&large, 0), "refused 15\n");
-    for length in 0..18 {
+    for length in 0..20 {
         assert_eq!(shown(&vec![1; length], 0), "refused 1\n", "{} bytes", length);
     }
 }

@@ -3,13 +3,13 @@
 
 use second_solver::board::Board;
 use second_solver::compare::{read_both, write_both, Lists, Tally};
-use second_solver::damage::{spoil_writing, WRITER_CAUSES};
+use second_solver::damage::{spoil_writing, UNEQUAL, WRITER_CAUSES};
 use second_solver::ffi::scenario::{read, write};
 use second_solver::generate::{self, scenarios_of_extreme_sides};
 use second_solver::random::Random;
-use second_solver::rule::{equal, pair};
+use second_solver::rule::{equal, pair, parts};
 use second_solver::scenario::{file_of, Held, Scenario};
-use second_solver::typed::{self, FILE};
+use second_solver::typed::{self, FILE, HOUSE};
 use second_solver::{Cause, Reply, NEVER};
 
 fn bytes(r: &mut Random, length: usize) -> Vec<u8> {
@@ -24,8 +24,9 @@ fn write_and_read(r: &mut Random, held: &Held, out: usize, seed: u64) -> Reply {
         let starts = board.cells.len();
         let lists = Lists { slow: vec![1; board.size()], cells: vec![2; starts], begins: vec![3; starts] };
         let (answer, after) = read_both(read, &file[..reply.count as usize], &lists, seed);
-        let (width, height, starts) = (board.width, board.height, starts as u32);
-        let want = Scenario { number: 0, width, height, ticks: held.ticks, ground: held.ground, starts, place: 0 };
+        let ([width, height, storeys], starts) = (board.sides(), starts as u32);
+        let (ticks, ground) = (held.ticks, held.ground);
+        let want = Scenario { number: 0, width, height, storeys, ticks, ground, starts, place: 0 };
         assert_eq!(answer, want, "seed {}", seed);
         let same = after.slow == board.slow && after.cells == board.cells && after.begins == board.begins;
         assert!(same, "seed {}: the board that is read is another", seed);
@@ -82,11 +83,22 @@ fn the_longest_file_is_written_to_its_end() {
         change(&mut held.board);
         write_and_read(&mut Random::new(82_000_000), &held, out, 0).number
     };
-    let length = 18 + 20 * 65_536;
+    let length = 20 + 20 * 65_536;
     assert_eq!(number(&|b| b.slow[65_535] = pair(4_096, 1), length), 5);
     assert_eq!(number(&|b| b.slow[65_535] = pair(1, 4_096), length), 5);
     assert_eq!(number(&|b| b.slow[65_535] = pair(1, 0), length), 21);
     assert_eq!(number(&|b| b.slow[65_535] = pair(0, 1), length), 21);
+    assert_eq!(number(&|b| b.storeys = 2, length), 4);
+    let as_a_house = |b: &mut Board| {
+        (b.width, b.height, b.storeys) = (128, 64, 8);
+        b.slow.iter_mut().for_each(|s| *s = equal(parts(*s)[0]));
+    };
+    assert_eq!(number(&|b| as_a_house(b), length), 0);
+    let with_one_unequal = |b: &mut Board| {
+        as_a_house(b);
+        b.slow[65_535] = pair(1, 2);
+    };
+    assert_eq!(number(&|b| with_one_unequal(b), length), 23);
     assert_eq!(number(&|b| b.cells[65_535] = 65_536, length), 7);
     assert_eq!(number(&|b| b.cells[65_535] = 65_534, length), 18);
     assert_eq!(number(&|b| b.begins[65_535] = 1_000_001, length), 8);
@@ -95,18 +107,20 @@ fn the_longest_file_is_written_to_its_end() {
 }
 
 #[test]
-fn a_file_typed_by_hand_is_written() {
-    let (reply, out) = write_both(write, &typed::held(), &[0xEE; 66], 0);
-    assert_eq!((reply, &out[..58], &out[58..]), (Reply::accepted(58), &FILE[..], &[0xEE; 8][..]));
+fn the_files_typed_by_hand_are_written() {
+    let (reply, out) = write_both(write, &typed::held(), &[0xEE; 68], 0);
+    assert_eq!((reply, &out[..60], &out[60..]), (Reply::accepted(60), &FILE[..], &[0xEE; 8][..]));
     let mut late = typed::held();
     late.board.begins[1] = 1_000_001;
-    assert_eq!(write_both(write, &late, &[0xEE; 66], 0), (Reply::refused(8), vec![0xEE; 66]));
+    assert_eq!(write_both(write, &late, &[0xEE; 68], 0), (Reply::refused(8), vec![0xEE; 68]));
+    let (reply, out) = write_both(write, &typed::house(), &[0xEE; 50], 0);
+    assert_eq!((reply, &out[..48], &out[48..]), (Reply::accepted(48), &HOUSE[..], &[0xEE; 2][..]));
 }
 
 #[test]
 fn a_list_of_every_length_is_written_or_refused_by_14() {
-    for length in 0..=66 {
-        let want = if length < 58 { Reply::refused(14) } else { Reply::accepted(58) };
+    for length in 0..=68 {
+        let want = if length < 60 { Reply::refused(14) } else { Reply::accepted(60) };
         assert_eq!(write_both(write, &typed::held(), &vec![0xEE; length], 0).0, want, "{} bytes", length);
     }
 }
@@ -115,29 +129,80 @@ fn a_list_of_every_length_is_written_or_refused_by_14() {
 #[test]
 fn of_all_causes_the_first_in_order_is_given() {
     let good = typed::held();
-    let mut held = Held { ticks: 65_536, ground: equal(4_096), board: Board { width: 257, ..good.board.clone() } };
-    held.board.slow.pop();
-    held.board.cells = vec![5, 6];
+    let board = Board { width: 257, storeys: 2, ..good.board.clone() };
+    let mut held = Held { ticks: 65_536, ground: equal(4_096), board };
+    held.board.cells = vec![5, 12];
     held.board.begins[1] = 1_000_001;
     let (off, not_rising) = (Cause { number: 7, place: 1 }, Cause { number: 18, place: 1 });
     type Repair = fn(&mut Held, &Held);
-    let repairs: [(Cause, Repair); 9] = [
+    let repairs: [(Cause, Repair); 11] = [
         (2.into(), |held, good| held.board.width = good.board.width),
         (3.into(), |held, good| held.ticks = good.ticks),
-        (4.into(), |held, good| held.board.slow = [&good.board.slow[..5], &[pair(10, 0)]].concat()),
+        (4.into(), |held, good| held.board.slow = [&good.board.slow[..5], &[pair(10, 0); 7]].concat()),
         (5.into(), |held, good| held.ground = good.ground),
-        (21.into(), |held, good| held.board.slow = good.board.slow.clone()),
+        (21.into(), |held, good| held.board.slow = good.board.slow.repeat(2)),
+        // the ground is unequal, and two cells are
+        (23.into(), |held, _| held.board.slow.iter_mut().for_each(|s| *s = equal(parts(*s)[1]))),
+        (23.into(), |held, _| held.ground = equal(20)),
         (off, |held, _| held.board.cells[1] = 2), // a wall
         (not_rising, |held, good| held.board.cells[0] = good.board.cells[0]),
         (8.into(), |held, good| held.board.begins[1] = good.board.begins[1]),
         (9.into(), |held, good| held.board.cells[1] = good.board.cells[1]),
     ];
     for (cause, repair) in repairs {
-        assert_eq!(write_both(write, &held, &[0; 57], 0).0, Reply::refused(cause));
+        assert_eq!(write_both(write, &held, &[0; 83], 0).0, Reply::refused(cause));
         repair(&mut held, &good);
     }
-    assert_eq!(write_both(write, &held, &[0; 57], 0).0, Reply::refused(14));
-    assert_eq!(write_both(write, &held, &[0; 58], 0).0, Reply::accepted(58));
+    // walls and a cell of slowness 1, in each of two storeys
+    assert_eq!(write_both(write, &held, &[0; 83], 0).0, Reply::refused(14));
+    assert_eq!(write_both(write, &held, &[0; 84], 0).0, Reply::accepted(84));
+}
+
+/// 23 looks at the ground too, also where no cell has its pair, and at the list after 21 has; 4 comes before it.
+#[test]
+fn a_house_is_written_with_equal_pairs_alone() {
+    let number = |change: &dyn Fn(&mut Held)| {
+        let mut held = typed::house();
+        change(&mut held);
+        write_both(write, &held, &[0; 200], 0).0.number
+    };
+    assert_eq!(number(&|_| ()), 0);
+    for unequal in UNEQUAL {
+        assert_eq!(number(&|held| held.ground = unequal), 23, "ground {}", unequal);
+        for at in [0, 3, 4, 7] {
+            assert_eq!(number(&|held| held.board.slow[at] = unequal), 23, "{} at {}", unequal, at);
+        }
+        let with_more = |half: u32, cell: u32| {
+            number(&|held| {
+                held.ground = unequal;
+                held.board.slow[7] = half;
+                held.board.cells[1] = cell;
+            })
+        };
+        assert_eq!([with_more(pair(10, 0), 8), with_more(equal(10), 8), with_more(pair(0, 4_096), 8)], [21, 23, 5]);
+        // the same board as one storey
+        let flat = |held: &mut Held| {
+            held.board.storeys = 1;
+            held.board.height = 4;
+            held.ground = unequal;
+        };
+        assert_eq!(number(&|held| flat(held)), 0, "ground {}", unequal);
+    }
+    for (storeys, length, want) in [(0, 0, 23), (0, 8, 4), (1, 8, 4), (1, 4, 7), (9, 36, 23), (9, 8, 4), (NEVER, 8, 4)]
+    {
+        let of_storeys = |held: &mut Held| {
+            held.board.storeys = storeys;
+            held.board.slow = vec![equal(10); length];
+        };
+        assert_eq!(number(&|held| of_storeys(held)), want, "{} storeys, {} entries", storeys, length);
+    }
+    for (width, height, storeys) in [(145, 113, 4), (256, 129, 2), (256, 256, 2)] {
+        let large = |held: &mut Held| {
+            (held.board.width, held.board.height, held.board.storeys) = (width, height, storeys);
+            held.board.slow = vec![equal(10); held.board.size()];
+        };
+        assert_eq!(number(&|held| large(held)), 23, "{} × {} × {}", width, height, storeys);
+    }
 }
 
 /// 5 looks at the ground and at the whole list before 21 looks at either, and 21 is looked for before 7.

@@ -1,7 +1,7 @@
 //! The second solver beside itself: its quick ways give what its plain ways give, and both give what
 //! document 01 prints. No function of the engine is called here.
 
-use second_solver::board::{judge_starts, Board, Grid};
+use second_solver::board::{judge_starts, judge_storeys, Board, Grid, OFF};
 use second_solver::calls::{Call, Kind, MOST_WORKED};
 use second_solver::generate;
 use second_solver::leap::run_by_leaps;
@@ -11,15 +11,17 @@ use second_solver::rule::{diagonal_step, equal, local, local_by_search, pair, pa
 use second_solver::scenario::{file_of, judge};
 use second_solver::shown::rings;
 use second_solver::tiles::{altered, round, run_every_round, Tiling};
+use second_solver::typed::{house, open_house, HOUSE, HOUSE_LINES, HOUSE_TIMES, OPEN_HOUSE_TIMES};
 use second_solver::{Cause, Reply, LARGEST, NEVER};
 
 /// Three by three, slowness 10, start cell 0 at 0.
 fn three_by_three() -> Board {
-    Board { width: 3, height: 3, slow: vec![equal(10); 9], cells: vec![0], begins: vec![0] }
+    Board { width: 3, height: 3, storeys: 1, slow: vec![equal(10); 9], cells: vec![0], begins: vec![0] }
 }
 
 const SOLVED: [u32; 9] = [0, 10, 20, 10, 18, 26, 20, 26, 34];
 
+/// The third axis is for equal pairs.
 #[test]
 fn halving_finds_what_the_search_finds() {
     for seed in 0..100_000 {
@@ -29,25 +31,93 @@ fn halving_finds_what_the_search_finds() {
         let s = if g == 0 || h == 0 { 0 } else { pair(g, h) };
         let apart = r.spread(2 * g.max(h) + 2);
         let mut time = || if r.once_in(5) { NEVER } else { 1_000 + r.within(0, apart) };
-        let (a, b, c, d) = (time(), time(), time(), time());
-        assert_eq!(local(s, a, b, c, d), local_by_search(s, a, b, c, d), "seed {}", seed);
+        let mut near = [time(), time(), time(), time(), time(), time()];
+        if g != h {
+            near[4..].fill(NEVER);
+        }
+        assert_eq!(local(s, near), local_by_search(s, near), "seed {}", seed);
     }
 }
 
 #[test]
 fn equal_times_add_the_diagonal_step() {
     for s in 1..=4_095 {
-        assert_eq!(local(equal(s), 9, NEVER, 9, NEVER), 9 + diagonal_step(s), "slowness {}", s);
+        let near = [9, NEVER, 9, NEVER, NEVER, NEVER];
+        assert_eq!(local(equal(s), near), 9 + diagonal_step(s), "slowness {}", s);
     }
 }
 
-/// Every second board; the rest has equal pairs alone.
+/// One cell with the slowness 10 and the times a, b and z on its three axes, as worked by hand.
 #[test]
-fn half_of_the_random_boards_have_unequal_pairs() {
+fn three_axes_are_those_worked_by_hand() {
+    let typed = [([0, 0, 0], 6), ([0, 0, 7], 8), ([0, 0, 6], 8), ([0, 0, 1], 7), ([0, 4, 8], 9), ([0, NEVER, 0], 8)];
+    for ([a, b, z], t) in typed {
+        for [a, b, z] in [[a, b, z], [a, z, b], [b, a, z], [b, z, a], [z, a, b], [z, b, a]] {
+            let near = [a, NEVER, NEVER, b, NEVER, z];
+            assert_eq!([local(equal(10), near), local_by_search(equal(10), near)], [t; 2], "{} {} {}", a, b, z);
+        }
+    }
+}
+
+/// Of every four boards two are houses and one is flat and has unequal pairs; no house has any.
+#[test]
+fn half_of_the_random_boards_are_houses_and_half_of_the_others_have_unequal_pairs() {
     let is_unequal = |s: &u32| parts(*s)[0] != parts(*s)[1];
-    let boards = (0..4_000).map(|seed| generate::board(&mut Random::new(seed), 14));
-    let unequal = boards.filter(|board| board.slow.iter().any(is_unequal)).count();
-    assert!((1_600..2_400).contains(&unequal), "{} of 4,000", unequal);
+    let (mut of_storeys, mut unequal) = ([0; 9], 0);
+    for seed in 0..4_000 {
+        let board = generate::board(&mut Random::new(seed), 14);
+        assert_eq!(board.judge(), Ok(()), "seed {}: {:?}", seed, board);
+        of_storeys[board.storeys as usize] += 1;
+        unequal += u32::from(board.slow.iter().any(is_unequal));
+    }
+    assert!((1_800..2_200).contains(&of_storeys[1]) && (800..1_200).contains(&unequal), "{} unequal", unequal);
+    assert!(of_storeys[2..].iter().all(|&boards| boards > 200), "{:?}", of_storeys);
+}
+
+/// Two wide, three high, two storeys: the cells 0 to 5, then 6 to 11.
+#[test]
+fn neighbours_are_those_counted_by_hand() {
+    let board = Board { width: 2, height: 3, storeys: 2, slow: vec![equal(1); 12], ..open_house() };
+    let near = Grid::new(&board).near;
+    assert_eq!(near[0], [OFF, 1, OFF, 2, 6, OFF]);
+    assert_eq!(near[3], [2, OFF, 1, 5, 9, OFF]);
+    // the last row of a storey is not above the first of the next
+    assert_eq!(near[4], [OFF, 5, 2, OFF, 10, OFF]);
+    assert_eq!(near[6], [OFF, 7, OFF, 8, OFF, 0]);
+    assert_eq!(near[11], [10, OFF, 9, OFF, OFF, 5]);
+}
+
+/// Tiles of two by two on a board of three by three: each has its cells in both storeys.
+#[test]
+fn tiles_span_all_storeys() {
+    let board = Board { width: 3, height: 3, storeys: 2, slow: vec![equal(1); 18], ..open_house() };
+    let tiling = Tiling::new(&Grid::new(&board), 2, 2);
+    let storey = [0, 0, 1, 0, 0, 1, 2, 2, 3];
+    assert_eq!(tiling.of, [storey, storey].concat());
+}
+
+#[test]
+fn the_houses_are_those_worked_by_hand() {
+    assert_eq!(solved_by_passes(&Grid::new(&open_house())), OPEN_HOUSE_TIMES);
+    assert_eq!(solved_by_passes(&Grid::new(&house().board)), HOUSE_TIMES);
+    assert_eq!(judge(&HOUSE, None), Ok(house()));
+    assert_eq!(file_of(&house().board, 10, equal(10)), HOUSE);
+    assert_eq!(rings(&HOUSE), HOUSE_LINES);
+}
+
+/// Slownesses do not matter for the first; 90 × 90 × 8 is 64,800 and 91 × 91 × 8 is 66,248.
+#[test]
+fn storeys_are_judged_as_worked_by_hand() {
+    let judged = |width, height, storeys, slow: &[u32]| judge_storeys([width, height, storeys], slow);
+    let refused = Err(Cause { number: 23, place: 0 });
+    for (width, height, storeys) in [(1, 1, 0), (1, 1, 9), (256, 256, 2), (91, 91, 8), (256, 256, NEVER), (1, 1, NEVER)]
+    {
+        assert_eq!(judged(width, height, storeys, &[]), refused, "{} × {} × {}", width, height, storeys);
+    }
+    for (width, height, storeys) in [(1, 1, 1), (1, 1, 8), (256, 256, 1), (256, 32, 8), (90, 90, 8)] {
+        assert_eq!(judged(width, height, storeys, &[equal(10), 0]), Ok(()), "{} × {} × {}", width, height, storeys);
+    }
+    assert_eq!([judged(2, 1, 1, &[0, pair(10, 11)]), judged(2, 1, 2, &[0, pair(10, 11)])], [Ok(()), refused]);
 }
 
 #[test]
@@ -162,9 +232,9 @@ fn a_file_that_is_written_holds_the_board() {
 #[test]
 fn rings_of_the_three_by_three_board_are_those_worked_by_hand() {
     let file = file_of(&three_by_three(), 10, equal(10));
-    assert_eq!(file.len(), 26);
+    assert_eq!(file.len(), 28);
     assert_eq!(rings(&file), "3 3 10\n0 1 2\n1 2 3\n2 3 4\n");
-    assert_eq!(rings(&file[..25]), "refused 1\n");
+    assert_eq!(rings(&file[..27]), "refused 1\n");
 }
 
 /// What a march gives to the second solver, with lists as long as they must be.
@@ -191,7 +261,7 @@ fn the_other_boards_are_those_worked_by_hand() {
         (0, 256, Reply::refused(2)),
     ] {
         let size = (width * height) as usize;
-        let board = Board { width, height, slow: vec![equal(10); size], cells: vec![0], begins: vec![0] };
+        let board = Board { width, height, storeys: 1, slow: vec![equal(10); size], ..three_by_three() };
         assert_eq!(marched(board, size).0, reply, "{} by {}", width, height);
     }
 }

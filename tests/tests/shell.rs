@@ -50,7 +50,7 @@ fn the_shell_plays_the_examples_as_rings_does() {
             played += 1;
         }
     }
-    assert!(played >= 5, "{} examples", played);
+    assert!(played >= 6, "{} examples", played);
 }
 
 #[test]
@@ -87,7 +87,7 @@ fn refused_at(number: u32, place: usize) -> String {
 /// Three by three cells with starts in these.
 fn file_with(cells: &[u32]) -> Vec<u8> {
     let (cells, begins) = (cells.to_vec(), vec![0; cells.len()]);
-    file_of(&Board { width: 3, height: 3, slow: vec![equal(10); 9], cells, begins }, 10, equal(10))
+    file_of(&Board { width: 3, height: 3, storeys: 1, slow: vec![equal(10); 9], cells, begins }, 10, equal(10))
 }
 
 #[test]
@@ -96,15 +96,19 @@ fn the_shell_says_what_is_wrong() {
     let (beyond, falling) = (shell.with_extension("beyond"), shell.with_extension("falling"));
     fs::write(&beyond, file_with(&[4, 0, 9, 9])).expect("a file");
     fs::write(&falling, file_with(&[0, 1, 4, 4, 2])).expect("a file");
-    let half = shell.with_extension("half");
-    let board = Board { width: 2, height: 1, slow: vec![equal(10), pair(0, 10)], cells: vec![], begins: vec![] };
+    let (half, high) = (shell.with_extension("half"), shell.with_extension("high"));
+    let slow = vec![equal(10), pair(0, 10)];
+    let board = Board { width: 2, height: 1, storeys: 1, slow, cells: vec![], begins: vec![] };
     fs::write(&half, file_of(&board, 10, equal(10))).expect("a file");
+    fs::write(&high, file_of(&Board { storeys: 9, slow: vec![equal(10); 18], ..board }, 10, equal(10)))
+        .expect("a file");
     let (wall, maze) = (example("start-on-a-wall.scenario"), example("maze.scenario"));
     let (map, missing) = (example("maze.map"), example("nothing"));
-    let cases: [(&Path, &[&str], i32, &str); 12] = [
+    let cases: [(&Path, &[&str], i32, &str); 13] = [
         (&beyond, &[], 1, &refused_at(7, 2)),
         (&falling, &[], 1, &refused_at(18, 3)),
         (&half, &[], 1, &refused_by(21)),
+        (&high, &[], 1, &refused_by(23)),
         (&wall, &[], 1, &refused_by(9)),
         (&map, &[], 1, &refused_by(1)),
         (&maze, &["0"], 1, &refused_by(10)),
@@ -172,19 +176,21 @@ fn tablet_lines(file: &[u8]) -> (String, i32) {
 #[test]
 fn the_tablets_example_shows_its_progress_or_says_the_refusal() {
     let tablet = program("examples/tablet.c", "tablet_example");
-    let (large, falling) = (tablet.with_extension("large"), tablet.with_extension("falling"));
-    let side = SHOWN_SIDE + 1;
-    let board = Board { width: side, height: 1, slow: vec![equal(10); side as usize], cells: vec![0], begins: vec![0] };
-    fs::write(&large, file_of(&board, 10, equal(10))).expect("a file");
+    let [wide, large, falling] = ["wide", "large", "falling"].map(|name| tablet.with_extension(name));
+    for (path, width, storeys) in [(&wide, SHOWN_SIDE + 1, 1), (&large, SHOWN_SIDE, 2)] {
+        let slow = vec![equal(10); (width * SHOWN_SIDE * storeys) as usize];
+        let board = Board { width, height: SHOWN_SIDE, storeys, slow, cells: vec![0], begins: vec![0] };
+        fs::write(path, file_of(&board, 10, equal(10))).expect("a file");
+    }
     fs::write(&falling, file_with(&[0, 1, 4, 4, 2])).expect("a file");
     let mut seen = [0; 2];
-    for path in files(&repository().join("examples"), ".scenario").into_iter().chain([large, falling]) {
+    for path in files(&repository().join("examples"), ".scenario").into_iter().chain([wide, large, falling]) {
         let output = run(Command::new(&tablet).arg(&path), &[]);
         let (lines, status) = tablet_lines(&fs::read(&path).expect("a scenario"));
         assert_eq!((told(&output), output.status.code()), (lines, Some(status)), "{}", path.display());
         seen[status as usize] += 1;
     }
-    assert!(seen[0] >= 5 && seen[1] >= 3, "{:?}", seen);
+    assert!(seen[0] >= 6 && seen[1] >= 4, "{:?}", seen);
     for path in [example("nothing"), example("")] {
         let output = run(Command::new(&tablet).arg(&path), &[]);
         assert_eq!(output.status.code(), Some(2), "{}: {}", path.display(), told(&output));

@@ -9,8 +9,9 @@ use second_solver::ffi::tablet::tablet_run;
 use second_solver::ffi::turn::turn;
 use second_solver::ffi::{engine, engine_records, scenario, scenario_records};
 use second_solver::random::Random;
-use second_solver::rule::{equal, pair};
+use second_solver::rule::{equal, pair, parts};
 use second_solver::scenario::{file_of, Scenario};
+use second_solver::shown::SHOWN_FILE;
 use second_solver::stacks::{on_a_stack_of, stack_of};
 use second_solver::tiles::tile_count;
 use second_solver::{Reply, Start, LARGEST, NEVER};
@@ -44,19 +45,26 @@ fn large_board(seed: u64, starts: u32) -> Board {
     let slow = (0..65_536).map(|_| pair(r.within(1, 4_095), r.within(1, 4_095))).collect();
     let cells: Vec<u32> = (0..starts).collect();
     let begins = cells.iter().map(|c| c * 40_503 % 1_000_001).collect();
-    Board { width: 256, height: 256, slow, cells, begins }
+    Board { width: 256, height: 256, storeys: 1, slow, cells, begins }
+}
+
+/// As many cells in eight storeys, of equal pairs.
+fn large_house(seed: u64, starts: u32) -> Board {
+    let mut house = Board { width: 128, height: 64, storeys: 8, ..large_board(seed, starts) };
+    house.slow.iter_mut().for_each(|s| *s = equal(parts(*s)[0]));
+    house
 }
 
 const GROUND: u32 = equal(1);
 
-/// Each cell a run and a start of its own: 1,310,738 bytes.
+/// Each cell a run and a start of its own: 1,310,740 bytes.
 fn largest_file() -> (Board, Vec<u8>) {
     let mut board = large_board(3, 65_536);
     for (c, s) in board.slow.iter_mut().enumerate() {
         *s = pair(4_094 + (c % 2) as u32, 4_095);
     }
     let file = file_of(&board, 65_535, GROUND);
-    assert_eq!(file.len(), 18 + 20 * 65_536);
+    assert_eq!(file.len(), 20 + 20 * 65_536);
     (board, file)
 }
 
@@ -68,10 +76,10 @@ fn engine_names(kind: &Kind) -> [&'static str; 2] {
     }
 }
 
-fn engine_kinds() -> Vec<Kind> {
+fn engine_kinds(board: &Board) -> Vec<Kind> {
     let mut kinds = vec![Kind::March { horizon: LARGEST }];
     for side in [1, 8, 256] {
-        let order: Vec<u32> = (0..tile_count(256, 256, side, side)).rev().collect();
+        let order: Vec<u32> = (0..tile_count(board.width, board.height, side, side)).rev().collect();
         kinds.push(Kind::Round { across: side, down: side, bound: LARGEST, order: order.clone() });
         kinds.push(Kind::Run { across: side, down: side, stride: 65_536, horizon: LARGEST, order });
     }
@@ -81,16 +89,15 @@ fn engine_kinds() -> Vec<Kind> {
 /// The calls over plain start lists and over records.
 fn engine_cases() -> Vec<Case> {
     let mut cases = Vec::new();
-    for starts in [1, 65_536] {
-        for kind in engine_kinds() {
+    for board in [1, 65_536].into_iter().flat_map(|starts| [large_board(2, starts), large_house(2, starts)]) {
+        for kind in engine_kinds(&board) {
+            let told = format!("{} storeys, {} starts", board.storeys, board.cells.len());
             let told = match kind {
-                Kind::March { .. } => format!("{} starts", starts),
-                Kind::Round { across, .. } | Kind::Run { across, .. } => {
-                    format!("{} starts, tiles of {}", starts, across)
-                }
+                Kind::March { .. } => told,
+                Kind::Round { across, .. } | Kind::Run { across, .. } => format!("{}, tiles of {}", told, across),
             };
             for (name, play) in engine_names(&kind).into_iter().zip([engine::play, engine_records::play]) {
-                let call = Call { board: large_board(2, starts), kind: kind.clone() };
+                let call = Call { board: board.clone(), kind: kind.clone() };
                 let (mut times, mut work) = (vec![NEVER; 65_536], vec![1; 4 * 65_536]);
                 cases.push(Case::new(name, told.clone(), move || {
                     times.fill(NEVER);
@@ -104,8 +111,8 @@ fn engine_cases() -> Vec<Case> {
 
 /// The reader's answer, which must be that of the largest file.
 fn as_reply(answer: Scenario) -> Reply {
-    let Scenario { number, width, height, ticks, ground, starts, place } = answer;
-    assert_eq!([width, height, ticks, ground], [256, 256, 65_535, GROUND]);
+    let Scenario { number, width, height, storeys, ticks, ground, starts, place } = answer;
+    assert_eq!([width, height, storeys, ticks, ground], [256, 256, 1, 65_535, GROUND]);
     Reply { number, count: starts, place }
 }
 
@@ -128,18 +135,19 @@ fn scenario_cases() -> Vec<Case> {
     ]
 }
 
-/// The largest file that the tablet takes, each cell a run and a start of its own, with two sizes of tiles.
+/// The largest files that the tablet takes, each cell a run and a start of its own, with two sizes of tiles.
 fn tablet_cases() -> Vec<Case> {
     let mut cases = Vec::new();
-    for side in [1, 8] {
-        let mut board = large_board(4, 1_024);
-        board.width = 32;
-        board.height = 32;
-        board.slow = (0..1_024).map(|c| pair(4_094 + c % 2, 4_095)).collect();
-        let file = file_of(&board, 65_535, GROUND);
-        assert_eq!(file.len(), 20_498);
+    let flat = (0..1_024).map(|c| pair(4_094 + c % 2, 4_095)).collect();
+    let house = (0..1_024).map(|c| equal(4_094 + c % 2)).collect();
+    let flat = Board { width: 32, height: 32, slow: flat, ..large_board(4, 1_024) };
+    let house = Board { width: 16, height: 8, slow: house, ..large_house(4, 1_024) };
+    for (board, side) in [&flat, &house].into_iter().flat_map(|board| [(board, 1), (board, 8)]) {
+        let file = file_of(board, 65_535, GROUND);
+        assert_eq!(file.len(), SHOWN_FILE);
+        let told = format!("{} storeys, tiles of {}", board.storeys, side);
         let mut out = vec![0; 4_096];
-        cases.push(Case::new("murgolab_tablet_run", format!("tiles of {}", side), move || {
+        cases.push(Case::new("murgolab_tablet_run", told, move || {
             let answer = tablet_run(&file, 65_536, side, side, &mut out);
             // a bare number below 256 is a refusal
             if answer < 256 {
@@ -155,10 +163,13 @@ fn tablet_cases() -> Vec<Case> {
 fn number_cases() -> Vec<Case> {
     vec![
         Case::new("murgolab_local_rule", "an equal pair".to_string(), || {
-            one(local_rule([4_095, 4_095], [LARGEST, NEVER, LARGEST - 7, NEVER]))
+            one(local_rule([4_095, 4_095], [LARGEST, NEVER, LARGEST - 7, NEVER, NEVER, NEVER]))
+        }),
+        Case::new("murgolab_local_rule", "three axes".to_string(), || {
+            one(local_rule([4_095, 4_095], [LARGEST, NEVER, LARGEST - 7, NEVER, LARGEST - 11, NEVER]))
         }),
         Case::new("murgolab_local_rule", "an unequal pair".to_string(), || {
-            one(local_rule([4_095, 4_094], [LARGEST, NEVER, LARGEST - 7, NEVER]))
+            one(local_rule([4_095, 4_094], [LARGEST, NEVER, LARGEST - 7, NEVER, NEVER, NEVER]))
         }),
         Case::new("murgolab_diagonal", "kept".to_string(), || one(diagonal(255))),
         Case::new("murgolab_diagonal", "worked out".to_string(), || one(diagonal(4_095))),

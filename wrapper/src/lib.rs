@@ -8,7 +8,7 @@
 //!
 //! // three by three cells of slowness 10 both ways, a front from the top left
 //! let (slow, starts) = (vec![Slowness::equal(10); 9], vec![Start { cell: 0, time: 0 }]);
-//! let mut board = Board { width: 3, height: 3, slow, starts };
+//! let mut board = Board { width: 3, height: 3, storeys: 1, slow, starts };
 //! let front = march(&board, 300_000_000)?;
 //! assert_eq!(front.times, [0, 10, 20, 10, 18, 26, 20, 26, 34]);
 //! assert_eq!(front.reached, 9);
@@ -24,6 +24,11 @@
 //! // furrows along the rows: down a column it takes twice as long
 //! board.slow.fill(Slowness::new(10, 20));
 //! assert_eq!(march(&board, 300_000_000)?.times, [0, 10, 20, 20, 26, 34, 40, 45, 51]);
+//!
+//! // a house: two storeys of two by two cells; the last cell is reached from three sides at 18
+//! let (slow, starts) = (vec![Slowness::equal(10); 8], vec![Start { cell: 0, time: 0 }]);
+//! let house = Board { width: 2, height: 2, storeys: 2, slow, starts };
+//! assert_eq!(march(&house, 300_000_000)?.times, [0, 10, 10, 18, 10, 18, 18, 24]);
 //! # Ok::<(), murgolab::Refusal>(())
 //! ```
 //!
@@ -51,20 +56,24 @@ pub const NEVER: u32 = u32::MAX;
 /// The longest side of a board or a tile.
 const LONGEST_SIDE: u32 = 256;
 
-/// The most cells that a board has.
+/// The most storeys that a board has.
+const MOST_STOREYS: u32 = 8;
+
+/// The most cells that a board has, on all of its storeys.
 const MOST_CELLS: usize = 256 * 256;
 
 /// A front starts in a cell at a time.
 #[repr(C)]
 #[derive(Clone, Copy, Debug, PartialEq, Eq, Hash)]
 pub struct Start {
-    /// The cell's number, row by row from 0.
+    /// The cell's number, storey by storey and row by row from 0.
     pub cell: u32,
     /// 0 to 1,000,000.
     pub time: u32,
 }
 
-/// A board as it is handed in; the calls judge it. Cells are numbered row by row from 0.
+/// A board as it is handed in; the calls judge it. Cells are numbered from 0, storey by storey, in each of them row by
+/// row: over a cell, on the next storey, is the one whose number is larger by width × height.
 ///
 /// Boards, starts, tiles and scenarios are built by callers, so they are not `#[non_exhaustive]`: a field that a later
 /// version adds is one that its callers must think of, and the compiler names it.
@@ -74,14 +83,16 @@ pub struct Board {
     pub width: u32,
     /// 1 to 256.
     pub height: u32,
-    /// How slow a front is in each cell: width × height entries.
+    /// 1 to 8; 1 for a flat board. With more of them slownesses are equal both ways.
+    pub storeys: u32,
+    /// How slow a front is in each cell: width × height × storeys entries, at most 65,536.
     pub slow: Vec<Slowness>,
     /// Strictly rising by cell, none on a wall.
     pub starts: Vec<Start>,
 }
 
-/// The sides of tiles. Tiles are laid from the top left and cut at the board's edge. They are worked in
-/// rising order: it is proved that the order never shows.
+/// The sides of tiles. Tiles are laid from the top left and cut at the board's edge; each spans all storeys. They are
+/// worked in rising order: it is proved that the order never shows.
 #[derive(Clone, Copy, Debug, PartialEq, Eq, Hash)]
 pub struct Tiles {
     /// The width of a tile, 1 to 256.
@@ -91,11 +102,15 @@ pub struct Tiles {
 }
 
 impl Board {
-    /// The number of cells, which lists of times are as long as: width × height, or 0 where one of them is not
-    /// 1 to 256, which every call refuses.
+    /// The number of cells, which lists of times are as long as: width × height × storeys; or 0 where a side is not 1
+    /// to 256, storeys are not 1 to 8, or the cells are more than 65,536, which every call refuses.
     pub fn size(&self) -> usize {
-        if are_sides(self.width, self.height) {
-            self.width as usize * self.height as usize
+        if !are_sides(self.width, self.height) || !(1..=MOST_STOREYS).contains(&self.storeys) {
+            return 0;
+        }
+        let size = (self.width * self.height * self.storeys) as usize;
+        if size <= MOST_CELLS {
+            size
         } else {
             0
         }
@@ -127,33 +142,46 @@ fn answer(reply: sys::Reply) -> Result<u32, Refusal> {
     accepted(reply.number, Some(reply.place)).map(|()| reply.count)
 }
 
-/// The time at a cell from its neighbours' times: the least whole t, not below the earlier of a and b,
-/// with p² × h² + q² × g² ≥ g² × h². Here g is the slowness along the row and h that down the column, a is the
-/// earlier of left and right, b of above and below, p and q are what t is later than a and than b. Times above
-/// 300,000,000 count as never.
+/// The time at a cell from its neighbours' times: the least whole t, not below the earliest of a, b and z, with
+/// p² × h² + q² × g² + r² × g² ≥ g² × h². Here g is the slowness along the row and h that down the column; a is the
+/// earlier of left and right, b of above and below, z of over and under; p, q and r are what t is later than a, than b
+/// and than z. On a flat board over and under are never. Times above 300,000,000 count as never.
 ///
 /// ```
-/// use murgolab::{local_rule, Slowness, NEVER};
-/// assert_eq!(local_rule(Slowness::equal(10), 0, NEVER, 4, NEVER), Ok(9));
-/// assert_eq!(local_rule(Slowness::WALL, 0, 0, 0, 0), Ok(NEVER));
+/// use murgolab::{local_rule, Refusal, Slowness, NEVER};
+/// let ten = Slowness::equal(10);
+/// assert_eq!(local_rule(ten, 0, NEVER, 4, NEVER, NEVER, NEVER), Ok(9));
+/// assert_eq!(local_rule(Slowness::WALL, 0, 0, 0, 0, 0, 0), Ok(NEVER));
 /// let furrow = Slowness::new(10, 20);
-/// assert_eq!(local_rule(furrow, 0, NEVER, NEVER, NEVER), Ok(10));
-/// assert_eq!(local_rule(furrow, NEVER, NEVER, 0, NEVER), Ok(20));
-/// assert_eq!(local_rule(furrow, 0, NEVER, 0, NEVER), Ok(9));
+/// assert_eq!(local_rule(furrow, 0, NEVER, NEVER, NEVER, NEVER, NEVER), Ok(10));
+/// assert_eq!(local_rule(furrow, NEVER, NEVER, 0, NEVER, NEVER, NEVER), Ok(20));
+/// assert_eq!(local_rule(furrow, 0, NEVER, 0, NEVER, NEVER, NEVER), Ok(9));
+/// // in a house slownesses are equal both ways
+/// assert_eq!(local_rule(ten, 0, NEVER, 0, NEVER, 0, NEVER), Ok(6));
+/// assert_eq!(local_rule(ten, 0, NEVER, 0, NEVER, NEVER, 7), Ok(8));
+/// assert_eq!(local_rule(furrow, 0, NEVER, 0, NEVER, 0, NEVER), Err(Refusal::Storeys));
 /// ```
 ///
 /// # Errors
 ///
 /// [`Slowness`](Refusal::Slowness) for a number above 4,095, [`HalfWall`](Refusal::HalfWall) for one that is 0 where
-/// the other is not.
-pub fn local_rule(slowness: Slowness, left: u32, right: u32, above: u32, below: u32) -> Result<u32, Refusal> {
+/// the other is not, [`Storeys`](Refusal::Storeys) for two that differ where over or under is not never.
+pub fn local_rule(
+    slowness: Slowness,
+    left: u32,
+    right: u32,
+    above: u32,
+    below: u32,
+    over: u32,
+    under: u32,
+) -> Result<u32, Refusal> {
     let (g, h) = (slowness.along().into(), slowness.down().into());
     // SAFETY: numbers alone
-    answer(unsafe { sys::murgolab_local_rule(g, h, left, right, above, below) })
+    answer(unsafe { sys::murgolab_local_rule(g, h, left, right, above, below, over, under) })
 }
 
-/// D: what the rule adds where both sides are equal and the slowness is this number both ways, the least d with
-/// 2d² ≥ slowness².
+/// D: what the rule adds to a where a and b are equal, the slowness is this number both ways and z is not earlier than
+/// what comes out; the least d with 2d² ≥ slowness².
 ///
 /// ```
 /// assert_eq!(murgolab::diagonal(7), Ok(5));

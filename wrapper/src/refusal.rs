@@ -1,14 +1,14 @@
 use std::error::Error;
 use std::fmt;
 
-/// Makes the enum and all that is said of a number from one table, so that a number is added in one place. A line that
-/// ends with a field is of a cause that says which start is at fault.
+/// Makes the enum and all that is said of a number from one table, so that a number is added in one place. Its words may
+/// stand in several literals. An entry that ends with a field is of a cause that says which start is at fault.
 macro_rules! refusals {
-    ($($number:literal => $name:ident, $words:literal $(, $place:ident)?;)*) => {
+    ($($number:literal => $name:ident, $($words:literal)+ $(, $place:ident)?;)*) => {
         /// Why a call was refused. Of several causes the one with the lowest number is given, save that
-        /// [`Refusal::SmallBoard`] comes directly after [`Refusal::SidesOfBoard`], [`Refusal::HalfWall`] directly after
-        /// [`Refusal::Slowness`], and [`Refusal::StartOrder`] directly after [`Refusal::StartCell`]. N is width ×
-        /// height.
+        /// [`Refusal::SmallBoard`] comes directly after [`Refusal::SidesOfBoard`], [`Refusal::HalfWall`] and then
+        /// [`Refusal::Storeys`] directly after [`Refusal::Slowness`], and [`Refusal::StartOrder`] directly after
+        /// [`Refusal::StartCell`]. N is width × height × storeys.
         ///
         /// Later versions may know more numbers, so a `match` needs an arm for the others.
         ///
@@ -26,7 +26,7 @@ macro_rules! refusals {
         /// ```
         /// use murgolab::{march, Board, Refusal, Slowness, Start};
         /// let starts = [0, 4, 8, 8].map(|cell| Start { cell, time: 0 }).to_vec();
-        /// let mut board = Board { width: 3, height: 3, slow: vec![Slowness::equal(10); 9], starts };
+        /// let mut board = Board { width: 3, height: 3, storeys: 1, slow: vec![Slowness::equal(10); 9], starts };
         /// let refusal = march(&board, 100).unwrap_err();
         /// assert_eq!(refusal, Refusal::StartOrder { place: Some(3) });
         /// assert_eq!(refusal.place(), Some(3));
@@ -38,7 +38,7 @@ macro_rules! refusals {
         #[non_exhaustive]
         pub enum Refusal {
             $(
-                #[doc = concat!($number, ": ", $words, ".")]
+                #[doc = concat!($number, ": ", $($words,)+ ".")]
                 $name $({
                     /// See [`Refusal::place`].
                     $place: Option<usize>,
@@ -78,7 +78,7 @@ macro_rules! refusals {
             /// The cause in words.
             pub fn words(self) -> &'static str {
                 match self {
-                    $(Refusal::$name { .. } => $words,)*
+                    $(Refusal::$name { .. } => concat!($($words),+),)*
                     Refusal::Unknown(_) => "a cause that this version of the wrapper does not know",
                 }
             }
@@ -97,7 +97,7 @@ macro_rules! refusals {
 }
 
 refusals! {
-    1 => FileLength, "file under 18 bytes, or not as long as its counts of runs and starts say";
+    1 => FileLength, "file under 20 bytes, or not as long as its counts of runs and starts say";
     2 => SidesOfBoard, "width or height not 1 to 256";
     3 => Ticks, "ticks per turn not 1 to 65,535";
     4 => ListLength, "slowness list not N long, or plain start lists of unequal length";
@@ -111,9 +111,12 @@ refusals! {
     12 => Order, "order does not name every tile once";
     13 => TimesLength, "times list not N long";
     14 => Room, "work list under 4N long, or a list to be filled too short";
-    15 => SmallBoard, "tablet or rings: a side above 32, or for rings a file above 20,498 bytes";
+    15 => SmallBoard, "tablet or rings: a side above 32, N above 1,024, or for rings a file above 20,500 bytes";
     18 => StartOrder, "start not above the one before", place;
     21 => HalfWall, "one number of a slowness, the ground's too, 0 and the other not";
+    23 => Storeys,
+        "storeys not 1 to 8, N above 65,536, or an unequal pair from 2 storeys on "
+        "(local rule: over or under not never)";
 }
 
 impl fmt::Display for Refusal {

@@ -19,9 +19,9 @@ pub struct Scenario {
 /// use murgolab::{read_scenario, write_scenario, Board, Refusal, Scenario, Slowness, Start};
 /// let ground = Slowness::new(10, 20);
 /// let (slow, starts) = (vec![ground, Slowness::WALL], vec![Start { cell: 0, time: 7 }]);
-/// let scenario = Scenario { ticks: 10, ground, board: Board { width: 2, height: 1, slow, starts } };
+/// let scenario = Scenario { ticks: 10, ground, board: Board { width: 2, height: 1, storeys: 1, slow, starts } };
 /// let file = write_scenario(&scenario)?;
-/// assert_eq!(file.len(), 18 + 12 + 8);
+/// assert_eq!(file.len(), 20 + 12 + 8);
 /// assert_eq!(read_scenario(&file), Ok(scenario));
 /// assert_eq!(read_scenario(&file[1..]), Err(Refusal::FileLength));
 /// # Ok::<(), Refusal>(())
@@ -30,9 +30,9 @@ pub struct Scenario {
 /// # Errors
 ///
 /// [`FileLength`](Refusal::FileLength), [`SidesOfBoard`](Refusal::SidesOfBoard), [`Ticks`](Refusal::Ticks),
-/// [`Slowness`](Refusal::Slowness), [`HalfWall`](Refusal::HalfWall), [`Run`](Refusal::Run),
-/// [`StartCell`](Refusal::StartCell), [`StartOrder`](Refusal::StartOrder), [`StartTime`](Refusal::StartTime),
-/// [`StartOnWall`](Refusal::StartOnWall).
+/// [`Slowness`](Refusal::Slowness), [`HalfWall`](Refusal::HalfWall), [`Storeys`](Refusal::Storeys),
+/// [`Run`](Refusal::Run), [`StartCell`](Refusal::StartCell), [`StartOrder`](Refusal::StartOrder),
+/// [`StartTime`](Refusal::StartTime), [`StartOnWall`](Refusal::StartOnWall).
 pub fn read_scenario(file: &[u8]) -> Result<Scenario, Refusal> {
     // a file with more starts than the largest board has cells is refused for their cells, before room is asked for
     let most_starts = MOST_CELLS.min(file.len() / 8);
@@ -45,7 +45,7 @@ pub fn read_scenario(file: &[u8]) -> Result<Scenario, Refusal> {
         )
     };
     accepted(said.number, Some(said.place))?;
-    let mut board = Board { width: said.width, height: said.height, slow, starts };
+    let mut board = Board { width: said.width, height: said.height, storeys: said.storeys, slow, starts };
     board.slow.truncate(board.size());
     board.slow.shrink_to_fit();
     board.starts.truncate(said.starts as usize);
@@ -58,26 +58,27 @@ pub fn read_scenario(file: &[u8]) -> Result<Scenario, Refusal> {
 /// ```
 /// use murgolab::{write_scenario, Board, Scenario, Slowness};
 /// let ground = Slowness::new(10, 20);
-/// let board = Board { width: 1, height: 1, slow: vec![ground], starts: vec![] };
+/// let board = Board { width: 1, height: 1, storeys: 1, slow: vec![ground], starts: vec![] };
 /// let file = write_scenario(&Scenario { ticks: 3, ground, board })?;
-/// assert_eq!(file, [1, 0, 1, 0, 3, 0, 10, 0, 20, 0, 0, 0, 0, 0, 0, 0, 0, 0]);
+/// assert_eq!(file, [1, 0, 1, 0, 1, 0, 3, 0, 10, 0, 20, 0, 0, 0, 0, 0, 0, 0, 0, 0]);
 /// # Ok::<(), murgolab::Refusal>(())
 /// ```
 ///
 /// # Errors
 ///
 /// [`SidesOfBoard`](Refusal::SidesOfBoard), [`Ticks`](Refusal::Ticks), [`ListLength`](Refusal::ListLength),
-/// [`Slowness`](Refusal::Slowness), [`HalfWall`](Refusal::HalfWall), [`StartCell`](Refusal::StartCell),
-/// [`StartOrder`](Refusal::StartOrder), [`StartTime`](Refusal::StartTime), [`StartOnWall`](Refusal::StartOnWall).
+/// [`Slowness`](Refusal::Slowness), [`HalfWall`](Refusal::HalfWall), [`Storeys`](Refusal::Storeys),
+/// [`StartCell`](Refusal::StartCell), [`StartOrder`](Refusal::StartOrder), [`StartTime`](Refusal::StartTime),
+/// [`StartOnWall`](Refusal::StartOnWall).
 pub fn write_scenario(scenario: &Scenario) -> Result<Vec<u8>, Refusal> {
     let Scenario { ticks, ground, board } = scenario;
     // a run for each cell at most, and a start: more starts are refused for their cells, before room is asked for
-    let mut out = vec![0; 18 + 12 * board.size() + 8 * board.size().min(board.starts.len())];
+    let mut out = vec![0; 20 + 12 * board.size() + 8 * board.size().min(board.starts.len())];
     // SAFETY: the lists are as long as said, and the one lent for writing is borrowed alone
     #[rustfmt::skip]
     let reply = unsafe {
         sys::murgolab_write_scenario(
-            board.width, board.height, *ticks, (*ground).into(),
+            board.width, board.height, board.storeys, *ticks, (*ground).into(),
             board.slow.as_ptr().cast(), board.slow.len(), board.starts.as_ptr(), board.starts.len(),
             out.as_mut_ptr(), out.len(),
         )
@@ -87,7 +88,8 @@ pub fn write_scenario(scenario: &Scenario) -> Result<Vec<u8>, Refusal> {
     Ok(out)
 }
 
-/// The tablet's call: the tile run of a scenario file of at most 32 by 32 cells, up to 6,000,000.
+/// The tablet's call: the tile run of a scenario file whose board has sides to 32 and 1,024 cells at most, up to
+/// 6,000,000.
 ///
 /// Where one tile covers the board, as one of 32 by 32 always does, the rounds are exactly those that
 /// [`tile_run`](crate::tile_run) names. With such a tile and a stride of at most 810,815 they are 6,000,000 divided by
@@ -96,7 +98,8 @@ pub fn write_scenario(scenario: &Scenario) -> Result<Vec<u8>, Refusal> {
 /// ```
 /// use murgolab::{tablet_run, write_scenario, Board, Scenario, Slowness, Start, Tiles};
 /// let ground = Slowness::equal(10);
-/// let board = Board { width: 3, height: 3, slow: vec![ground; 9], starts: vec![Start { cell: 0, time: 0 }] };
+/// let (slow, starts) = (vec![ground; 9], vec![Start { cell: 0, time: 0 }]);
+/// let board = Board { width: 3, height: 3, storeys: 1, slow, starts };
 /// let file = write_scenario(&Scenario { ticks: 10, ground, board })?;
 /// let run = tablet_run(&file, 65_536, Tiles { across: 8, down: 8 })?;
 /// assert_eq!(run.times, [0, 10, 20, 10, 18, 26, 20, 26, 34]);
@@ -106,8 +109,9 @@ pub fn write_scenario(scenario: &Scenario) -> Result<Vec<u8>, Refusal> {
 ///
 /// # Errors
 ///
-/// Those of [`read_scenario`], without the place of a start, [`SmallBoard`](Refusal::SmallBoard) for a side above 32,
-/// [`Range`](Refusal::Range) for the stride and [`SidesOfTile`](Refusal::SidesOfTile) for the tiles.
+/// Those of [`read_scenario`], without the place of a start, [`SmallBoard`](Refusal::SmallBoard) for a side above 32 or
+/// more than 1,024 cells, [`Range`](Refusal::Range) for the stride and [`SidesOfTile`](Refusal::SidesOfTile) for the
+/// tiles.
 pub fn tablet_run(file: &[u8], stride: u32, tiles: Tiles) -> Result<Run, Refusal> {
     let mut out = [0; 4 * 32 * 32];
     // SAFETY: the lists are as long as said, and the one lent for writing is borrowed alone
@@ -120,7 +124,7 @@ pub fn tablet_run(file: &[u8], stride: u32, tiles: Tiles) -> Result<Run, Refusal
     // rounds × 256, or the bare refusal
     accepted((said % 256) as u32, None)?;
     let rounds = (said / 256) as u32;
-    let side = |at: usize| usize::from(u16::from_le_bytes([file[at], file[at + 1]]));
+    let two = |at: usize| usize::from(u16::from_le_bytes([file[at], file[at + 1]]));
     let times = out.chunks_exact(4).map(|four| u32::from_le_bytes([four[0], four[1], four[2], four[3]]));
-    Ok(Run { times: times.take(side(0) * side(2)).collect(), rounds })
+    Ok(Run { times: times.take(two(0) * two(2) * two(4)).collect(), rounds })
 }

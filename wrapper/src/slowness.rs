@@ -1,7 +1,8 @@
 use std::fmt;
 
 /// How slow a front is in a cell: the ticks in which it crosses the cell straight along the row, and those straight
-/// down or up the column, each 1 to 4,095; both are 0 for a wall. The calls judge it.
+/// down or up the column, each 1 to 4,095; both are 0 for a wall. On a board of several storeys the two are equal, and
+/// up or down a storey it takes as long. The calls judge it.
 ///
 /// ```
 /// use murgolab::Slowness;

@@ -21,6 +21,7 @@ pub struct Scenario {
     pub number: u32,
     pub width: u32,
     pub height: u32,
+    pub storeys: u32,
     pub ticks: u32,
     pub ground: u32,
     pub starts: u32,
@@ -29,21 +30,26 @@ pub struct Scenario {
 
 #[rustfmt::skip]
 extern "C" {
-    pub fn murgolab_local_rule(g: u32, h: u32, left: u32, right: u32, above: u32, below: u32) -> Reply;
+    pub fn murgolab_local_rule(
+        g: u32, h: u32, left: u32, right: u32, above: u32, below: u32, over: u32, under: u32,
+    ) -> Reply;
     pub fn murgolab_diagonal(slowness: u32) -> Reply;
     pub fn murgolab_turn(time: u32, ticks: u32) -> TurnReply;
     pub fn murgolab_march(
-        width: u32, height: u32, slow: *const u32, slow_len: usize, starts: *const Start, starts_len: usize,
+        width: u32, height: u32, storeys: u32,
+        slow: *const u32, slow_len: usize, starts: *const Start, starts_len: usize,
         horizon: u32,
         times: *mut u32, times_len: usize, work: *mut u32, work_len: usize,
     ) -> Reply;
     pub fn murgolab_one_round(
-        width: u32, height: u32, slow: *const u32, slow_len: usize, starts: *const Start, starts_len: usize,
+        width: u32, height: u32, storeys: u32,
+        slow: *const u32, slow_len: usize, starts: *const Start, starts_len: usize,
         across: u32, down: u32, bound: u32, order: *const u32, order_len: usize,
         times: *mut u32, times_len: usize, work: *mut u32, work_len: usize,
     ) -> Reply;
     pub fn murgolab_tile_run(
-        width: u32, height: u32, slow: *const u32, slow_len: usize, starts: *const Start, starts_len: usize,
+        width: u32, height: u32, storeys: u32,
+        slow: *const u32, slow_len: usize, starts: *const Start, starts_len: usize,
         across: u32, down: u32, stride: u32, horizon: u32, order: *const u32, order_len: usize,
         times: *mut u32, times_len: usize, work: *mut u32, work_len: usize,
     ) -> Reply;
@@ -52,7 +58,7 @@ extern "C" {
         slow: *mut u32, slow_len: usize, starts: *mut Start, starts_len: usize,
     ) -> Scenario;
     pub fn murgolab_write_scenario(
-        width: u32, height: u32, ticks: u32, ground: u32,
+        width: u32, height: u32, storeys: u32, ticks: u32, ground: u32,
         slow: *const u32, slow_len: usize, starts: *const Start, starts_len: usize,
         out: *mut u8, out_len: usize,
     ) -> Reply;

@@ -32,7 +32,7 @@ pub struct Run {
 /// use murgolab::{Board, Slowness, Start, Tiles, Work, NEVER};
 ///
 /// let (slow, starts) = (vec![Slowness::equal(10); 9], vec![Start { cell: 0, time: 0 }]);
-/// let mut board = Board { width: 3, height: 3, slow, starts };
+/// let mut board = Board { width: 3, height: 3, storeys: 1, slow, starts };
 /// let (mut work, mut times) = (Work::new(), vec![NEVER; board.size()]);
 /// for cell in 0..9 {
 ///     board.starts[0].cell = cell;
@@ -84,8 +84,8 @@ impl Work {
         #[rustfmt::skip]
         let reply = unsafe {
             sys::murgolab_march(
-                board.width, board.height, board.slow.as_ptr().cast(), board.slow.len(),
-                board.starts.as_ptr(), board.starts.len(),
+                board.width, board.height, board.storeys,
+                board.slow.as_ptr().cast(), board.slow.len(), board.starts.as_ptr(), board.starts.len(),
                 horizon,
                 times.as_mut_ptr(), times.len(), work.as_mut_ptr(), work.len(),
             )
@@ -104,8 +104,8 @@ impl Work {
         #[rustfmt::skip]
         let reply = unsafe {
             sys::murgolab_one_round(
-                board.width, board.height, board.slow.as_ptr().cast(), board.slow.len(),
-                board.starts.as_ptr(), board.starts.len(),
+                board.width, board.height, board.storeys,
+                board.slow.as_ptr().cast(), board.slow.len(), board.starts.as_ptr(), board.starts.len(),
                 tiles.across, tiles.down, bound, order.as_ptr(), order.len(),
                 times.as_mut_ptr(), times.len(), work.as_mut_ptr(), work.len(),
             )
@@ -131,8 +131,8 @@ impl Work {
         #[rustfmt::skip]
         let reply = unsafe {
             sys::murgolab_tile_run(
-                board.width, board.height, board.slow.as_ptr().cast(), board.slow.len(),
-                board.starts.as_ptr(), board.starts.len(),
+                board.width, board.height, board.storeys,
+                board.slow.as_ptr().cast(), board.slow.len(), board.starts.as_ptr(), board.starts.len(),
                 tiles.across, tiles.down, stride, horizon, order.as_ptr(), order.len(),
                 times.as_mut_ptr(), times.len(), work.as_mut_ptr(), work.len(),
             )
@@ -146,7 +146,7 @@ impl Work {
 /// ```
 /// use murgolab::{march, Board, Refusal, Slowness, Start, NEVER};
 /// let slow = [10, 10, 0, 10].map(Slowness::equal).to_vec();
-/// let mut board = Board { width: 4, height: 1, slow, starts: vec![Start { cell: 0, time: 5 }] };
+/// let mut board = Board { width: 4, height: 1, storeys: 1, slow, starts: vec![Start { cell: 0, time: 5 }] };
 /// let front = march(&board, 1_000)?;
 /// assert_eq!((front.times, front.reached), (vec![5, 15, NEVER, NEVER], 2));
 /// board.starts[0].cell = 2;
@@ -157,9 +157,9 @@ impl Work {
 /// # Errors
 ///
 /// For the board [`SidesOfBoard`](Refusal::SidesOfBoard), [`ListLength`](Refusal::ListLength),
-/// [`Slowness`](Refusal::Slowness), [`HalfWall`](Refusal::HalfWall), [`StartCell`](Refusal::StartCell),
-/// [`StartOrder`](Refusal::StartOrder), [`StartTime`](Refusal::StartTime) and [`StartOnWall`](Refusal::StartOnWall);
-/// for the horizon [`Range`](Refusal::Range).
+/// [`Slowness`](Refusal::Slowness), [`HalfWall`](Refusal::HalfWall), [`Storeys`](Refusal::Storeys),
+/// [`StartCell`](Refusal::StartCell), [`StartOrder`](Refusal::StartOrder), [`StartTime`](Refusal::StartTime) and
+/// [`StartOnWall`](Refusal::StartOnWall); for the horizon [`Range`](Refusal::Range).
 pub fn march(board: &Board, horizon: u32) -> Result<March, Refusal> {
     let mut times = vec![NEVER; board.size()];
     let reached = Work::new().march(board, horizon, &mut times)?;
@@ -173,7 +173,7 @@ pub fn march(board: &Board, horizon: u32) -> Result<March, Refusal> {
 /// ```
 /// use murgolab::{one_round, Board, Slowness, Start, Tiles, NEVER};
 /// let (slow, starts) = (vec![Slowness::equal(10); 9], vec![Start { cell: 0, time: 0 }]);
-/// let board = Board { width: 3, height: 3, slow, starts };
+/// let board = Board { width: 3, height: 3, storeys: 1, slow, starts };
 /// let mut times = [NEVER; 9];
 /// assert_eq!(one_round(&board, Tiles { across: 2, down: 2 }, 20, &mut times), Ok(4));
 /// assert_eq!(times, [0, 10, NEVER, 10, 18, NEVER, NEVER, NEVER, NEVER]);
@@ -199,13 +199,13 @@ pub fn one_round(board: &Board, tiles: Tiles, bound: u32, times: &mut [u32]) -> 
 /// use murgolab::{march, tile_run, Board, Slowness, Start, Tiles};
 /// let starts = vec![Start { cell: 0, time: 0 }, Start { cell: 99, time: 40 }];
 /// let slow = (1..=100).map(|s| Slowness::new(s, 101 - s)).collect();
-/// let board = Board { width: 10, height: 10, slow, starts };
+/// let board = Board { width: 10, height: 10, storeys: 1, slow, starts };
 /// let run = tile_run(&board, Tiles { across: 3, down: 4 }, 25, 5_000)?;
 /// assert_eq!(run.times, march(&board, 5_000)?.times);
 /// assert!(run.rounds >= 200 && run.rounds <= 300);
 /// // one tile covers the board: K is 2, and the last cell is reached at 34
 /// let (slow, starts) = (vec![Slowness::equal(10); 9], vec![Start { cell: 0, time: 0 }]);
-/// let board = Board { width: 3, height: 3, slow, starts };
+/// let board = Board { width: 3, height: 3, storeys: 1, slow, starts };
 /// assert_eq!(tile_run(&board, Tiles { across: 3, down: 3 }, 20, 34)?.rounds, 3);
 /// assert_eq!(tile_run(&board, Tiles { across: 3, down: 3 }, 20, 25)?.rounds, 2);
 /// # Ok::<(), murgolab::Refusal>(())

@@ -3,10 +3,23 @@
 use murgolab::*;
 
 fn board() -> Board {
-    Board { width: 3, height: 2, slow: [10, 10, 0, 10, 10, 10].map(Slowness::equal).to_vec(), starts: vec![at_0(0)] }
+    let slow = [10, 10, 0, 10, 10, 10].map(Slowness::equal).to_vec();
+    Board { width: 3, height: 2, storeys: 1, slow, starts: vec![at_0(0)] }
 }
 
 const TEN: Slowness = Slowness::equal(10);
+
+/// Two storeys, each the board of [`board`].
+fn house() -> Board {
+    Board { storeys: 2, slow: board().slow.repeat(2), ..board() }
+}
+
+/// That house with the first and the last cell's slowness changed.
+fn house_with(first: Slowness, last: Slowness) -> Board {
+    let mut house = house();
+    (house.slow[0], house.slow[11]) = (first, last);
+    house
+}
 
 fn at_0(cell: u32) -> Start {
     Start { cell, time: 0 }
@@ -31,7 +44,8 @@ type Change = dyn Fn(&mut Board);
 #[test]
 fn boards_are_judged_by_the_library() {
     assert_eq!(refusals(&board()), [None; 4]);
-    let cases: [(&Change, Refusal); 18] = [
+    assert_eq!(refusals(&house()), [None; 4]);
+    let cases: [(&Change, Refusal); 28] = [
         (&|b| b.width = 0, Refusal::SidesOfBoard),
         (&|b| b.height = u32::MAX, Refusal::SidesOfBoard),
         (&|b| b.slow.clear(), Refusal::ListLength),
@@ -49,7 +63,17 @@ fn boards_are_judged_by_the_library() {
         (&|b| b.starts.extend([1, 5, 4, 4].map(at_0)), Refusal::StartOrder { place: Some(3) }),
         (&|b| b.starts[0].time = 1_000_001, Refusal::StartTime),
         (&|b| b.starts[0].cell = 2, Refusal::StartOnWall),
-        (&|b| *b = Board { width: 0, height: 0, slow: vec![], starts: vec![] }, Refusal::SidesOfBoard),
+        (&|b| *b = Board { width: 0, height: 0, storeys: 0, slow: vec![], starts: vec![] }, Refusal::SidesOfBoard),
+        (&|b| b.storeys = 2, Refusal::ListLength),
+        (&|b| b.storeys = 0, Refusal::ListLength),
+        (&|b| (b.storeys, b.slow) = (0, vec![]), Refusal::Storeys),
+        (&|b| (b.storeys, b.slow) = (9, vec![TEN; 54]), Refusal::Storeys),
+        (&|b| (b.storeys, b.slow) = (9, vec![TEN; 53]), Refusal::ListLength),
+        (&|b| b.storeys = u32::MAX, Refusal::ListLength),
+        (&|b| *b = Board { slow: vec![TEN; 131_072], width: 256, height: 256, ..house() }, Refusal::Storeys),
+        (&|b| *b = Board { starts: vec![at_0(12)], ..house() }, Refusal::StartCell { place: Some(0) }),
+        (&|b| *b = house_with(TEN, Slowness::new(10, 11)), Refusal::Storeys),
+        (&|b| *b = house_with(Slowness::new(10, 11), 10.into()), Refusal::HalfWall),
     ];
     for (change, refusal) in cases {
         let mut changed = board();
@@ -79,21 +103,59 @@ fn files_are_judged_by_the_library() {
         assert_eq!(read_scenario(&file[..length]), Err(Refusal::FileLength));
         assert_eq!(tablet_run(&file[..length], 1, TILES), Err(Refusal::FileLength));
     }
-    // ticks, the one run's slowness along the row, then that down the column
-    let changes = [(4, 0, Refusal::Ticks), (26, 10, Refusal::HalfWall), (28, 10, Refusal::Run)];
+    // ticks, storeys, the one run's slowness along the row, then that down the column
+    let changes =
+        [(6, 0, Refusal::Ticks), (4, 9, Refusal::Storeys), (28, 10, Refusal::HalfWall), (30, 10, Refusal::Run)];
     let mut damaged = file.clone();
     for (place, byte, refusal) in changes {
-        damaged[4] = file[4];
+        damaged[4..8].copy_from_slice(&file[4..8]);
         damaged[place] = byte;
         assert_eq!(read_scenario(&damaged), Err(refusal));
         assert_eq!(tablet_run(&damaged, 1, TILES), Err(refusal));
     }
     assert_eq!(tablet_run(&file, 0, TILES), Err(Refusal::Range));
     assert_eq!(tablet_run(&file, 1, Tiles { across: 0, down: 1 }), Err(Refusal::SidesOfTile));
-    let wide = Board { width: 33, height: 1, slow: vec![TEN; 33], starts: vec![] };
-    let file = write_scenario(&Scenario { ticks: 10, ground: TEN, board: wide }).expect("a good board");
-    assert!(read_scenario(&file).is_ok());
-    assert_eq!(tablet_run(&file, 1, TILES), Err(Refusal::SmallBoard));
+    for (width, height, storeys, small) in [(33, 1, 1, false), (32, 32, 2, false), (32, 4, 8, true), (32, 32, 1, true)]
+    {
+        let slow = vec![TEN; (width * height * storeys) as usize];
+        let board = Board { width, height, storeys, slow, starts: vec![] };
+        let file = write_scenario(&Scenario { ticks: 10, ground: TEN, board }).expect("a good board");
+        assert!(read_scenario(&file).is_ok());
+        let tablet = tablet_run(&file, 1, TILES);
+        if small {
+            assert_eq!(tablet.expect("a small board").times.len(), 1_024);
+        } else {
+            assert_eq!(tablet, Err(Refusal::SmallBoard));
+        }
+    }
+}
+
+/// A file's ground is judged too, also where no cell has it.
+#[test]
+fn a_house_has_slownesses_that_are_equal_both_ways() {
+    let furrow = Slowness::new(10, 20);
+    let scenario = |ground, board| Scenario { ticks: 10, ground, board };
+    assert!(write_scenario(&scenario(furrow, board())).is_ok());
+    assert_eq!(write_scenario(&scenario(furrow, house())), Err(Refusal::Storeys));
+    let mut file = write_scenario(&scenario(TEN, house())).expect("a good house");
+    assert_eq!(read_scenario(&file), Ok(scenario(TEN, house())));
+    file[10] = 20;
+    assert_eq!(read_scenario(&file), Err(Refusal::Storeys));
+    for (over, under) in [(0, NEVER), (NEVER, 0), (300_000_000, 300_000_001)] {
+        assert_eq!(local_rule(furrow, 0, 0, 0, 0, over, under), Err(Refusal::Storeys));
+    }
+    assert_eq!(local_rule(furrow, 0, 0, 0, 0, 300_000_001, NEVER), Ok(9));
+}
+
+/// The tablet and the tile run name the times of the march, tiles spanning both storeys.
+#[test]
+fn a_house_is_played_as_it_is_marched() {
+    let scenario = Scenario { ticks: 10, ground: TEN, board: house() };
+    let times = march(&scenario.board, 1_000).expect("a good house").times;
+    assert_eq!(times, [0, 10, NEVER, 10, 18, 28, 10, 18, NEVER, 18, 24, 33]);
+    assert_eq!(tile_run(&scenario.board, TILES, 7, 1_000).expect("a good house").times, times);
+    let file = write_scenario(&scenario).expect("a good house");
+    assert_eq!(tablet_run(&file, 100, TILES).expect("a small house").times, times);
 }
 
 /// The largest board, each cell a run and a start of its own, through its file and back.
@@ -101,10 +163,10 @@ fn files_are_judged_by_the_library() {
 fn the_largest_scenario_goes_through_its_file() {
     let starts = (0..65_536).map(|cell| Start { cell, time: 1_000_000 - cell }).collect();
     let slow = (0..65_536).map(|c| Slowness::new(4_095, 4_094 + c as u16 % 2)).collect();
-    let board = Board { width: 256, height: 256, slow, starts };
+    let board = Board { width: 256, height: 256, storeys: 1, slow, starts };
     let scenario = Scenario { ticks: 65_535, ground: Slowness::WALL, board };
     let file = write_scenario(&scenario).expect("a good board");
-    assert_eq!(file.len(), 18 + 20 * 65_536);
+    assert_eq!(file.len(), 20 + 20 * 65_536);
     assert_eq!(read_scenario(&file), Ok(scenario));
 }
 
@@ -112,7 +174,7 @@ fn the_largest_scenario_goes_through_its_file() {
 fn file_with(starts: &[Start]) -> Vec<u8> {
     let held = Scenario { ticks: 10, ground: TEN, board: Board { starts: vec![], ..board() } };
     let mut file = write_scenario(&held).expect("a good board");
-    file[14..18].copy_from_slice(&(starts.len() as u32).to_le_bytes());
+    file[16..20].copy_from_slice(&(starts.len() as u32).to_le_bytes());
     file.extend(starts.iter().flat_map(|start| [start.cell, start.time]).flat_map(u32::to_le_bytes));
     file
 }
@@ -142,7 +204,7 @@ fn a_files_start_is_named_by_the_reader_and_not_by_the_tablet() {
 }
 
 /// The refusals in the order of the table, as they are without a place.
-const TABLE: [Refusal; 17] = [
+const TABLE: [Refusal; 18] = [
     Refusal::FileLength,
     Refusal::SidesOfBoard,
     Refusal::Ticks,
@@ -160,12 +222,13 @@ const TABLE: [Refusal; 17] = [
     Refusal::SmallBoard,
     Refusal::StartOrder { place: None },
     Refusal::HalfWall,
+    Refusal::Storeys,
 ];
 
 #[test]
 fn every_number_has_its_words() {
     let unknown = Refusal::of(u32::MAX, None).expect("a refusal").words();
-    for (number, refusal) in (1..=15).chain([18, 21]).zip(TABLE) {
+    for (number, refusal) in (1..=15).chain([18, 21, 23]).zip(TABLE) {
         let words = refusal.words();
         assert_eq!((refusal.number(), Refusal::of(number, None)), (number, Some(refusal)), "{}", words);
         assert_eq!(refusal.to_string(), format!("refused by {}: {}", number, words));
@@ -177,7 +240,7 @@ fn every_number_has_its_words() {
 
 #[test]
 fn of_a_start_at_fault_the_place_is_said_too() {
-    for (number, refusal) in (1..=15).chain([18, 21]).zip(TABLE) {
+    for (number, refusal) in (1..=15).chain([18, 21, 23]).zip(TABLE) {
         let placed = Refusal::of(number, Some(65_536)).expect("a refusal");
         assert_eq!((placed.number(), placed.words()), (number, refusal.words()));
         if [7, 18].contains(&number) {
@@ -193,7 +256,7 @@ fn of_a_start_at_fault_the_place_is_said_too() {
 #[test]
 fn a_number_to_come_is_a_refusal_too() {
     let cause = "a cause that this version of the wrapper does not know";
-    for number in [16, 17, 19, 20, 24, 255, u32::MAX] {
+    for number in [16, 17, 19, 20, 22, 24, 255, u32::MAX] {
         let refusal = Refusal::of(number, Some(3)).expect("a refusal");
         assert_eq!(refusal.number(), number);
         assert_eq!(refusal.to_string(), format!("refused by {}: {}", number, cause));

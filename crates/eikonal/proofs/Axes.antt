@@ -1,12 +1,12 @@
--- The laws of the local rule over weighted axes, once for any number of them: the board's rule has two, of the weights h and g (Local.antt).
+-- The laws of the local rule over weighted axes, once for any number of them: the board's rule has three, of the weights h, g and g (Local.antt).
 use mathlib.Core.Path.{_≡_, refl}
-use mathlib.Core.Bool.{Bool, true, false, cond, _||_}
+use mathlib.Core.Bool.{Bool, true, false, _||_}
 use mathlib.Core.List.{List, [], _∷_}
 use mathlib.Core.Logic.{_⊎_, inl, inr, _≢_}
 use Prim.Native.Nat.{ℕ, suc, _+_, _*_, _-_, _≤_, _<_, min}
 use native.Mathlib.Omega.{arith}
 use native.Mathlib.Nat.{mul-le-mul, mul-le-mul-left}
-use lib.Dec.{leb, eqb}
+use lib.Dec.{eqb}
 use borrow.Author.Tests.{leb-true, le-leb, eqb-true, eqb-false, ne-eqb}
 use Rattle.eikonal.specs.Axes.{never, least-from, square, earliest, pull, passes-axes, local-axes, Enough}
 use Rattle.eikonal.proofs.Levels.{order, Agree, Under}
@@ -66,6 +66,14 @@ pull-enough far m w (v ∷ ws) f t k h =
         omega (arith, square-mono all)
     go (inr l) next = omega (arith, next (omega arith))
 
+-- an order below t, from the numbers below t that bound each
+pub bounded : (t x y : ℕ) → ((v : ℕ) → v < t → y ≤ v → x ≤ v) → min t x ≤ y
+bounded t x y h = go (order y t)
+  where
+    go : (y < t) ⊎ (t ≤ y) → min t x ≤ y
+    go (inl l) = omega (arith, h y l (omega arith))
+    go (inr l) = omega arith
+
 module _ (far m w : ℕ) (ws : List ℕ) (enough : Enough far m w ws) where
   -- a straight step passes
   pub axes-step : (f : ℕ → ℕ) → passes-axes m w ws f (earliest ws f + far) ≡ true
@@ -116,14 +124,6 @@ module _ (far m w : ℕ) (ws : List ℕ) (enough : Enough far m w ws) where
   axes-follow f g v h p k =
       let r = axes-passes g v h k in
       passes-local-axes f v h (r .0) (axes-on m w ws g f v v p (r .1))
-
-  -- an order below t, from the numbers below t that bound each
-  bounded : (t x y : ℕ) → ((v : ℕ) → v < t → y ≤ v → x ≤ v) → min t x ≤ y
-  bounded t x y h = go (order y t)
-    where
-      go : (y < t) ⊎ (t ≤ y) → min t x ≤ y
-      go (inl l) = omega (arith, h y l (omega arith))
-      go (inr l) = omega arith
 
   -- MONOTONE and CAUSAL
   pub axes-under : (f g : ℕ → ℕ) → Under never f g → min never (local-axes far m w ws f) ≤ local-axes far m w ws g

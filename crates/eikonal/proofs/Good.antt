@@ -1,18 +1,19 @@
 -- A board that is not refused is Good.
 use mathlib.Core.Path.{_≡_, refl, ap, _∙_}
-use mathlib.Core.Bool.{Bool, Bool·beq, true, false, not, cond, _&&_, _||_, false≢true, true≢false}
+use mathlib.Core.Bool.{Bool, Bool·beq, true, false, not, cond, _&&_, _||_, and-false, false≢true, true≢false}
 use mathlib.Core.List.{List, [], _∷_}
 use mathlib.Core.Logic.{_⊎_, inl, inr}
-use Prim.Native.Nat.{ℕ, zero, suc, _≤_}
+use Prim.Native.Nat.{ℕ, zero, suc, _*_, _≤_}
 use native.Mathlib.Omega.{arith}
-use native.Mathlib.Nat.{mul-le-mul}
+use native.Mathlib.Decide.{decLt}
 use lib.Dec.{ltb, leb, eqb}
 use lib.ListN.{length, getD}
-use borrow.Author.Tests.{eqb-true, eqb-false, leb-true, ltb-false}
+use borrow.Author.Tests.{eqb-true, eqb-false, leb-true, ltb-false, lt-ltb, le-ltb, le-leb, not-false}
 use Rattle.eikonal.specs.Board.{Board, size, slowness, along-row, down-column, never, start-time}
 use Rattle.eikonal.specs.declared.Start.{Start}
-use Rattle.eikonal.specs.Refusals.{Handed, handed, handed-refusal, starts-refusal, side-good, sides-good}
-use Rattle.eikonal.specs.Refusals.{steep, half-wall, any-pair, pairs-refusal, slows-refusal}
+use Rattle.eikonal.specs.Refusals.{Handed, handed, or-else, handed-refusal, starts-refusal, side-good, sides-good}
+use Rattle.eikonal.specs.Refusals.{steep, half-wall, uneven, any-pair, pairs-refusal, slows-refusal}
+use Rattle.eikonal.specs.Refusals.{storeys-good, ill-stacked, storeys-refusal, house-refusal}
 use Rattle.eikonal.specs.Refusals.{first-off, first-low, late, on-wall, records-refusal}
 use Rattle.eikonal.specs.Promise.{board-good}
 use Rattle.eikonal.specs.Inner.Good.{Known, Pair, Good}
@@ -56,6 +57,48 @@ to-pair g h e f =
     go true false a b e = absurd (true≢false e)
     go false true a b e = absurd (true≢false e)
     go false false a b e = inr (omega (arith, eqb-false g 0 a), omega (arith, eqb-false h 0 b))
+
+even-pair : (g h : ℕ) → uneven g h ≡ false → g ≡ h
+unfolding uneven
+even-pair g h e = eqb-true g h (not-false _ e)
+
+-- WHAT IS NONE OF 5, 21 AND 23
+pub record Housed (w h s : ℕ) (ss : List ℕ) : Type 0 where
+  pub gentle : any-pair steep ss ≡ false
+  pub whole : any-pair half-wall ss ≡ false
+  pub low : 1 ≤ s
+  pub high : s ≤ 8
+  pub few : w * h * s ≤ 65536
+  pub level : 2 ≤ s → any-pair uneven ss ≡ false
+
+module _ (w h s : ℕ) (ss : List ℕ) where
+  pub housed : house-refusal w h s ss .number ≡ 0 → Housed w h s ss
+  unfolding house-refusal slows-refusal storeys-refusal ill-stacked storeys-good
+  housed e =
+      let r = neither (slows-refusal ss) _ e in
+      let f = unflawed (any-pair steep ss) (any-pair half-wall ss) (r .0) in
+      let p = or-false (not (storeys-good s)) _ (passed (ill-stacked w h s (any-pair uneven ss)) _ _ (r .1) .0) in
+      let q = or-false (ltb 65536 (w * h * s)) (ltb 1 s && any-pair uneven ss) (p .1) in
+      let within = and-true (leb 1 s) (leb s 8) (not-false _ (p .0)) in
+      record {
+        gentle = f .0;
+        whole = f .1;
+        low = leb-true 1 s (within .0);
+        high = leb-true s 8 (within .1);
+        few = ltb-false 65536 (w * h * s) (q .0);
+        level = λ l. rw (lt-ltb 1 s (omega arith)) at (q .1);
+      }
+
+  tall : (2 ≤ s → any-pair uneven ss ≡ false) → ltb 1 s && any-pair uneven ss ≡ false
+  tall l = elim (decLt 1 s) [
+    | yes k ↦ rw (l (omega arith)) (and-false (ltb 1 s))
+    | no k ↦ rw (le-ltb 1 s (omega arith)) refl
+  ]
+
+  pub houses : Housed w h s ss → house-refusal w h s ss .number ≡ 0
+  unfolding house-refusal slows-refusal pairs-refusal storeys-refusal ill-stacked storeys-good or-else
+  houses k =
+      rw (k .gentle, k .whole, le-leb 1 s (k .low), le-leb s 8 (k .high), le-ltb 65536 (w * h * s) (k .few), tall (k .level)) refl
 
 none-late : (xs : List Start) → late xs ≡ false → (c : ℕ) → Known 1000000 (start-time c xs)
 unfolding late start-time
@@ -113,13 +156,13 @@ pub record Accepted (p : Handed) : Type 0 where
   pub starts : Sound (p .board)
 
 pub accepted : (p : Handed) → handed-refusal p .number ≡ 0 → Accepted p
-unfolding handed-refusal slows-refusal steep half-wall slowness
+unfolding handed-refusal steep half-wall uneven slowness size
 accepted p e =
     let b = p .board in
     let r2 = fulfilled (sides-good (b .wide) (b .high)) _ _ e in
     let r4 = fulfilled (p .paired && eqb (length (b .slow)) (size b)) _ _ (r2 .1) in
-    let r = neither (slows-refusal (b .slow)) _ (r4 .1) in
-    let f = unflawed (any-pair steep (b .slow)) (any-pair half-wall (b .slow)) (r .0) in
+    let r = neither (house-refusal (b .wide) (b .high) (b .storeys) (b .slow)) _ (r4 .1) in
+    let k = housed (b .wide) (b .high) (b .storeys) (b .slow) (r .0) in
     let s = sound b (r .1) in
     let sides = sides-within (b .wide) (b .high) (r2 .0) in
     let even = and-true (p .paired) (eqb (length (b .slow)) (size b)) (r4 .0) in
@@ -130,8 +173,12 @@ accepted p e =
         wide-high = sides .1;
         high-low = sides .2;
         high-high = sides .3;
+        storeys-low = k .low;
+        storeys-high = k .high;
+        few = k .few;
         slow-length = eqb-true (length (b .slow)) (size b) (even .1);
-        pairs = λ c. to-pair _ _ (none-pair steep (b .slow) refl (f .0) c) (none-pair half-wall (b .slow) refl (f .1) c);
+        pairs = λ c. to-pair _ _ (none-pair steep (b .slow) refl (k .gentle) c) (none-pair half-wall (b .slow) refl (k .whole) c);
+        level = λ l c. even-pair _ _ (none-pair uneven (b .slow) refl (k .level l) c);
         starts-known = none-late (b .starts) (s .early);
         walls-free = none-on-wall b (b .starts) (s .free);
       };
@@ -143,8 +190,7 @@ unfolding board-good
 good b e = accepted (handed b true) (eqb-true _ 0 e) .good
 
 pub size-most : {b : Board} → Good b → size b ≤ 65536
-unfolding size
-size-most g = mul-le-mul (g .wide-high) (g .high-high)
+size-most g = g .few
 
 pub start-most : {b : Board} → Good b → (c : ℕ) → start-time c (b .starts) ≤ never
 start-most {b} g c = go (g .starts-known c)

@@ -3,14 +3,13 @@ use mathlib.Core.Path.{_≡_, refl, sym, ap, _∙_}
 use mathlib.Core.Bool.{Bool, true, false, cond}
 use mathlib.Core.List.{List, [], _∷_}
 use mathlib.Core.Logic.{_⊎_, inl, inr, _≢_}
-use Prim.Native.Nat.{ℕ, zero, suc, _+_, _*_, _-_, _/_, _%_, _≤_, _<_, min}
+use Prim.Native.Nat.{ℕ, suc, _+_, _*_, _-_, _/_, _%_, _≤_, _<_, min}
 use native.Mathlib.Omega.{arith}
-use native.Mathlib.Decide.{ℕ-discrete}
 use native.Mathlib.Nat.{suc-mod, mod-lt, mod-eq-of-lt, mod-self, zero-mod, div-add-mod', add-div-right, mul-le-mul-right}
 use lib.Dec.{eqb}
 use lib.ListN.{length}
 use borrow.Author.Tests.{eqb-false, ne-eqb}
-use Rattle.eikonal.specs.Axes.{Axis, place, sight, sights, Next, Next-on, here, there, Near, Spans, All-span, none, also, never, earlier, earliest}
+use Rattle.eikonal.specs.Axes.{Axis, place, sight, sights, Next, Next-on, here, there, Near, Spans, All-span, also, never, earlier, earliest}
 use Rattle.eikonal.proofs.Levels.{order}
 use Rattle.eikonal.proofs.Local.{earlier-min}
 

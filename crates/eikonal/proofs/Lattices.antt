@@ -8,7 +8,7 @@ use native.Mathlib.Omega.{arith}
 use lib.Dec.{ltb}
 use borrow.Author.Tests.{eqb-false, lt-ltb, le-ltb}
 use Rattle.eikonal.specs.Axes.{never, earlier, Axis, place, sight, sights, Next, Near, Spans, All-span, none, also, earliest, Lattice, given-on, met-on}
-use Rattle.eikonal.specs.Promise.{Earlier-no-later, One-set, Fits, Just-one}
+use Rattle.eikonal.specs.Promise.{Earlier-no-later, One-set, Fits}
 use Rattle.eikonal.proofs.Levels.{order, Agree, Under, Causal, Monotone, worked, count-most, one-fixed, reached-limit}
 use Rattle.eikonal.proofs.Axes.{axes-under, axes-agree, axes-late, axes-step, Answers-axes, axes-answers}
 use Rattle.eikonal.proofs.Local.{earlier-min, earlier-agree, earlier-under}

@@ -121,8 +121,8 @@ starts-again (x ∷ xs) = ap (λ (ys : List Start). x ∷ ys) (starts-again xs)
 
 pub same-handed : Same-handed
 unfolding Same-handed by-lists by-records cells-of begins-of
-same-handed w h ss xs =
-    ap₂ (λ ys p. handed (board-of w h ss ys) p) (starts-again xs) (eq-eqb (length (cells-of xs)) (length (begins-of xs)) (simp length-map))
+same-handed w h s ss xs =
+    ap₂ (λ ys p. handed (board-of w h s ss ys) p) (starts-again xs) (eq-eqb (length (cells-of xs)) (length (begins-of xs)) (simp length-map))
 
 pub lists-are-records : Lists-are-records
 unfolding Lists-are-records starts-of cells-of begins-of

@@ -1,82 +1,123 @@
 -- Local-least, Old-rule and Diagonal-step: what Promise.antt says of the local rule.
-use mathlib.Core.Path.{_≡_, refl, sym, ap, _∙_, fun-ext}
-use mathlib.Core.Bool.{Bool, true, false, cond}
+use mathlib.Core.Path.{_≡_, sym, ap, _∙_, fun-ext}
+use mathlib.Core.Bool.{true, false}
+use mathlib.Core.List.{[], _∷_}
 use mathlib.Core.Logic.{inl, inr}
-use Prim.Native.Nat.{ℕ, zero, suc, _+_, _*_, _-_, _≤_, _<_, min, max}
+use Prim.Native.Nat.{ℕ, zero, suc, _+_, _*_, _-_, _≤_, _<_, min}
 use native.Mathlib.Omega.{arith}
-use native.Mathlib.Nat.{add-suc, mul-le-mul}
-use lib.Dec.{leb, eqb}
-use borrow.Author.Tests.{le-leb, lt-leb, leb-true, leb-false, ne-eqb}
-use Rattle.eikonal.specs.Board.{never, earlier, least-from, square, passes, diagonal, local-of, local}
+use native.Mathlib.Nat.{mul-le-mul}
+use lib.Dec.{leb}
+use borrow.Author.Tests.{le-leb}
+use Rattle.eikonal.specs.Board.{never, earlier, square, passes, diagonal, local-of, local}
 use Rattle.eikonal.specs.Promise.{Local-least, Old-rule, Diagonal-step, one-passes, one-local}
-use Rattle.eikonal.proofs.Least.{least-bound}
-use Rattle.eikonal.proofs.FirstPass.{scaled, scaled-short}
-use Rattle.eikonal.proofs.Local.{Answers, stays, comes, earlier-min, local-answers, far-passes, along-passes, down-passes}
+use Rattle.eikonal.proofs.Least.{least, least-bound}
+use Rattle.eikonal.specs.Axes.{earliest, pull, passes-axes, local-axes, Enough}
+use Rattle.eikonal.proofs.Axes.{axes-passes, passes-local-axes, bounded}
+use Rattle.eikonal.proofs.FirstPass.{equal-passes}
+use Rattle.eikonal.proofs.Local.{Answers, stays, comes, earlier-min, earlier-three, local-is, local-answers, local-passes, passes-local, far-passes}
+use Rattle.eikonal.proofs.Local.{along-passes, down-passes, storey-passes}
 
-local-least-of : (g h a b t : ℕ) → 1 ≤ g * h → min a b < never → Answers g h a b
-    → (passes g h a b (local-of g h a b) ≡ true) × (local-of g h a b ≤ a + g) × (local-of g h a b ≤ b + h)
-    × (min a b ≤ t → t < local-of g h a b → passes g h a b t ≡ false)
-local-least-of g h a b t o k (stays (inl z) e) = absurd (omega arith)
-local-least-of g h a b t o k (stays (inr z) e) = absurd (omega arith)
-local-least-of g h a b t o k (comes p n l) = (
-  l .found (far-passes g h a b),
-  least-bound l (a + g) (omega arith) (along-passes g h a b),
-  least-bound l (b + h) (omega arith) (down-passes g h a b),
+local-least-of : (g h a b z t : ℕ) → 1 ≤ g * h → min a (min b z) < never → Answers g h a b z
+    → (passes g h a b z (local-of g h a b z) ≡ true)
+    × (local-of g h a b z ≤ a + g) × (local-of g h a b z ≤ b + h) × (local-of g h a b z ≤ z + h)
+    × (min a (min b z) ≤ t → t < local-of g h a b z → passes g h a b z t ≡ false)
+local-least-of g h a b z t o k (stays (inl e) f) = absurd (omega arith)
+local-least-of g h a b z t o k (stays (inr e) f) = absurd (omega arith)
+local-least-of g h a b z t o k (comes p n l) = (
+  l .found (far-passes g h a b z),
+  least-bound l (a + g) (omega arith) (along-passes g h a b z),
+  least-bound l (b + h) (omega arith) (down-passes g h a b z),
+  least-bound l (z + h) (omega arith) (storey-passes g h a b z),
   l .first t,
 )
 
 pub local-least : Local-least
 unfolding Local-least local
-local-least g h l r u d t p q m =
-    rw (earlier-min (earlier l r) (earlier u d))
-    (local-least-of g h (earlier l r) (earlier u d) t (mul-le-mul p q) (rw (earlier-min (earlier l r) (earlier u d)) at m)
-    (local-answers g h (earlier l r) (earlier u d)))
+local-least g h l r u d o n t p q m =
+    let first = earlier-three (earlier l r) (earlier u d) (earlier o n) in
+    rw first
+    (local-least-of g h (earlier l r) (earlier u d) (earlier o n) t (mul-le-mul p q) (rw first at m)
+    (local-answers g h (earlier l r) (earlier u d) (earlier o n)))
 
--- ---- equal numbers: both squares are counted s² times
-one-is : (s a b t : ℕ) → 1 ≤ s → passes s s a b t ≡ one-passes s a b t
-unfolding passes one-passes square
-one-is s a b t h = go (leb (s * s) ((t - a) * (t - a) + (t - b) * (t - b))) refl
+-- ---- equal numbers: the rule of one slowness has two axes of the weight 1
+unfoldable two : (a b : ℕ) → ℕ → ℕ
+two a b zero = a
+two a b (suc i) = b
+
+abbrev one-axes : (s a b : ℕ) → ℕ
+one-axes s a b = local-axes s s 1 (1 ∷ []) (two a b)
+
+one-enough : (s : ℕ) → Enough s s 1 (1 ∷ [])
+unfolding Enough
+one-enough s = (omega arith, omega arith)
+
+one-passes-is : (s a b t : ℕ) → one-passes s a b t ≡ passes-axes s 1 (1 ∷ []) (two a b) t
+unfolding one-passes passes-axes pull two square
+one-passes-is s a b t = ap (leb (s * s)) (sum (t - a) (t - b))
   where
-    go : (p : Bool) → leb (s * s) ((t - a) * (t - a) + (t - b) * (t - b)) ≡ p
-        → leb (s * s * (s * s)) ((t - a) * (t - a) * (s * s) + (t - b) * (t - b) * (s * s)) ≡ p
-    go true e = le-leb _ _ (scaled s ((t - a) * (t - a)) ((t - b) * (t - b)) (leb-true _ _ e))
-    go false e = lt-leb _ _ (scaled-short s ((t - a) * (t - a)) ((t - b) * (t - b)) h (leb-false _ _ e))
+    sum : (p q : ℕ) → p * p + q * q ≡ 1 * p * (1 * p) + 1 * q * (1 * q)
+    sum p q = omega arith
+
+one-is : (s l r u d : ℕ) → one-local s l r u d ≡ one-axes s (earlier l r) (earlier u d)
+unfolding one-local local-axes earliest two
+one-is s l r u d = rw (fun-ext (one-passes-is s (earlier l r) (earlier u d)), earlier-min (earlier l r) (earlier u d))
+
+-- before never they pass the same times
+same-passes : (s a b v : ℕ) → 1 ≤ s → v < never → passes s s a b never v ≡ passes-axes s 1 (1 ∷ []) (two a b) v
+unfolding one-passes square
+same-passes s a b v i l =
+    let none : v - never ≡ 0 = omega arith in
+    equal-passes s a b never v i ∙ rw none (ap (leb (s * s)) (sum (v - a) (v - b))) ∙ one-passes-is s a b v
+  where
+    sum : (p q : ℕ) → p * p + q * q + 0 * 0 ≡ p * p + q * q
+    sum p q = omega arith
+
+some : (s : ℕ) → 1 ≤ s * s → 1 ≤ s
+some zero h = absurd (omega arith)
+some (suc s) h = omega arith
+
+old-rule-of : (s a b : ℕ) → min never (local-of s s a b never) ≡ min never (one-axes s a b)
+old-rule-of s a b =
+    omega (arith, bounded never (local-of s s a b never) (one-axes s a b) up, bounded never (one-axes s a b) (local-of s s a b never) down)
+  where
+    up : (v : ℕ) → v < never → one-axes s a b ≤ v → local-of s s a b never ≤ v
+    up v h k =
+        let q = axes-passes s s 1 (1 ∷ []) (one-enough s) (two a b) v h k in
+        passes-local s s a b never v h (mul-le-mul (q .0) (q .0)) (same-passes s a b v (q .0) h ∙ q .1)
+
+    down : (v : ℕ) → v < never → local-of s s a b never ≤ v → one-axes s a b ≤ v
+    down v h k =
+        let q = local-passes s s a b never v h k in
+        let i = some s (q .0) in
+        passes-local-axes s s 1 (1 ∷ []) (one-enough s) (two a b) v h i (sym (same-passes s a b v i h) ∙ q .1)
 
 pub old-rule : Old-rule
-unfolding Old-rule local local-of one-local
-old-rule zero l r u d = refl
-old-rule (suc s) l r u d =
-    let far : max (suc s) (suc s) ≡ suc s = omega arith in
-    let open-cell : eqb (suc s * suc s) 0 ≡ eqb (suc s) 0 = ne-eqb (suc s * suc s) 0 (omega arith) ∙ sym (ne-eqb (suc s) 0 (omega arith)) in
-    rw (far, open-cell, fun-ext (λ t. one-is (suc s) (earlier l r) (earlier u d) t (omega arith)))
+unfolding Old-rule local earlier
+old-rule s l r u d = rw (one-is s l r u d) (old-rule-of s (earlier l r) (earlier u d))
 
--- ---- the same search from a later number on
-least-shift : (n a k : ℕ) (f g : ℕ → Bool) → ((d : ℕ) → f (a + d) ≡ g d) → least-from n (a + k) f ≡ a + least-from n k g
-unfolding least-from
-least-shift zero a k f g e = refl
-least-shift (suc n) a k f g e = rw (e k) (go (g k) (rw add-suc at (least-shift n a (suc k) f g e)))
+-- ---- equal sides, and no third square: the same search, from the sides on
+equal-sides : (s a z : ℕ) → 1 ≤ s → a < never → a + diagonal s ≤ z → local-of s s a a z ≡ a + diagonal s
+unfolding diagonal square
+equal-sides s a z i m far = go (local-answers s s a a z)
   where
-    go : (b : Bool) → least-from n (suc (a + k)) f ≡ a + least-from n (suc k) g
-        → cond b (a + k) (least-from n (suc (a + k)) f) ≡ a + cond b k (least-from n (suc k) g)
-    go true next = refl
-    go false next = next
+    -- e ticks past the sides
+    twice : (e : ℕ) → a + e ≤ z → passes s s a a z (a + e) ≡ leb (s * s) (2 * (e * e))
+    twice e l =
+        let side : a + e - a ≡ e = omega arith in
+        let none : a + e - z ≡ 0 = omega arith in
+        equal-passes s a a z (a + e) i ∙ rw (side, none) (ap (leb (s * s)) (omega arith))
 
--- the step between two equal sides, wherever they stand
-equal-sides : (s a : ℕ) → least-from s a (λ t. one-passes s a a t) ≡ a + diagonal s
-unfolding diagonal one-passes
-equal-sides s a =
-    ap (λ (v : ℕ). least-from s v (λ t. one-passes s a a t)) (omega arith)
-    ∙ least-shift s a 0 (λ t. one-passes s a a t) (λ d. leb (square s) (2 * square d)) same
-  where
-    same : (d : ℕ) → one-passes s a a (a + d) ≡ leb (square s) (2 * square d)
-    same d =
-        let side : a + d - a ≡ d = omega arith in
-        let twice : square d + square d ≡ 2 * square d = omega arith in
-        rw (side, twice)
+    go : Answers s s a a z → local-of s s a a z ≡ a + diagonal s
+    go (stays (inl e) f) = absurd (omega (arith, mul-le-mul i i))
+    go (stays (inr e) f) = absurd (omega arith)
+    go (comes p n l) =
+        let d = least s 0 (λ d. leb (square s) (2 * square d)) in
+        let found = d .found (le-leb (s * s) (2 * ((0 + s) * (0 + s))) (omega arith)) in
+        let high = least-bound l (a + diagonal s) (omega arith) (twice (diagonal s) far ∙ found) in
+        let k : local-of s s a a z ≡ a + (local-of s s a a z - a) = omega (arith, l .low) in
+        let passed = rw k at (l .found (far-passes s s a a z)) in
+        omega (arith, high, l .low, least-bound d (local-of s s a a z - a) (omega arith) (sym (twice (local-of s s a a z - a) (omega arith)) ∙ passed))
 
 pub diagonal-step : Diagonal-step
-unfolding Diagonal-step Old-rule one-local
-diagonal-step s l r u d h k e m =
-    let first : earlier (earlier l r) (earlier l r) ≡ earlier l r = earlier-min _ _ ∙ omega arith in
-    old-rule s l r u d
-    ∙ rw (← e, first, ne-eqb s 0 (omega arith), ne-eqb (earlier l r) never (omega arith)) (equal-sides s (earlier l r))
+unfolding Diagonal-step
+diagonal-step s l r u d o n h k e m z = local-is s s l r u d o n ∙ rw (← e) (equal-sides s (earlier l r) (earlier o n) h m z)

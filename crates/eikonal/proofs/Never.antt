@@ -46,8 +46,11 @@ module _ (b : Board) (legal : board-good b ≡ true) where
   unfolding Times-below
   joined-reached (begins c h w s) = (h, omega (arith, solved-met c h, start-most (good b legal) c, s))
   joined-reached (goes-on c e h w n j) =
-      let r = joined-reached j in
-      (h, go (times-below b e legal (r .0)) (r .1) (seen-earliest (size b) (time (solved b)) _ _ _ refl (on-axes .spans) c e n) (is-given on-axes c (time (solved b))))
+      let r = joined-reached j in (
+        h,
+        go (times-below b e legal (r .0)) (r .1) (seen-earliest (size b) (time (solved b)) _ _ _ refl (on-axes .spans) c e n)
+            (is-given on-axes c (time (solved b))),
+      )
     where
       go : (time (solved b) e < 269369920) ⊎ (time (solved b) e ≡ never) → time (solved b) e < never
           → first c ≤ time (solved b) e → Given on-axes c (time (solved b)) → time (solved b) c < never

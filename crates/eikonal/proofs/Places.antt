@@ -16,7 +16,8 @@ use Rattle.eikonal.specs.declared.Reply.{Reply}
 use Rattle.eikonal.specs.declared.Job.{Job}
 use Rattle.eikonal.specs.declared.Job.the-variants.{March, Round, Run}
 use Rattle.eikonal.specs.Refusals.{Handed, cause, cause-at, none, or-else, on-board, first-off, first-low, late, on-wall}
-use Rattle.eikonal.specs.Refusals.{steep, half-wall, any-pair, pairs-refusal, slows-refusal, sides-good, order-good}
+use Rattle.eikonal.specs.Refusals.{steep, half-wall, uneven, any-pair, pairs-refusal, slows-refusal, ill-stacked, storeys-refusal, house-refusal}
+use Rattle.eikonal.specs.Refusals.{sides-good, order-good}
 use Rattle.eikonal.specs.Refusals.{records-refusal, starts-refusal, handed-refusal, tiles-refusal, job-refusal, lists-refusal}
 use Rattle.eikonal.specs.Ledger.{Call, call-board, refusal, answer, answered, ledger-answer}
 use Rattle.eikonal.specs.Promise.{cell-at, All-on, All-rise, First-at-fault, Place-is-first, Steps, All-place, Every-place}
@@ -39,28 +40,31 @@ looked-for-before k l h (inr o) = omega arith
 
 -- the numbers that are looked for in front of the starts
 abbrev pub in-front : (number : ℕ) → Bool
-in-front k = eqb k 21 || (leb 1 k && ltb k 7)
+in-front k = eqb k 21 || (eqb k 23 || (leb 1 k && ltb k 7))
 
 module _ (n : ℕ) (xs : List Start) where
   abbrev pub Tells : Refusal → Type 0
   Tells k = First-at-fault n xs (k .number) (k .place)
 
-  -- ---- in front of the starts: causes with a number below 7, or 21
+  -- ---- in front of the starts: causes with a number below 7, 21 and 23
   plain : (k : ℕ) → in-front k ≡ true → Tells (cause k)
-  plain k e = go (eqb k 21) refl e
+  plain k e = go (eqb k 21) (eqb k 23) refl refl e
     where
-      go : (p : Bool) → eqb k 21 ≡ p → p || (leb 1 k && ltb k 7) ≡ true → Tells (cause k)
-      go true q e =
-          let z = eqb-true k 21 q in
-          record { off = λ r. absurd (omega arith); low = λ r. absurd (omega arith); right = λ o c d. absurd (d z); rest = λ a b. refl }
-      go false q e =
+      go : (p q : Bool) → eqb k 21 ≡ p → eqb k 23 ≡ q → p || (q || (leb 1 k && ltb k 7)) ≡ true → Tells (cause k)
+      go true q f u e =
+          let z = eqb-true k 21 f in
+          record { off = λ r. absurd (omega arith); low = λ r. absurd (omega arith); right = λ o c d i. absurd (d z); rest = λ a b. refl }
+      go false true f u e =
+          let z = eqb-true k 23 u in
+          record { off = λ r. absurd (omega arith); low = λ r. absurd (omega arith); right = λ o c d i. absurd (i z); rest = λ a b. refl }
+      go false false f u e =
           let r = and-true (leb 1 k) (ltb k 7) e in
           let low = leb-true 1 k (r .0) in
           let high = ltb-true k 7 (r .1) in
           record {
             off = λ q. absurd (omega arith);
             low = λ q. absurd (omega arith);
-            right = λ o c d. absurd (looked-for-before k low (omega arith) o);
+            right = λ o c d i. absurd (looked-for-before k low (omega arith) o);
             rest = λ a b. refl;
           }
 
@@ -79,10 +83,6 @@ module _ (n : ℕ) (xs : List Start) where
   hidden true k b e t d = plain k e
   hidden false k b e t d = t d
 
-  pub hides-slows : (ss : List ℕ) → Hides (slows-refusal ss)
-  unfolding slows-refusal pairs-refusal
-  hides-slows ss = hidden (any-pair steep ss) _ _ refl (hidden (any-pair half-wall ss) _ none refl unhidden)
-
   pub behind : (a b : Refusal) → Hides a → Tells b → Tells (or-else a b)
   unfolding or-else
   behind a b s t = go (eqb (a .number) 0) refl
@@ -91,17 +91,33 @@ module _ (n : ℕ) (xs : List Start) where
       go true e = t
       go false e = s (eqb-false (a .number) 0 e)
 
+  -- of two such refusals, the first that is one
+  pub hides-either : (a b : Refusal) → Hides a → Hides b → Hides (or-else a b)
+  unfolding or-else
+  hides-either a b s t = go (eqb (a .number) 0)
+    where
+      go : (p : Bool) → Hides (cond p b a)
+      go true = t
+      go false = s
+
+  -- 5, 21, 23
+  pub hides-house : (w h s : ℕ) (ss : List ℕ) → Hides (house-refusal w h s ss)
+  unfolding house-refusal slows-refusal pairs-refusal storeys-refusal
+  hides-house w h s ss =
+      hides-either _ _ (hidden (any-pair steep ss) _ _ refl (hidden (any-pair half-wall ss) _ none refl unhidden))
+      (hidden (ill-stacked w h s (any-pair uneven ss)) _ none refl unhidden)
+
   -- ---- behind them: no start is at fault, whatever is met
   abbrev Right : Type 0
   Right = All-on n xs (length xs) × All-rise xs (length xs)
 
   pub passes : Right → Tells none
-  passes r = record { off = λ q. absurd (omega arith); low = λ q. absurd (omega arith); right = λ a b c. r; rest = λ a b. refl }
+  passes r = record { off = λ q. absurd (omega arith); low = λ q. absurd (omega arith); right = λ a b c d. r; rest = λ a b. refl }
 
   pub tested : Right → (p : Bool) (k : ℕ) (b : Refusal) → eqb k 7 || eqb k 18 ≡ false → Tells b → Tells (cond p (cause k) b)
   tested r true k b e t =
       let d = or-false (eqb k 7) (eqb k 18) e in
-      record { off = λ q. absurd (eqb-false k 7 (d .0) q); low = λ q. absurd (eqb-false k 18 (d .1) q); right = λ a b c. r; rest = λ a b. refl }
+      record { off = λ q. absurd (eqb-false k 7 (d .0) q); low = λ q. absurd (eqb-false k 18 (d .1) q); right = λ a b c d. r; rest = λ a b. refl }
   tested r false k b e t = t
 
   pub after : (a b : Refusal) → Tells a → (Right → Tells b) → Tells (or-else a b)
@@ -109,7 +125,7 @@ module _ (n : ℕ) (xs : List Start) where
   after a b s t = go (eqb (a .number) 0) refl
     where
       go : (p : Bool) → eqb (a .number) 0 ≡ p → Tells (cond p b a)
-      go true e = let z = eqb-true (a .number) 0 e in t (s .right (inl z) (λ q. omega arith) (λ q. omega arith))
+      go true e = let z = eqb-true (a .number) 0 e in t (s .right (inl z) (λ q. omega arith) (λ q. omega arith) (λ q. omega arith))
       go false e = s
 
   -- ---- the records
@@ -130,7 +146,7 @@ module _ (n : ℕ) (xs : List Start) where
           record {
             off = λ z. (h, ltb-false _ n (there (on-board n) 0 xs h), λ i l. ltb-true _ n (before (on-board n) 0 xs i l));
             low = λ z. absurd (omega arith);
-            right = λ o c d. absurd (looked-for-before 7 (omega arith) (omega arith) o);
+            right = λ o c d i. absurd (looked-for-before 7 (omega arith) (omega arith) o);
             rest = λ a b. absurd (a refl);
           }
       go false e true f =
@@ -139,7 +155,7 @@ module _ (n : ℕ) (xs : List Start) where
           record {
             off = λ z. absurd (omega arith);
             low = λ z. (s .0, h, s .1, rise (first-low xs) (omega arith), on e);
-            right = λ a b c. absurd (b refl);
+            right = λ a b c d. absurd (b refl);
             rest = λ a b. absurd (b refl);
           }
       go false e false f =
@@ -150,7 +166,7 @@ module _ (n : ℕ) (xs : List Start) where
   pub tells-answer : (k : Refusal) (c : ℕ) → Tells k → First-at-fault n xs (answered k c .number) (answered k c .place)
   unfolding answer
   tells-answer k c t = elim (ℕ-discrete (k .number) 0) [
-    | yes z ↦ rw (answered-zero k c z) (passes (t .right (inl z) (λ q. omega arith) (λ q. omega arith)))
+    | yes z ↦ rw (answered-zero k c z) (passes (t .right (inl z) (λ q. omega arith) (λ q. omega arith) (λ q. omega arith)))
     | no d ↦ rw (answered-refused k c d) t
   ]
 
@@ -178,7 +194,7 @@ tells-starts b =
     let xs = b .starts in
     after n xs _ _ (tells-records n xs) (λ r. tested n xs r (on-wall b xs) _ none refl (passes n xs r))
 
--- a board as it is handed in: 2, 4, 5 and 21 stand in front of them
+-- a board as it is handed in: 2, 4, 5, 21 and 23 stand in front of them
 tells-handed : (p : Handed) → Tells (size (p .board)) (p .board .starts) (handed-refusal p)
 unfolding handed-refusal
 tells-handed p =
@@ -186,7 +202,8 @@ tells-handed p =
     let n = size b in
     let xs = b .starts in
     early n xs (not (sides-good (b .wide) (b .high))) _ _ refl
-    (early n xs (not (p .paired && eqb (length (b .slow)) n)) _ _ refl (behind n xs _ _ (hides-slows n xs (b .slow)) (tells-starts b)))
+    (early n xs (not (p .paired && eqb (length (b .slow)) n)) _ _ refl
+    (behind n xs _ _ (hides-house n xs (b .wide) (b .high) (b .storeys) (b .slow)) (tells-starts b)))
 
 -- THE PLACE in the answer of a call
 pub place-is-first : Place-is-first

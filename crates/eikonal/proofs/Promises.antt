@@ -1,9 +1,10 @@
 -- THE PROMISES, gathered: each statement of specs/Promise.antt with its proof.
 use Rattle.eikonal.specs.Promise.{Place-is-first, Local-least, Old-rule, Diagonal-step, One-solution, Times-below, Never-past-horizon, Never-unjoined}
 use Rattle.eikonal.specs.Promise.{Round-is-solution, Run-is-march, Rounds-least, Few-rounds, Order-free, Run-order-free, Run-is-rounds, Every-list}
-use Rattle.eikonal.specs.Promise.{Every-place, Lists-keep}
+use Rattle.eikonal.specs.Promise.{Every-place, Lists-keep, Earlier-no-later, One-set}
 use Rattle.eikonal.specs.Promise.{Same-handed, Lists-are-records, Same-answers, Third-condition}
 use Rattle.eikonal.proofs.LocalRule as local-rule
+use Rattle.eikonal.proofs.Lattices as lattices
 use Rattle.eikonal.proofs.Solution as solution
 use Rattle.eikonal.proofs.Never as never
 use Rattle.eikonal.proofs.Rounds as rounds
@@ -23,6 +24,13 @@ old-rule = local-rule.old-rule
 
 pub diagonal-step : Diagonal-step
 diagonal-step = local-rule.diagonal-step
+
+-- any number of axes
+pub earlier-no-later : Earlier-no-later
+earlier-no-later = lattices.earlier-no-later
+
+pub one-set : One-set
+one-set = lattices.one-set
 
 -- the second condition
 pub one-solution : One-solution

@@ -26,7 +26,8 @@ use Rattle.eikonal.proofs.Good.{good}
 use Rattle.eikonal.proofs.Lattices.{plain, plain-sound}
 use Rattle.eikonal.proofs.Rule.{met-capped}
 use Rattle.eikonal.proofs.Walls.{arrival-wall}
-use Rattle.eikonal.proofs.Passes.{never-time, rule, rule-on, rule-off, rule-under, rule-levels, time-off, solved-by, solved-is, solved-length, solved-fixed}
+use Rattle.eikonal.proofs.Passes.{never-time, rule, rule-on, rule-off, rule-under, rule-levels, time-off}
+use Rattle.eikonal.proofs.Passes.{solved-by, solved-is, solved-length, solved-fixed}
 use Rattle.eikonal.proofs.Solution.{solved-plain, solved-long, marched-long, one-solution-by}
 use Rattle.eikonal.proofs.LastRound.{is-last, last-says}
 use Rattle.eikonal.proofs.Ghosts.{tiled-sound, stored, stored-agree, stored-late}
@@ -49,7 +50,8 @@ module _ (b : Board) (g : Good b) (tw th : ℕ) where
   round-length m ts = cut-length m (solved-by b (tiled b tw th ts)) ∙ solved-length b (tiled b tw th ts)
 
   tiles-agree : (t : ℕ) (ts us : List ℕ) → t < never → Agree t (time ts) (time us) → Agree (suc t) (tiles ts) (tiles us)
-  tiles-agree t ts us h a = rule-levels g (tiled b tw th ts) (tiled b tw th us) (tiles ts) (tiles us) t h (tiles-fixed ts) (tiles-fixed us) see (suc t) (omega arith)
+  tiles-agree t ts us h a =
+      rule-levels g (tiled b tw th ts) (tiled b tw th us) (tiles ts) (tiles us) t h (tiles-fixed ts) (tiles-fixed us) see (suc t) (omega arith)
     where
       pick : (p : Bool) (u e : ℕ) → u ≤ t → min u (tiles ts e) ≡ min u (tiles us e)
           → min u (cond p (tiles ts e) (counts-as b ts e)) ≡ min u (cond p (tiles us e) (counts-as b us e))
@@ -79,8 +81,9 @@ module _ (b : Board) (g : Good b) (tw th : ℕ) where
 
   -- tiles that see the march have the march's times
   march-tiles : (h : ℕ) → h ≤ largest → Agree (suc h) (tiles (marched b h)) whole
-  march-tiles h l = rule-levels g (tiled b tw th (marched b h)) plain (tiles (marched b h)) whole h (omega arith) (tiles-fixed (marched b h)) whole-fixed see (suc h)
-      (omega arith)
+  march-tiles h l =
+      rule-levels g (tiled b tw th (marched b h)) plain (tiles (marched b h)) whole h (omega arith) (tiles-fixed (marched b h)) whole-fixed see
+      (suc h) (omega arith)
     where
       other : (p : Bool) (u e : ℕ) → u ≤ h → eqb (slowness b e) 0 ≡ p → min u (cond p never (clip largest (time (marched b h) e))) ≡ min u (whole e)
       other true u e i k = rw (wall-never e (eqb-true (slowness b e) 0 k)) refl

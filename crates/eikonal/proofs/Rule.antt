@@ -1,16 +1,15 @@
--- A board that is not refused is a lattice: its axes are the columns and the rows, and its rule is the local rule.
+-- A board that is not refused is a lattice: its axes are the columns, the rows and the storeys, and its rule is the local rule.
 use mathlib.Core.Path.{_≡_, sym, ap, _∙_}
-use mathlib.Core.List.{[], _∷_}
-use mathlib.Core.Logic.{_⊎_, inl, inr}
 use Prim.Native.Nat.{ℕ, suc, _+_, _*_, _≤_, _<_, min, max}
 use native.Mathlib.Omega.{arith}
-use native.Mathlib.Nat.{mul-comm, mul-one, one-mul}
-use Rattle.eikonal.specs.Axes.{Axis, Spans, none, also, Weights, Lattice, given-on, met-on, sights}
-use Rattle.eikonal.specs.Board.{Board, never, size, axes, column-axis, row-axis, slowness, along-row, down-column, earlier, start-time, arrival, met}
+use native.Mathlib.Nat.{mul-le-mul}
+use Rattle.eikonal.specs.Axes.{Spans, none, also, Weights, Lattice, given-on, met-on, sights}
+use Rattle.eikonal.specs.Board.{Board, never, size, axes, column-axis, row-axis, storey-axis}
+use Rattle.eikonal.specs.Board.{slowness, along-row, down-column, earlier, start-time, arrival, met}
 use Rattle.eikonal.specs.Promise.{Neighbour}
 use Rattle.eikonal.specs.Inner.Good.{Good}
 use Rattle.eikonal.proofs.Good.{start-most}
-use Rattle.eikonal.proofs.Local.{earlier-min, second, enough, axes-is}
+use Rattle.eikonal.proofs.Local.{earlier-min, others, enough, local-by}
 use Rattle.eikonal.proofs.Lattices.{given-agree, given-under, given-same}
 
 -- the numbers of a cell's pair
@@ -25,18 +24,25 @@ weights b c = record {
   far = max (row-of b c) (column-of b c);
   due = row-of b c * column-of b c;
   first = column-of b c;
-  others = second (row-of b c);
+  others = others (row-of b c);
   enough = enough (row-of b c) (column-of b c);
 }
 
 module _ {b : Board} (good : Good b) where
   pub columns-span : Spans (size b) (column-axis b)
   unfolding size
-  columns-span = record { unit-low = omega arith; count-low = good .wide-low; many = b .high; whole = omega (arith, mul-comm (b .wide) (b .high)) }
+  columns-span = record { unit-low = omega arith; count-low = good .wide-low; many = b .high * b .storeys; whole = turned }
+    where
+      turned : b .wide * b .high * b .storeys ≡ b .high * b .storeys * b .wide * 1
+      turned = omega arith
 
   pub rows-span : Spans (size b) (row-axis b)
   unfolding size
-  rows-span = record { unit-low = good .wide-low; count-low = good .high-low; many = 1; whole = omega (arith, mul-comm (b .wide) (b .high)) }
+  rows-span = record { unit-low = good .wide-low; count-low = good .high-low; many = b .storeys; whole = omega arith }
+
+  pub storeys-span : Spans (size b) (storey-axis b)
+  unfolding size
+  storeys-span = record { unit-low = omega (arith, mul-le-mul (good .wide-low) (good .high-low)); count-low = good .storeys-low; many = 1; whole = omega arith }
 
   abbrev pub lattice : Lattice
   lattice = record {
@@ -44,13 +50,13 @@ module _ {b : Board} (good : Good b) where
     axes = axes b;
     weights = weights b;
     begins = λ c. start-time c (b .starts);
-    spans = also columns-span (also rows-span none);
+    spans = also columns-span (also rows-span (also storeys-span none));
     begins-most = start-most good;
   }
 
   pub arrival-is : (c : ℕ) (f : ℕ → ℕ) → arrival b c f ≡ given-on lattice c f
   unfolding arrival given-on
-  arrival-is c f = axes-is (row-of b c) (column-of b c) (sights (axes b) c f)
+  arrival-is c f = local-by (row-of b c) (column-of b c) (sights (axes b) c f)
 
   pub met-is : (c : ℕ) (f : ℕ → ℕ) → met b c f ≡ met-on lattice c f
   unfolding met met-on

@@ -61,17 +61,18 @@ pub earlier-known : (m x y : ℕ) → Known m x → Known m y → Known m (earli
 unfolding earlier
 earlier-known m x y = cond-known (ltb x y) m x y
 
-pub local-known : (m g h a b : ℕ) → Pair g h → Known m a → Known m b → Known (m + 4095) (local-of g h a b)
-local-known m g h a b p k l = go (local-answers g h a b) k l
+pub local-known : (m g h a b z : ℕ) → Pair g h → Known m a → Known m b → Known m z → Known (m + 4095) (local-of g h a b z)
+local-known m g h a b z p = go (local-answers g h a b z)
   where
     far : max g h ≤ 4095
     far = omega (arith, p .along-most, p .down-most)
 
-    go : Answers g h a b → Known m a → Known m b → Known (m + 4095) (local-of g h a b)
-    go (stays w e) k l = inl e
-    go (comes o n r) (inr k) l = inr (omega (arith, r .high, far))
-    go (comes o n r) (inl k) (inr l) = inr (omega (arith, r .high, far))
-    go (comes o n r) (inl k) (inl l) = absurd (n (omega arith))
+    go : Answers g h a b z → Known m a → Known m b → Known m z → Known (m + 4095) (local-of g h a b z)
+    go (stays w e) i j k = inl e
+    go (comes o n r) (inr i) j k = inr (omega (arith, r .high, far))
+    go (comes o n r) (inl i) (inr j) k = inr (omega (arith, r .high, far))
+    go (comes o n r) (inl i) (inl j) (inr k) = inr (omega (arith, r .high, far))
+    go (comes o n r) (inl i) (inl j) (inl k) = absurd (n (omega arith))
 
 known-up : (m n t : ℕ) → m ≤ n → Known m t → Known n t
 known-up m n t h (inl e) = inl e

@@ -1,4 +1,5 @@
--- The starred boards of document 01, one table and one proof over it: a test that is computed over the table, and what it shows of each row.
+-- The starred boards of document 01 and boards worked by hand, one table and one proof over it: a test that is computed over the table, and what it
+-- shows of each row.
 use mathlib.Core.Path.{_≡_, refl, ap₂}
 use mathlib.Core.Bool.{Bool, true, false, _&&_, false≢true}
 use mathlib.Core.List.{List, [], _∷_}
@@ -9,22 +10,22 @@ use borrow.Author.Tests.{eqb-true}
 use Rattle.eikonal.specs.Axes.{place, sight}
 use Rattle.eikonal.specs.Board.{Board, board-of, never, largest, size, slowness, along-row, down-column, earlier, least-from, square, passes}
 use Rattle.eikonal.specs.Board.{local-of, local, diagonal, start-time, arrival, met, time, one-pass, passes-of, all-never, solved, cut, marched}
-use Rattle.eikonal.specs.Refusals.{cause, cause-at, steep, half-wall, pairs-refusal}
+use Rattle.eikonal.specs.Refusals.{cause, cause-at, or-else, steep, half-wall, pairs-refusal}
 use Rattle.eikonal.specs.Ledger.{answer, answered}
-use Rattle.eikonal.specs.Entry.{pair-refusal, step-refusal}
+use Rattle.eikonal.specs.Entry.{seen, pair-refusal, local-refusal, step-refusal}
 use Rattle.eikonal.specs.declared.Reply.{Reply}
 use Rattle.eikonal.proofs.Good.{and-true}
 
 pub data Row : Type 0 where
-  rule-gives : (g h a b time : ℕ) → Row
-  rule-refuses : (g h number : ℕ) → Row
+  rule-gives : (g h a b z time : ℕ) → Row
+  rule-refuses : (g h z number : ℕ) → Row
   step-gives : (s number count : ℕ) → Row
   march-gives : Board → (horizon : ℕ) → (times : List ℕ) → Row
 
--- times (a, b) are the time to the left and the time above
+-- times (a, b, z) are the time to the left, the time above and the time over
 unfoldable pub Holds : Row → Type 0
-Holds (rule-gives g h a b t) = local g h a never b never ≡ t
-Holds (rule-refuses g h n) = answered (pair-refusal g h) (local g h 0 never 0 never) ≡ answer (cause n) 0
+Holds (rule-gives g h a b z t) = local g h a never b never z never ≡ t
+Holds (rule-refuses g h z n) = answered (local-refusal g h z never) (local g h 0 never 0 never z never) ≡ answer (cause n) 0
 Holds (step-gives s n c) = answered (step-refusal s) (diagonal s) ≡ answer (cause n) c
 Holds (march-gives b h ts) = marched b h ≡ ts
 
@@ -34,27 +35,34 @@ All-hold (r ∷ rs) = Holds r × All-hold rs
 
 -- g ticks along a row, h down a column, in every cell; a front begins at the first
 abbrev pub even : (wide high g h : ℕ) → Board
-even w k g h = board-of w k (replicate (w * k) (g + 65536 * h)) (record { cell = 0; time = 0 } ∷ [])
+even w k g h = board-of w k 1 (replicate (w * k) (g + 65536 * h)) (record { cell = 0; time = 0 } ∷ [])
 
 abbrev pub three : Board
 three = even 3 3 10 10
 
 unfoldable pub table : List Row
 table =
-    rule-gives 10 10 0 never 10
-    ∷ rule-gives 10 10 0 0 8
-    ∷ rule-gives 10 10 0 4 9
-    ∷ rule-gives 10 10 0 5 10
-    ∷ rule-gives 10 10 0 10 10
-    ∷ rule-gives 5 5 0 1 4
-    ∷ rule-gives 1 1 0 0 1
-    ∷ rule-gives 0 0 0 0 never
-    ∷ rule-gives 10 20 0 never 10
-    ∷ rule-gives 10 20 never 0 20
-    ∷ rule-gives 10 20 0 0 9
-    ∷ rule-refuses 10 0 21
-    ∷ rule-refuses 0 10 21
-    ∷ rule-refuses 4096 0 5
+    rule-gives 10 10 0 never never 10
+    ∷ rule-gives 10 10 0 0 never 8
+    ∷ rule-gives 10 10 0 4 never 9
+    ∷ rule-gives 10 10 0 5 never 10
+    ∷ rule-gives 10 10 0 10 never 10
+    ∷ rule-gives 5 5 0 1 never 4
+    ∷ rule-gives 1 1 0 0 never 1
+    ∷ rule-gives 0 0 0 0 never never
+    ∷ rule-gives 10 20 0 never never 10
+    ∷ rule-gives 10 20 never 0 never 20
+    ∷ rule-gives 10 20 0 0 never 9
+    ∷ rule-gives 10 10 0 0 0 6
+    ∷ rule-gives 10 10 0 0 7 8
+    ∷ rule-gives 10 10 0 0 8 8
+    ∷ rule-gives 10 10 never never 0 10
+    ∷ rule-refuses 10 0 never 21
+    ∷ rule-refuses 0 10 never 21
+    ∷ rule-refuses 4096 0 never 5
+    ∷ rule-refuses 10 20 0 23
+    ∷ rule-refuses 10 0 0 21
+    ∷ rule-refuses 4096 0 0 5
     ∷ step-gives 0 0 0
     ∷ step-gives 7 0 5
     ∷ step-gives 4095 0 2896
@@ -75,8 +83,8 @@ same-reply : Reply → (number count : ℕ) → Bool
 same-reply r n c = eqb (r .number) n && (eqb (r .count) c && eqb (r .place) 0)
 
 right : Row → Bool
-right (rule-gives g h a b t) = eqb (local g h a never b never) t
-right (rule-refuses g h n) = same-reply (answered (pair-refusal g h) (local g h 0 never 0 never)) n 0
+right (rule-gives g h a b z t) = eqb (local g h a never b never z never) t
+right (rule-refuses g h z n) = same-reply (answered (local-refusal g h z never) (local g h 0 never 0 never z never)) n 0
 right (step-gives s n c) = same-reply (answered (step-refusal s) (diagonal s)) n c
 right (march-gives b h ts) = same-list (marched b h) ts
 
@@ -103,8 +111,8 @@ reply-same r n c e =
 
 holds : (r : Row) → right r ≡ true → Holds r
 unfolding right Holds
-holds (rule-gives g h a b t) e = eqb-true (local g h a never b never) t e
-holds (rule-refuses g h n) e = reply-same (answered (pair-refusal g h) (local g h 0 never 0 never)) n 0 e
+holds (rule-gives g h a b z t) e = eqb-true (local g h a never b never z never) t e
+holds (rule-refuses g h z n) e = reply-same (answered (local-refusal g h z never) (local g h 0 never 0 never z never)) n 0 e
 holds (step-gives s n c) e = reply-same (answered (step-refusal s) (diagonal s)) n c e
 holds (march-gives b h ts) e = list-same (marched b h) ts e
 
@@ -114,7 +122,8 @@ all-hold [] e = tt
 all-hold (r ∷ rs) e = let both = and-true (right r) (all-right rs) e in (holds r (both .0), all-hold rs (both .1))
 
 computed : all-right table ≡ true
-unfolding all-right right table same-list same-reply answered answer pair-refusal pairs-refusal steep half-wall step-refusal local local-of diagonal earlier
+unfolding all-right right table same-list same-reply answered answer local-refusal or-else pair-refusal pairs-refusal steep half-wall seen step-refusal
+    local local-of diagonal earlier
     least-from passes square marched cut solved passes-of one-pass all-never met arrival start-time size slowness along-row down-column time sight place
 computed = refl
 

@@ -1,4 +1,4 @@
--- Axes, and the local rule over any number of them: a board has two. What holds for any number is stated of these (Promise.antt) and proved once.
+-- Axes, and the local rule over any number of them: a board has three. What holds for any number is stated of these (Promise.antt) and proved once.
 use mathlib.Core.Path.{_≡_}
 use mathlib.Core.Bool.{Bool, _||_, cond}
 use mathlib.Core.List.{List, [], _∷_, map}

@@ -14,19 +14,20 @@ use Rattle.eikonal.specs.declared.Start.{Start}
 abbrev pub largest : ℕ
 largest = 300000000
 
--- slownesses by cell, row by row
+-- slownesses by cell, storey by storey and row by row
 pub record Board : Type 0 where
   pub wide : ℕ
   pub high : ℕ
+  pub storeys : ℕ
   pub slow : List ℕ
   pub starts : List Start
 
-abbrev pub board-of : (wide high : ℕ) → (slow : List ℕ) → List Start → Board
-board-of w h ss xs = record { wide = w; high = h; slow = ss; starts = xs }
+abbrev pub board-of : (wide high storeys : ℕ) → (slow : List ℕ) → List Start → Board
+board-of w h s ss xs = record { wide = w; high = h; storeys = s; slow = ss; starts = xs }
 
 -- N, the number of cells
 unfoldable pub size : Board → ℕ
-size b = b .wide * b .high
+size b = b .wide * b .high * b .storeys
 
 -- A SLOWNESS is a pair in one number, g + 65,536 h: g ticks to cross the cell along its row, h down its column. 0, both zero, is a wall
 unfoldable pub slowness : Board → (c : ℕ) → ℕ
@@ -38,27 +39,31 @@ along-row s = s % 65536
 unfoldable pub down-column : (slow : ℕ) → ℕ
 down-column s = s / 65536
 
--- ITS AXES: the columns of a row, and the rows
+-- ITS AXES: the columns of a row, the rows of a storey, and the storeys
 abbrev pub column-axis : Board → Axis
 column-axis b = axis 1 (b .wide)
 
 abbrev pub row-axis : Board → Axis
 row-axis b = axis (b .wide) (b .high)
 
+abbrev pub storey-axis : Board → Axis
+storey-axis b = axis (b .wide * b .high) (b .storeys)
+
 abbrev pub axes : Board → List Axis
-axes b = column-axis b ∷ row-axis b ∷ []
+axes b = column-axis b ∷ row-axis b ∷ storey-axis b ∷ []
 
--- THE LOCAL RULE: the least t, not below the earlier of a and b, with p² h² + q² g² at least g² h²
-unfoldable pub passes : (g h a b t : ℕ) → Bool
-passes g h a b t = leb (square g * square h) (square (t - a) * square h + square (t - b) * square g)
+-- THE LOCAL RULE: the least t, not below the earliest of a, b and z, with p² h² + q² g² + r² g² at least g² h².
+-- z is the time between storeys: where the third square counts, the numbers are equal
+unfoldable pub passes : (g h a b z t : ℕ) → Bool
+passes g h a b z t = leb (square g * square h) (square (t - a) * square h + square (t - b) * square g + square (t - z) * square g)
 
-unfoldable pub local-of : (g h a b : ℕ) → ℕ
-local-of g h a b =
-    let m = earlier a b in
-    cond (eqb (g * h) 0 || eqb m never) never (least-from (max g h) m (λ t. passes g h a b t))
+unfoldable pub local-of : (g h a b z : ℕ) → ℕ
+local-of g h a b z =
+    let m = earlier a (earlier b z) in
+    cond (eqb (g * h) 0 || eqb m never) never (least-from (max g h) m (λ t. passes g h a b z t))
 
-unfoldable pub local : (g h left right above below : ℕ) → ℕ
-local g h l r u d = local-of g h (earlier l r) (earlier u d)
+unfoldable pub local : (g h left right above below over under : ℕ) → ℕ
+local g h l r u d o n = local-of g h (earlier l r) (earlier u d) (earlier o n)
 
 -- D(s): the least d with 2 d² at least s²
 unfoldable pub diagonal : ℕ → ℕ
@@ -72,7 +77,7 @@ start-time c (x ∷ xs) = cond (eqb (x .cell) c) (x .time) (start-time c xs)
 -- what the local rule gives a cell from the times that it sees; off the board is never
 unfoldable pub arrival : Board → (c : ℕ) → (seen : ℕ → ℕ) → ℕ
 arrival b c f =
-    local-of (along-row (slowness b c)) (down-column (slowness b c)) (sight (column-axis b) c f) (sight (row-axis b) c f)
+    local-of (along-row (slowness b c)) (down-column (slowness b c)) (sight (column-axis b) c f) (sight (row-axis b) c f) (sight (storey-axis b) c f)
 
 -- a cell's time: the earlier of its start's and what the local rule gives
 unfoldable pub met : Board → (c : ℕ) → (seen : ℕ → ℕ) → ℕ

@@ -1,12 +1,12 @@
 -- What the contracts of the calls say. Each is an equation with a definition.
 use mathlib.Core.Path.{_≡_}
-use mathlib.Core.Bool.{cond}
+use mathlib.Core.Bool.{_&&_, not, cond}
 use mathlib.Core.List.{List}
 use Prim.Native.Nat.{ℕ}
-use lib.Dec.{ltb}
+use lib.Dec.{ltb, eqb}
 use lib.ListN.{length}
-use Rattle.eikonal.specs.Board.{local, diagonal, never, largest}
-use Rattle.eikonal.specs.Refusals.{cause, none, steep, half-wall, pairs-refusal}
+use Rattle.eikonal.specs.Board.{earlier, local, diagonal, never, largest}
+use Rattle.eikonal.specs.Refusals.{cause, none, or-else, steep, half-wall, pairs-refusal}
 use Rattle.eikonal.specs.Ledger.{Call, answered, ledger-answer, ledger-after, work-after}
 use Rattle.eikonal.specs.declared.Refusal.{Refusal}
 use Rattle.eikonal.specs.declared.Reply.{Reply}
@@ -29,12 +29,17 @@ pub record Says (c : Call) (x : Reply) (before after : Lent) : Type 0 where
 unfoldable pub seen : ℕ → ℕ
 seen t = cond (ltb largest t) never t
 
--- the local rule: 5, 21, or the time
+-- the local rule: 5, 21, 23 where the numbers differ and a time over or under is not never; or the time
 unfoldable pub pair-refusal : (g h : ℕ) → Refusal
 pair-refusal g h = pairs-refusal (steep g h) (half-wall g h)
 
-unfoldable pub Local-says : (g h l r u d : ℕ) → Reply → Type 0
-Local-says g h l r u d x = x ≡ answered (pair-refusal g h) (local g h (seen l) (seen r) (seen u) (seen d))
+unfoldable pub local-refusal : (g h o n : ℕ) → Refusal
+local-refusal g h o n =
+    or-else (pair-refusal g h) (cond (not (eqb g h) && not (eqb (earlier (seen o) (seen n)) never)) (cause 23) none)
+
+unfoldable pub Local-says : (g h l r u d o n : ℕ) → Reply → Type 0
+Local-says g h l r u d o n x =
+    x ≡ answered (local-refusal g h o n) (local g h (seen l) (seen r) (seen u) (seen d) (seen o) (seen n))
 
 -- D, for both numbers of a pair alike: 5, or the step
 unfoldable pub step-refusal : ℕ → Refusal

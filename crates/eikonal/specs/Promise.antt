@@ -39,8 +39,8 @@ pub record First-at-fault (n : ℕ) (xs : List Start) (number place : ℕ) : Typ
   -- 18: the cell there is not above the one before it, every earlier one is above its own, and none in the list is off the board
   pub low : number ≡ 18 → (1 ≤ place) × (place < length xs) × (cell-at xs place ≤ cell-at xs (place - 1))
       × All-rise xs place × All-on n xs (length xs)
-  -- 0, and all numbers that are looked for behind both, as 21 is not: no start is at fault by either
-  pub right : (number ≡ 0) ⊎ (8 ≤ number) → number ≢ 18 → number ≢ 21 → All-on n xs (length xs) × All-rise xs (length xs)
+  -- 0, and all numbers that are looked for behind both, as 21 and 23 are not: no start is at fault by either
+  pub right : (number ≡ 0) ⊎ (8 ≤ number) → number ≢ 18 → number ≢ 21 → number ≢ 23 → All-on n xs (length xs) × All-rise xs (length xs)
   -- any number but these two, 0 too
   pub rest : number ≢ 7 → number ≢ 18 → place ≡ 0
 
@@ -51,15 +51,22 @@ Places c x = First-at-fault (size (call-board c)) (call-board c .starts) (x .num
 unfoldable pub Place-is-first : Type 0
 Place-is-first = (c : Call) (ts : List ℕ) → Places c (ledger-answer c ts)
 
--- ---- THE LOCAL RULE: its answer passes, and no earlier time does; it is at most a straight step away from either axis
+-- ---- THE LOCAL RULE: its answer passes, and no earlier time does; it is at most a straight step away from each axis
 unfoldable pub Local-least : Type 0
 Local-least =
-    (g h l r u d t : ℕ) → 1 ≤ g → 1 ≤ h → earlier (earlier l r) (earlier u d) < never →
-    (passes g h (earlier l r) (earlier u d) (local g h l r u d) ≡ true)
-    × (local g h l r u d ≤ earlier l r + g) × (local g h l r u d ≤ earlier u d + h)
-    × (earlier (earlier l r) (earlier u d) ≤ t → t < local g h l r u d → passes g h (earlier l r) (earlier u d) t ≡ false)
+    (g h l r u d o n t : ℕ) →
+    let a = earlier l r in
+    let b = earlier u d in
+    let z = earlier o n in
+    let m = earlier a (earlier b z) in
+    let answer = local g h l r u d o n in
+    1 ≤ g → 1 ≤ h → m < never →
+    (passes g h a b z answer ≡ true)
+    × (answer ≤ a + g) × (answer ≤ b + h) × (answer ≤ z + h)
+    × (m ≤ t → t < answer → passes g h a b z t ≡ false)
 
--- WITH EQUAL NUMBERS it is the rule of one slowness: the least t, not below the earlier of a and b, with p² + q² at least s²
+-- WITH EQUAL NUMBERS and no neighbour over or under it is the rule of one slowness: the least t, not below the earlier of a and b, with
+-- p² + q² at least s². Up to never, which no time of a board passes
 unfoldable pub one-passes : (s a b t : ℕ) → Bool
 one-passes s a b t = leb (square s) (square (t - a) + square (t - b))
 
@@ -71,13 +78,13 @@ one-local s l r u d =
     cond (eqb s 0 || eqb m never) never (least-from s m (λ t. one-passes s a b t))
 
 unfoldable pub Old-rule : Type 0
-Old-rule = (s l r u d : ℕ) → local s s l r u d ≡ one-local s l r u d
+Old-rule = (s l r u d : ℕ) → min never (local s s l r u d never never) ≡ min never (one-local s l r u d)
 
--- there, and for equal sides, it is D away
+-- with equal numbers and equal sides it is D away, where the third square is zero: the time between storeys is not before that
 unfoldable pub Diagonal-step : Type 0
 Diagonal-step =
-    (s l r u d : ℕ) → 1 ≤ s → s ≤ 4095 → earlier l r ≡ earlier u d → earlier l r < never →
-    local s s l r u d ≡ earlier l r + diagonal s
+    (s l r u d o n : ℕ) → 1 ≤ s → s ≤ 4095 → earlier l r ≡ earlier u d → earlier l r < never → earlier l r + diagonal s ≤ earlier o n →
+    local s s l r u d o n ≡ earlier l r + diagonal s
 
 -- ---- ANY NUMBER OF AXES: earlier neighbours give no later answer; a time above never counts as never
 unfoldable pub Earlier-no-later : Type 0
@@ -112,7 +119,7 @@ Never-past-horizon =
     (b : Board) (h c : ℕ) → board-good b ≡ true → h ≤ largest → c < size b →
     (time (marched b h) c ≡ never → h < time (solved b) c) × (h < time (solved b) c → time (marched b h) c ≡ never)
 
--- e is right of c in its row, or below it: at the next place on an axis
+-- e is right of c in its row, below it on its storey, or over it: at the next place on an axis
 abbrev pub Beside : Board → (c e : ℕ) → Type 0
 Beside b c e = Next-on (axes b) c e
 
@@ -218,7 +225,7 @@ Lists-keep =
 
 -- RECORDS AND PLAIN LISTS get the same answers: a board is the same, handed in as records or as the plain lists of their cells and times,
 unfoldable pub Same-handed : Type 0
-Same-handed = (w h : ℕ) (ss : List ℕ) (xs : List Start) → by-lists w h ss (cells-of xs) (begins-of xs) ≡ by-records w h ss xs
+Same-handed = (w h s : ℕ) (ss : List ℕ) (xs : List Start) → by-lists w h s ss (cells-of xs) (begins-of xs) ≡ by-records w h s ss xs
 
 -- plain lists of one length are those of some records,
 unfoldable pub Lists-are-records : Type 0

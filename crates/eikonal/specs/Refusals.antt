@@ -1,4 +1,5 @@
--- Why boards, marches, rounds and tile runs are refused ("Turned down" of document 01, Cards 2 and 10): the causes in the order in which they are looked for.
+-- Why boards, marches, rounds and tile runs are refused ("Turned down" of document 01, Cards 2, 10 and 12): the causes in the order
+-- in which they are looked for.
 use mathlib.Core.Bool.{Bool, Bool·beq, true, false, _&&_, _||_, not, cond}
 use mathlib.Core.List.{List, [], _∷_, map}
 use Prim.Native.Nat.{ℕ, zero, suc, _*_}
@@ -38,6 +39,10 @@ steep g h = ltb 4095 g || ltb 4095 h
 unfoldable pub half-wall : (g h : ℕ) → Bool
 half-wall g h = not (Bool·beq (eqb g 0) (eqb h 0))
 
+-- one that is a slowness on a single storey alone: its numbers differ
+unfoldable pub uneven : (g h : ℕ) → Bool
+uneven g h = not (eqb g h)
+
 unfoldable pub any-pair : (test : (g h : ℕ) → Bool) → (slow : List ℕ) → Bool
 any-pair p [] = false
 any-pair p (s ∷ ss) = p (along-row s) (down-column s) || any-pair p ss
@@ -49,6 +54,20 @@ pairs-refusal p q = cond p (cause 5) (cond q (cause 21) none)
 -- each looks at the whole list
 unfoldable pub slows-refusal : (slow : List ℕ) → Refusal
 slows-refusal ss = pairs-refusal (any-pair steep ss) (any-pair half-wall ss)
+
+unfoldable pub storeys-good : ℕ → Bool
+storeys-good s = leb 1 s && leb s 8
+
+-- STOREYS that make no house: they are not 1 to 8, the cells are too many, or they are 2 or more and an uneven pair was met
+unfoldable pub ill-stacked : (wide high storeys : ℕ) → (uneven : Bool) → Bool
+ill-stacked w h s p = not (storeys-good s) || (ltb 65536 (w * h * s) || (ltb 1 s && p))
+
+unfoldable pub storeys-refusal : (wide high storeys : ℕ) → (uneven : Bool) → Refusal
+storeys-refusal w h s p = cond (ill-stacked w h s p) (cause 23) none
+
+-- 5, 21, 23 of pairs on a board with these sides and storeys
+unfoldable pub house-refusal : (wide high storeys : ℕ) → (slow : List ℕ) → Refusal
+house-refusal w h s ss = or-else (slows-refusal ss) (storeys-refusal w h s (any-pair uneven ss))
 
 -- THE FIRST START AT FAULT by a test of its cell and of the least that it may be, which is one more than the cell before it:
 -- its place, or the list's length where none is at fault
@@ -95,8 +114,8 @@ pub record Handed : Type 0 where
 abbrev pub handed : Board → (paired : Bool) → Handed
 handed b p = record { board = b; paired = p }
 
-unfoldable pub by-records : (w h : ℕ) → (slow : List ℕ) → List Start → Handed
-by-records w h ss xs = handed (board-of w h ss xs) true
+unfoldable pub by-records : (w h storeys : ℕ) → (slow : List ℕ) → List Start → Handed
+by-records w h s ss xs = handed (board-of w h s ss xs) true
 
 -- of lists of unequal length the shorter counts
 unfoldable pub starts-of : (cells begins : List ℕ) → List Start
@@ -104,8 +123,8 @@ starts-of [] ts = []
 starts-of (c ∷ cs) [] = []
 starts-of (c ∷ cs) (t ∷ ts) = record { cell = c; time = t } ∷ starts-of cs ts
 
-unfoldable pub by-lists : (w h : ℕ) → (slow cells begins : List ℕ) → Handed
-by-lists w h ss cs ts = handed (board-of w h ss (starts-of cs ts)) (eqb (length cs) (length ts))
+unfoldable pub by-lists : (w h storeys : ℕ) → (slow cells begins : List ℕ) → Handed
+by-lists w h s ss cs ts = handed (board-of w h s ss (starts-of cs ts)) (eqb (length cs) (length ts))
 
 -- the plain lists of records
 unfoldable pub cells-of : List Start → List ℕ
@@ -114,12 +133,13 @@ cells-of xs = map (λ s. s .cell) xs
 unfoldable pub begins-of : List Start → List ℕ
 begins-of xs = map (λ s. s .time) xs
 
--- 2, 4, 5, 21, 7, 18, 8, 9 of a board: plain lists of unequal length are 4 too
+-- 2, 4, 5, 21, 23, 7, 18, 8, 9 of a board: plain lists of unequal length are 4 too
 unfoldable pub handed-refusal : Handed → Refusal
 handed-refusal p =
     let b = p .board in
     cond (not (sides-good (b .wide) (b .high))) (cause 2)
-    (cond (not (p .paired && eqb (length (b .slow)) (size b))) (cause 4) (or-else (slows-refusal (b .slow)) (starts-refusal b)))
+    (cond (not (p .paired && eqb (length (b .slow)) (size b))) (cause 4)
+    (or-else (house-refusal (b .wide) (b .high) (b .storeys) (b .slow)) (starts-refusal b)))
 
 abbrev pub board-refusal : Board → Refusal
 board-refusal b = handed-refusal (handed b true)

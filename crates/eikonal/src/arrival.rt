@@ -1,17 +1,22 @@
-// The arrival time of a front at a cell, from the times of its four neighbours: the local rule.
-// Of the two axes, left or right and above or below, one comes first and the other `apart` ticks after it. A straight step from the first takes x
+// The arrival time of a front at a cell, from the times of its six neighbours: the local rule.
+// Of two axes, left or right and above or below, one comes first and the other `apart` ticks after it. A straight step from the first takes x
 // ticks, from the second y. `past` ticks after the second are enough if ((apart + past) y)² + (past x)² reaches (x y)².
+// Over or under is the third axis, of equal numbers alone. Where it counts, the last of the three comes `far` and `near` ticks after the others, and
+// `past` ticks after the last are enough if (far + past)² + (near + past)² + past² reaches the square of the slowness.
 ghost use mathlib.Core.Path.{_≡_};
 ghost use Prim.Native.Nat.{_+_, _-_, _*_, _≤_, _<_, min, max};
 ghost use lib.Dec.{ltb};
-ghost use Rattle.eikonal.specs.Board.{never, local-of};
-ghost use Rattle.eikonal.specs.Entry.{seen, pair-refusal, Local-says};
-ghost use Rattle.eikonal.specs.Inner.Weighed.{weighed};
+ghost use Rattle.eikonal.specs.Board.{never, earlier, local-of};
+ghost use Rattle.eikonal.specs.Entry.{seen, pair-refusal, local-refusal, Local-says};
+ghost use Rattle.eikonal.specs.Inner.Weighed.{weighed, three-squares};
 use super::Refusal;
 use super::Reply;
+use super::cause;
 use super::refusals::is_half_wall;
 use super::refusals::is_steep;
+use super::refusals::or_else;
 use super::refusals::pairs_refusal;
+use super::refusals::when;
 
 pub const NEVER: u32 = 4294967295;
 
@@ -82,11 +87,11 @@ fn too_few(slowness: u32, apart: u32, past: u32) -> bool
     whole * whole + past * past < slowness * slowness
 }
 
-// The local rule of equal numbers, at most the limit, where an axis's time is the earlier of its two. One tick before the limit is tried first, so
-// that Newton's steps are spent only where they lower it.
+// The local rule of equal numbers and two axes, at most the limit, where an axis's time is the earlier of its two. One tick before the limit is tried
+// first, so that Newton's steps are spent only where they lower it.
 pub fn of_equal(limit: u32, slowness: u32, across: u32, down: u32) -> u32
     requires { ⌜ slowness ≤ 4095 ⌝ }
-    ensures { λ r. ⌜ r ≡ min limit (local-of slowness slowness across down) ⌝ }
+    ensures { λ r. ⌜ r ≡ min limit (local-of slowness slowness across down never) ⌝ }
 {
     if slowness == 0 {
         return limit;
@@ -104,6 +109,75 @@ pub fn of_equal(limit: u32, slowness: u32, across: u32, down: u32) -> u32
         return limit;
     }
     second + least_past(slowness, apart)
+}
+
+// What so many ticks past the last of three axes come to.
+fn three_squares(far: u32, near: u32, past: u32) -> u32
+    requires { ⌜ (far ≤ 4095) × (near ≤ 4095) × (past ≤ 4095) ⌝ }
+    ensures { λ r. ⌜ r ≡ three-squares far near past ⌝ }
+{
+    let first = far + past;
+    let second = near + past;
+    first * first + second * second + past * past
+}
+
+// As `enough`: (far + past, near + past, past) lies past a plane that clears the ball, since 3 × 15² ≤ 26².
+fn enough_three(slowness: u32, far: u32, near: u32) -> u32
+    requires { ⌜ (slowness ≤ 4095) × (three-squares far near 0 < slowness * slowness) ⌝ }
+    ensures { λ r. ⌜ (r ≤ 4095) × (slowness * slowness ≤ three-squares far near r) ⌝ }
+{
+    (26 * slowness - 15 * (far + near) + 44) / 45
+}
+
+// As `least_past`, with what is over counted 3 too high: most often two divisions at most.
+fn least_past_three(slowness: u32, far: u32, near: u32) -> u32
+    requires { ⌜ (slowness ≤ 4095) × (three-squares far near 0 < slowness * slowness) ⌝ }
+    ensures { λ r. ⌜ (1 ≤ r) × (slowness * slowness ≤ three-squares far near r) × (three-squares far near (r - 1) < slowness * slowness) ⌝ }
+{
+    let due = slowness * slowness;
+    let mut past = enough_three(slowness, far, near);
+    loop {
+        let over = three_squares(far, near, past) - due + 3;
+        let slope = 2 * (far + near + 3 * past);
+        if over < slope {
+            return past;
+        }
+        past -= over / slope;
+    }
+}
+
+// As `too_few`: as many ticks as the slowness are enough, from whichever axis.
+fn too_few_three(slowness: u32, far: u32, near: u32, past: u32) -> bool
+    requires { ⌜ slowness ≤ 4095 ⌝ }
+    ensures { λ r. ⌜ r ≡ ltb (three-squares far near past) (slowness * slowness) ⌝ }
+{
+    if greater(past, greater(far, near)) >= slowness {
+        return false;
+    }
+    three_squares(far, near, past) < slowness * slowness
+}
+
+// As `of_equal`, of three axes. The last one counts only if 0 ticks past it are too few: else the other two are enough by then.
+pub fn of_three(limit: u32, slowness: u32, across: u32, down: u32, storey: u32) -> u32
+    requires { ⌜ slowness ≤ 4095 ⌝ }
+    ensures { λ r. ⌜ r ≡ min limit (local-of slowness slowness across down storey) ⌝ }
+{
+    let low = lesser(across, down);
+    let high = greater(across, down);
+    let middle = lesser(high, storey);
+    let last = greater(high, storey);
+    let far = last - low;
+    let near = last - middle;
+    if !too_few_three(slowness, far, near, 0) {
+        return of_equal(limit, slowness, low, middle);
+    }
+    if limit <= last {
+        return limit;
+    }
+    if too_few_three(slowness, far, near, limit - last - 1) {
+        return limit;
+    }
+    last + least_past_three(slowness, far, near)
 }
 
 // What so many ticks past the second come to, and what is due, in 64 bits.
@@ -156,7 +230,7 @@ fn too_few_of(x: u32, y: u32, apart: u32, past: u32) -> bool
 // As `of_equal`, of unequal numbers, with the axis that comes first: x is its own.
 fn from_first(limit: u32, x: u32, y: u32, first: u32, second: u32) -> u32
     requires { ⌜ (1 ≤ x) × (x ≤ 4095) × (1 ≤ y) × (y ≤ 4095) × (first ≤ second) ⌝ }
-    ensures { λ r. ⌜ r ≡ min limit (local-of x y first second) ⌝ }
+    ensures { λ r. ⌜ r ≡ min limit (local-of x y first second never) ⌝ }
 {
     let apart = second - first;
     if apart >= x {
@@ -171,10 +245,10 @@ fn from_first(limit: u32, x: u32, y: u32, first: u32, second: u32) -> u32
     second + least_past_of(x, y, apart)
 }
 
-// The local rule of unequal numbers, at most the limit.
+// The local rule of unequal numbers, at most the limit: there are two axes.
 pub fn of_unequal(limit: u32, g: u32, h: u32, across: u32, down: u32) -> u32
     requires { ⌜ (1 ≤ g) × (g ≤ 4095) × (1 ≤ h) × (h ≤ 4095) ⌝ }
-    ensures { λ r. ⌜ r ≡ min limit (local-of g h across down) ⌝ }
+    ensures { λ r. ⌜ r ≡ min limit (local-of g h across down never) ⌝ }
 {
     if across <= down {
         return from_first(limit, g, h, across, down);
@@ -195,18 +269,42 @@ fn pair_refusal(g: u32, h: u32) -> Refusal
     pairs_refusal(is_steep(g, h), is_half_wall(g, h))
 }
 
-// The local rule: 5, 21, or the time.
-pub fn local_rule(g: u32, h: u32, left: u32, right: u32, above: u32, below: u32) -> Reply
-    ensures { λ x. ⌜ Local-says g h left right above below x ⌝ }
+// An axis's time, of the two handed in.
+fn axis(one: u32, other: u32) -> u32
+    ensures { λ r. ⌜ r ≡ earlier (seen one) (seen other) ⌝ }
 {
-    let refusal = pair_refusal(g, h);
+    lesser(known(one), known(other))
+}
+
+fn local_refusal(g: u32, h: u32, over: u32, under: u32) -> Refusal
+    ensures { λ r. ⌜ r ≡ local-refusal g h over under ⌝ }
+{
+    let pair = pair_refusal(g, h);
+    let by_23 = when((g != h) & (axis(over, under) != NEVER), 23, 0, cause(0));
+    or_else(pair, by_23)
+}
+
+// The local rule: 5, 21, 23, or the time.
+pub fn local_rule(
+    g: u32,
+    h: u32,
+    left: u32,
+    right: u32,
+    above: u32,
+    below: u32,
+    over: u32,
+    under: u32,
+) -> Reply
+    ensures { λ x. ⌜ Local-says g h left right above below over under x ⌝ }
+{
+    let refusal = local_refusal(g, h, over, under);
     if refusal.number != 0 {
         return super::refused(refusal);
     }
-    let across = lesser(known(left), known(right));
-    let down = lesser(known(above), known(below));
-    if g == h {
-        return super::counted(of_equal(NEVER, g, across, down));
+    let across = axis(left, right);
+    let down = axis(above, below);
+    if g != h {
+        return super::counted(of_unequal(NEVER, g, h, across, down));
     }
-    super::counted(of_unequal(NEVER, g, h, across, down))
+    super::counted(of_three(NEVER, g, across, down, axis(over, under)))
 }

@@ -1,14 +1,15 @@
-// Whether a board is refused, and why: 2, 4, 5, 21, 7, 18, 8 or 9.
+// Whether a board is refused, and why: 2, 4, 5, 21, 23, 7, 18, 8 or 9.
 ghost use mathlib.Core.Path.{_≡_};
 ghost use mathlib.Core.Bool.{cond};
 ghost use mathlib.Core.List.{List};
-ghost use Prim.Native.Nat.{suc, _<_, min};
+ghost use Prim.Native.Nat.{suc, _*_, _≤_, _<_, min};
 ghost use lib.Dec.{ltb, eqb};
 ghost use lib.ListN.{length, getD};
 ghost use Rattle.eikonal.specs.Board.{board-of};
 ghost use Rattle.eikonal.specs.declared.Start.{Start};
-ghost use Rattle.eikonal.specs.Refusals.{cause-at, side-good, steep, half-wall, pairs-refusal, starts-of, handed, handed-refusal};
-ghost use Rattle.eikonal.specs.Inner.Flaws.{flawless, with-pair, with-pairs};
+ghost use Rattle.eikonal.specs.Refusals.{cause-at, or-else, side-good, steep, half-wall, uneven, pairs-refusal, storeys-good, ill-stacked};
+ghost use Rattle.eikonal.specs.Refusals.{starts-of, handed, handed-refusal};
+ghost use Rattle.eikonal.specs.Inner.Flaws.{flawless, with-pair, with-pairs, flaws-refusal};
 ghost use Rattle.eikonal.specs.Inner.Judge.{nothing-judged, onward, judge-start, judge, Countable, judged-refusal};
 use super::Refusal;
 use super::cause;
@@ -24,10 +25,11 @@ pub fn side_good(n: u32) -> bool
     n <= 256
 }
 
-// What pairs looked at so far have: a number above 4,095, a single 0.
+// What pairs looked at so far have: a number above 4,095, a single 0, numbers that differ.
 pub struct Flaws {
     pub steep: bool,
     pub half: bool,
+    pub uneven: bool,
 }
 
 pub fn flawless() -> Flaws
@@ -36,6 +38,7 @@ pub fn flawless() -> Flaws
     Flaws {
         steep: false,
         half: false,
+        uneven: false,
     }
 }
 
@@ -51,6 +54,12 @@ pub fn is_half_wall(g: u32, h: u32) -> bool
     (g == 0) != (h == 0)
 }
 
+pub fn is_uneven(g: u32, h: u32) -> bool
+    ensures { λ r. ⌜ r ≡ uneven g h ⌝ }
+{
+    g != h
+}
+
 // One slowness more.
 pub fn with_pair(slow: u32, so_far: Flaws) -> Flaws
     ensures { λ r. ⌜ r ≡ with-pair slow «so_far» ⌝ }
@@ -60,6 +69,7 @@ pub fn with_pair(slow: u32, so_far: Flaws) -> Flaws
     Flaws {
         steep: so_far.steep | is_steep(g, h),
         half: so_far.half | is_half_wall(g, h),
+        uneven: so_far.uneven | is_uneven(g, h),
     }
 }
 
@@ -87,6 +97,40 @@ pub fn pairs_refusal(steep: bool, half: bool) -> Refusal
         return cause(21);
     }
     cause(0)
+}
+
+pub fn storeys_good(storeys: u32) -> bool
+    ensures { λ r. ⌜ r ≡ storeys-good storeys ⌝ }
+{
+    if storeys < 1 {
+        return false;
+    }
+    storeys <= 8
+}
+
+// How many cells a board has. usize has 64 bits: whatever the storeys are, nothing wraps.
+pub fn house_size(width: u32, height: u32, storeys: u32) -> usize
+    requires { ⌜ (width ≤ 256) × (height ≤ 256) ⌝ }
+    ensures { λ r. ⌜ r ≡ width * height * storeys ⌝ }
+{
+    (width * height) as usize * storeys as usize
+}
+
+// Whether so many storeys make no house, where a pair with unequal numbers was met or was not.
+fn ill_stacked(width: u32, height: u32, storeys: u32, uneven: bool) -> bool
+    requires { ⌜ (width ≤ 256) × (height ≤ 256) ⌝ }
+    ensures { λ r. ⌜ r ≡ ill-stacked width height storeys uneven ⌝ }
+{
+    if !storeys_good(storeys) {
+        return true;
+    }
+    if house_size(width, height, storeys) > 65536 {
+        return true;
+    }
+    if storeys < 2 {
+        return false;
+    }
+    uneven
 }
 
 // What the starts looked at so far leave: how many they are, the least cell that the next may have, the places of the first off the board and of
@@ -183,13 +227,34 @@ pub fn judge_starts(slow: &[u32], cells: &[u32], begins: &[u32], so_far: Judged)
 }
 
 // The refusal by a cause where it was met, or else the next one.
-fn when(met: bool, number: u32, place: usize, next: Refusal) -> Refusal
+pub fn when(met: bool, number: u32, place: usize, next: Refusal) -> Refusal
     ensures { λ r. ⌜ r ≡ cond met (cause-at number place) next ⌝ }
 {
     if met {
         return cause_at(number, place);
     }
     next
+}
+
+// A refusal, or where it is none the next.
+pub fn or_else(refusal: Refusal, next: Refusal) -> Refusal
+    ensures { λ r. ⌜ r ≡ or-else refusal next ⌝ }
+{
+    if refusal.number != 0 {
+        return refusal;
+    }
+    next
+}
+
+// 5, 21, 23 by the pairs that were looked at, on a board with these sides and storeys: the last one first, so that those before it hide it.
+pub fn flaws_refusal(width: u32, height: u32, storeys: u32, flaws: Flaws) -> Refusal
+    requires { ⌜ (width ≤ 256) × (height ≤ 256) ⌝ }
+    ensures { λ r. ⌜ r ≡ flaws-refusal width height storeys flaws ⌝ }
+{
+    let ill = ill_stacked(width, height, storeys, flaws.uneven);
+    let by_23 = when(ill, 23, 0, cause(0));
+    let by_21 = when(flaws.half, 21, 0, by_23);
+    when(flaws.steep, 5, 0, by_21)
 }
 
 // 7, 18, 8, 9: each for the whole list, the last one first, so that those before it hide it.
@@ -208,13 +273,14 @@ pub fn judged_refusal(judged: Judged) -> Refusal
 pub fn handed_refusal(
     width: u32,
     height: u32,
+    storeys: u32,
     slow: &[u32],
     cells: usize,
     begins: usize,
     judged: Judged,
 ) -> Refusal
     ensures { λ r. ⌜ ((xs : List Start) → judged ≡ judge (now (slow .entry)) xs nothing-judged
-        → r ≡ handed-refusal (handed (board-of width height (now (slow .entry)) xs) (eqb cells begins))) ⌝ }
+        → r ≡ handed-refusal (handed (board-of width height storeys (now (slow .entry)) xs) (eqb cells begins))) ⌝ }
 {
     if !side_good(width) {
         return cause(2);
@@ -225,12 +291,10 @@ pub fn handed_refusal(
     if cells != begins {
         return cause(4);
     }
-    let size = (width * height) as usize;
-    if slow.len() != size {
+    if slow.len() != house_size(width, height, storeys) {
         return cause(4);
     }
-    let flaws = with_pairs(slow, flawless());
-    let pairs = pairs_refusal(flaws.steep, flaws.half);
+    let pairs = flaws_refusal(width, height, storeys, with_pairs(slow, flawless()));
     if pairs.number != 0 {
         return pairs;
     }

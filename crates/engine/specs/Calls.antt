@@ -25,7 +25,7 @@ use Rattle.engine.specs.declared.calls.Task.{Task}
 -- a legal board with its starts, and lists with room for it
 pub record Fit (s : Shape) (slow : List ℕ) (xs : List Start) (times work : List ℕ) : Type 0 where
   pub good : Good (whole s slow xs)
-  pub size : s .cells ≡ s .width * s .height
+  pub size : s .cells ≡ s .width * s .height * s .storeys
   pub across-low : 1 ≤ s .across
   pub across-high : s .across ≤ 256
   pub down-low : 1 ≤ s .down
@@ -59,13 +59,13 @@ Doable (Round tw th m) s xs =
 Doable (Run tw th d z) s xs = (s .across ≡ tw) × (s .down ≡ th) × (1 ≤ d) × (d ≤ largest) × (z ≤ largest)
 
 -- the shape of a board and of the job's tiles
-abbrev pub shape-with : (width height across down : ℕ) → Shape
-shape-with w h tw th = record { width = w; height = h; across = tw; down = th; cells = w * h }
+abbrev pub shape-with : (width height storeys across down : ℕ) → Shape
+shape-with w h s tw th = record { width = w; height = h; storeys = s; across = tw; down = th; cells = w * h * s }
 
-abbrev pub shaped : (width height : ℕ) → Job → Shape
-shaped w h (March z) = shape-with w h 256 256
-shaped w h (Round tw th m) = shape-with w h tw th
-shaped w h (Run tw th d z) = shape-with w h tw th
+abbrev pub shaped : (width height storeys : ℕ) → Job → Shape
+shaped w h s (March z) = shape-with w h s 256 256
+shaped w h s (Round tw th m) = shape-with w h s tw th
+shaped w h s (Run tw th d z) = shape-with w h s tw th
 
 -- ---- THE STEPS
 -- some starts were judged
@@ -77,7 +77,7 @@ pub record Some-judged (slow : List ℕ) (j : Judged) : Type 0 where
 pub record Opened (c : Call) (times : ℕ) (t : Task) (work work' : List ℕ) : Type 0 where
   pub judged : t .refusal ≡ refusal c times
   pub kept : t .refusal .number ≢ 0 → work' ≡ work
-  pub shape-is : t .refusal .number ≡ 0 → t .shape ≡ shaped (call-board c .wide) (call-board c .high) (c .job)
+  pub shape-is : t .refusal .number ≡ 0 → t .shape ≡ shaped (call-board c .wide) (call-board c .high) (call-board c .storeys) (c .job)
   pub emptied : t .refusal .number ≡ 0 → Empty (t .shape .cells) work work'
 
 -- the starts can be placed, and are

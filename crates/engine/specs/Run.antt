@@ -26,7 +26,7 @@ pub record Between (b : Board) (tw th s h j : ℕ) (ts : List ℕ) (y k : ℕ �
 
 -- the board with its starts
 abbrev pub whole : Shape → (slow : List ℕ) → List Start → Board
-whole s ss xs = board-of (s .width) (s .height) ss xs
+whole s ss xs = board-of (s .width) (s .height) (s .storeys) ss xs
 
 -- after j rounds, with the work list at hand
 pub record At-round (s : Shape) (slow : List ℕ) (xs : List Start) (stride horizon j : ℕ) (times : List ℕ) (work : Work) : Type 0 where

@@ -2,7 +2,7 @@
 // records, only judging and placing differ. A refused call touches no list.
 ghost use mathlib.Core.Path.{_≡_};
 ghost use mathlib.Core.List.{List, []};
-ghost use Prim.Native.Nat.{_≤_};
+ghost use Prim.Native.Nat.{_*_, _≤_};
 ghost use lib.Dec.{eqb};
 ghost use lib.ListN.{length};
 ghost use Rattle.eikonal.specs.Board.{board-of};
@@ -17,6 +17,7 @@ use eikonal::Job;
 use eikonal::Refusal;
 use eikonal::Reply;
 use eikonal::refusals::Judged;
+use eikonal::refusals::house_size;
 use eikonal::refusals::judge_starts;
 use eikonal::refusals::nothing_judged;
 use front::Shape;
@@ -28,37 +29,38 @@ pub struct Task {
     pub shape: Shape,
 }
 
-fn shape_with(width: u32, height: u32, across: u32, down: u32) -> Shape
-    requires { ⌜ (width ≤ 256) × (height ≤ 256) ⌝ }
-    ensures { λ r. ⌜ r ≡ shape-with width height across down ⌝ }
+fn shape_with(width: u32, height: u32, storeys: u32, across: u32, down: u32) -> Shape
+    requires { ⌜ (width ≤ 256) × (height ≤ 256) × (width * height * storeys ≤ 65536) ⌝ }
+    ensures { λ r. ⌜ r ≡ shape-with width height storeys across down ⌝ }
 {
     Shape {
         width: wide(width),
-        height: wide(height),
-        across: wide(across),
-        down: wide(down),
-        cells: wide(width * height),
+        height: height,
+        storeys: storeys,
+        across: across,
+        down: down,
+        cells: house_size(width, height, storeys),
     }
 }
 
 // One tile of a march covers every board.
-fn shape_of(width: u32, height: u32, job: Job) -> Shape
-    requires { ⌜ (width ≤ 256) × (height ≤ 256) ⌝ }
-    ensures { λ r. ⌜ r ≡ shaped width height job ⌝ }
+fn shape_of(width: u32, height: u32, storeys: u32, job: Job) -> Shape
+    requires { ⌜ (width ≤ 256) × (height ≤ 256) × (width * height * storeys ≤ 65536) ⌝ }
+    ensures { λ r. ⌜ r ≡ shaped width height storeys job ⌝ }
 {
     match job {
-        Job::March { horizon: _ } => shape_with(width, height, 256, 256),
+        Job::March { horizon: _ } => shape_with(width, height, storeys, 256, 256),
         Job::Round {
             across,
             down,
             bound: _,
-        } => shape_with(width, height, across, down),
+        } => shape_with(width, height, storeys, across, down),
         Job::Run {
             across,
             down,
             stride: _,
             horizon: _,
-        } => shape_with(width, height, across, down),
+        } => shape_with(width, height, storeys, across, down),
     }
 }
 
@@ -66,6 +68,7 @@ fn shape_of(width: u32, height: u32, job: Job) -> Shape
 pub fn begin(
     width: u32,
     height: u32,
+    storeys: u32,
     slow: &[u32],
     cells: usize,
     begins: usize,
@@ -77,18 +80,35 @@ pub fn begin(
 ) -> Task
     requires { ⌜ Some-judged (now slow) judged ⌝ }
     ensures { λ r. ⌜ ((xs : List Start) → judged ≡ judge (now (slow .entry)) xs nothing-judged
-        → Opened (call (handed (board-of width height (now (slow .entry)) xs) (eqb cells begins)) job (now (order .entry)) (length (now (work .entry))))
+        → Opened (call (handed (board-of width height storeys (now (slow .entry)) xs) (eqb cells begins)) job (now (order .entry)) (length (now (work .entry))))
         times r (now (work .entry)) (now (work .exit))) ⌝ }
 {
-    let board = eikonal::refusals::handed_refusal(width, height, slow, cells, begins, judged);
-    let refusal = refusals::call_refusal(board, width, height, job, order, times, work.len());
+    let board = eikonal::refusals::handed_refusal(
+        width,
+        height,
+        storeys,
+        slow,
+        cells,
+        begins,
+        judged,
+    );
+    let refusal = refusals::call_refusal(
+        board,
+        width,
+        height,
+        storeys,
+        job,
+        order,
+        times,
+        work.len(),
+    );
     if refusal.number != 0 {
         return Task {
             refusal: refusal,
-            shape: shape_with(0, 0, 0, 0),
+            shape: shape_with(0, 0, 0, 0, 0),
         };
     }
-    let shape = shape_of(width, height, job);
+    let shape = shape_of(width, height, storeys, job);
     front::seed::empty(work, shape.cells);
     Task {
         refusal: refusal,
@@ -127,6 +147,7 @@ pub fn end(
 fn play(
     width: u32,
     height: u32,
+    storeys: u32,
     slow: &[u32],
     cells: &[u32],
     begins: &[u32],
@@ -135,7 +156,7 @@ fn play(
     times: &mut [u32],
     work: &mut [u32],
 ) -> Reply
-    ensures { λ x. ⌜ Says (call (by-lists width height (now (slow .entry)) (now (cells .entry)) (now (begins .entry))) job (now (order .entry))
+    ensures { λ x. ⌜ Says (call (by-lists width height storeys (now (slow .entry)) (now (cells .entry)) (now (begins .entry))) job (now (order .entry))
         (length (now (work .entry))))
         x (lent (now (times .entry)) (now (work .entry))) (lent (now (times .exit)) (now (work .exit))) ⌝ }
 {
@@ -143,6 +164,7 @@ fn play(
     let task = begin(
         width,
         height,
+        storeys,
         slow,
         cells.len(),
         begins.len(),
@@ -160,6 +182,7 @@ fn play(
 pub fn march(
     width: u32,
     height: u32,
+    storeys: u32,
     slow: &[u32],
     cells: &[u32],
     begins: &[u32],
@@ -167,7 +190,7 @@ pub fn march(
     times: &mut [u32],
     work: &mut [u32],
 ) -> Reply
-    ensures { λ x. ⌜ Says (call (by-lists width height (now (slow .entry)) (now (cells .entry)) (now (begins .entry))) (March horizon) []
+    ensures { λ x. ⌜ Says (call (by-lists width height storeys (now (slow .entry)) (now (cells .entry)) (now (begins .entry))) (March horizon) []
         (length (now (work .entry))))
         x (lent (now (times .entry)) (now (work .entry))) (lent (now (times .exit)) (now (work .exit))) ⌝ }
 {
@@ -175,6 +198,7 @@ pub fn march(
     play(
         width,
         height,
+        storeys,
         slow,
         cells,
         begins,
@@ -189,6 +213,7 @@ pub fn march(
 pub fn one_round(
     width: u32,
     height: u32,
+    storeys: u32,
     slow: &[u32],
     cells: &[u32],
     begins: &[u32],
@@ -199,7 +224,7 @@ pub fn one_round(
     times: &mut [u32],
     work: &mut [u32],
 ) -> Reply
-    ensures { λ x. ⌜ Says (call (by-lists width height (now (slow .entry)) (now (cells .entry)) (now (begins .entry))) (Round across down bound)
+    ensures { λ x. ⌜ Says (call (by-lists width height storeys (now (slow .entry)) (now (cells .entry)) (now (begins .entry))) (Round across down bound)
         (now (order .entry)) (length (now (work .entry))))
         x (lent (now (times .entry)) (now (work .entry))) (lent (now (times .exit)) (now (work .exit))) ⌝ }
 {
@@ -208,13 +233,25 @@ pub fn one_round(
         down: down,
         bound: bound,
     };
-    play(width, height, slow, cells, begins, job, order, times, work)
+    play(
+        width,
+        height,
+        storeys,
+        slow,
+        cells,
+        begins,
+        job,
+        order,
+        times,
+        work,
+    )
 }
 
 // Rounds from all never until one at the horizon alters nothing. Counts the rounds.
 pub fn tile_run(
     width: u32,
     height: u32,
+    storeys: u32,
     slow: &[u32],
     cells: &[u32],
     begins: &[u32],
@@ -226,7 +263,7 @@ pub fn tile_run(
     times: &mut [u32],
     work: &mut [u32],
 ) -> Reply
-    ensures { λ x. ⌜ Says (call (by-lists width height (now (slow .entry)) (now (cells .entry)) (now (begins .entry))) (Run across down stride horizon)
+    ensures { λ x. ⌜ Says (call (by-lists width height storeys (now (slow .entry)) (now (cells .entry)) (now (begins .entry))) (Run across down stride horizon)
         (now (order .entry)) (length (now (work .entry))))
         x (lent (now (times .entry)) (now (work .entry))) (lent (now (times .exit)) (now (work .exit))) ⌝ }
 {
@@ -236,5 +273,16 @@ pub fn tile_run(
         stride: stride,
         horizon: horizon,
     };
-    play(width, height, slow, cells, begins, job, order, times, work)
+    play(
+        width,
+        height,
+        storeys,
+        slow,
+        cells,
+        begins,
+        job,
+        order,
+        times,
+        work,
+    )
 }

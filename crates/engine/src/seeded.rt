@@ -23,8 +23,12 @@ fn march(shape: Shape, slow: &[u32], horizon: u32, times: &mut [u32], work: &mut
     ensures { λ r. ⌜ Goes (March horizon) shape (now (slow .entry)) r (now (times .entry)) (now (times .exit)) (now (work .entry)) (now (work .exit)) ⌝ }
 {
     let n = shape.cells;
-    let cols = front::seams::lay(shape.width, shape.across);
-    let rows = front::seams::lay(shape.height, shape.down);
+    let cols = front::seams::lay(shape.width, shape.across as usize, 1);
+    let rows = front::seams::lay(
+        shape.height as usize,
+        shape.down as usize,
+        shape.storeys as usize,
+    );
     front::strip::drain_tile(slow, times, work, &cols, &rows, shape, horizon);
     let count = rows::whole::finish(work, times, n, horizon);
     queue::lists::fill(work, 0, 4 * n, 0);
@@ -45,8 +49,12 @@ fn tile_run(
 {
     let n = shape.cells;
     queue::lists::fill(times, 0, n, NEVER);
-    let cols = front::seams::lay(shape.width, shape.across);
-    let rows = front::seams::lay(shape.height, shape.down);
+    let cols = front::seams::lay(shape.width, shape.across as usize, 1);
+    let rows = front::seams::lay(
+        shape.height as usize,
+        shape.down as usize,
+        shape.storeys as usize,
+    );
     let size = front::seed::gather(work, n, 0, n);
     let count = super::run::run(
         slow,
@@ -78,8 +86,12 @@ fn one_round(
         (now (work .exit)) ⌝ }
 {
     let n = shape.cells;
-    let cols = front::seams::lay(shape.width, shape.across);
-    let rows = front::seams::lay(shape.height, shape.down);
+    let cols = front::seams::lay(shape.width, shape.across as usize, 1);
+    let rows = front::seams::lay(
+        shape.height as usize,
+        shape.down as usize,
+        shape.storeys as usize,
+    );
     front::strip::drain_strips(slow, times, work, &cols, &rows, shape, bound);
     let count = rows::tiles::write_tiles(times, work, shape, order, bound);
     queue::lists::fill(work, 0, 4 * n, 0);

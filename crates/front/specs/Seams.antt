@@ -1,11 +1,11 @@
 -- Seams: what lies between two neighbouring columns, or two neighbouring rows. Only internal contracts cite these: they are definitions.
 use mathlib.Core.Bool.{cond}
-use mathlib.Core.List.{List, [], _∷_}
+use mathlib.Core.List.{List, [], _∷_, _++_}
 use Prim.Native.Nat.{ℕ, suc, _+_, _-_, _%_, min}
-use lib.Dec.{eqb}
+use lib.Dec.{eqb, ltb}
 use lib.ListN.{getD}
 use Rattle.eikonal.specs.Axes.{Axis, place}
-use Rattle.eikonal.specs.Board.{Board, never, size, column-axis, row-axis}
+use Rattle.eikonal.specs.Board.{Board, never, size, column-axis, row-axis, storey-axis}
 
 abbrev pub edge : ℕ
 edge = 0
@@ -20,9 +20,16 @@ inside = 2
 unfoldable pub seam : (count side i : ℕ) → ℕ
 seam n s i = cond (eqb (i % n) 0) edge (cond (eqb (i % n % s) 0) border inside)
 
--- of seams as laid the least around the place at a row and a column: an inside seam is the greatest, so it is inside if all four are
+-- of seams as laid the least around the place at a row and a column of a storey: an inside seam is the greatest, so it is inside if all four are
 abbrev pub least-seam : (cols rows : List ℕ) → (row col : ℕ) → ℕ
 least-seam cs rs r c = min (min (getD cs c 0) (getD cs (c + 1) 0)) (min (getD rs r 0) (getD rs (r + 1) 0))
+
+-- of n cells, so many on a storey, the seams between the cell c and those under and over it
+abbrev pub mark-under : (area c : ℕ) → ℕ
+mark-under a c = cond (ltb c a) edge inside
+
+abbrev pub mark-over : (n area c : ℕ) → ℕ
+mark-over n a c = cond (ltb (c + a) n) inside edge
 
 -- what is seen across a seam: the tentative time within the tile, the ghost beyond a border, never off the board
 unfoldable pub across : (seam own ghost : ℕ) → ℕ
@@ -40,8 +47,15 @@ pub record Cut : Type 0 where
 abbrev pub cut : Axis → (side : ℕ) → Cut
 cut a s = record { axis = a; side = s }
 
+-- columns and rows; storeys, all of which a tile takes
+abbrev pub storey-cuts : Board → (tw th : ℕ) → List Cut
+storey-cuts b tw th = cut (column-axis b) tw ∷ cut (row-axis b) th ∷ []
+
+abbrev pub stack-cuts : Board → List Cut
+stack-cuts b = cut (storey-axis b) (b .storeys) ∷ []
+
 abbrev pub cuts : Board → (tw th : ℕ) → List Cut
-cuts b tw th = cut (column-axis b) tw ∷ cut (row-axis b) th ∷ []
+cuts b tw th = storey-cuts b tw th ++ stack-cuts b
 
 -- the seams before and behind a cell
 abbrev pub seam-back : Cut → (c : ℕ) → ℕ

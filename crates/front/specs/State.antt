@@ -173,12 +173,19 @@ pub record Woken (s : Shape) (slow stored : List ℕ) (lo hi : ℕ) (v v' : Work
   pub within : (c : ℕ) → Not-among lo hi c → Out c cells
   pub inner : (c : ℕ) → Among lo hi c → Out c cells → Inner (land s slow) (s .across) (s .down) c
 
--- no inside seam lies before or behind the rows from `from` on and below `end`
+-- on a flat board no inside seam lies before or behind the rows from `from` on and below `end`
 pub record Parted (s : Shape) (from end : ℕ) : Type 0 where
+  pub flat : s .storeys ≡ 1
   pub up : from ≤ end
   pub fits : end ≤ s .height
   pub before : seam (s .height) (s .down) from ≢ inside
   pub behind : seam (s .height) (s .down) end ≢ inside
+
+-- rows, numbered through all storeys, that can be worked out by themselves
+pub record Strip (s : Shape) (slow : List ℕ) (from end : ℕ) : Type 0 where
+  pub up : from ≤ end
+  pub fits : end ≤ s .height * s .storeys
+  pub apart : Apart s slow (from * s .width) (end * s .width)
 
 -- THE CELLS from lo on and below hi are worked out up to the bound: each has its time from before or what the rule gives, the earlier of them.
 -- Other cells keep their times.

@@ -30,8 +30,8 @@ pub fn announce(
     times: &[u32],
     work: &mut [u32],
     size: usize,
-    cols: &[u8; 257],
-    rows: &[u8; 257],
+    cols: &[u8; 2051],
+    rows: &[u8; 2051],
     shape: Shape,
     m: usize,
 ) -> usize

@@ -7,7 +7,9 @@ ghost use Rattle.front.specs.Board.{land, rule-at, at, Ground};
 ghost use Rattle.front.specs.State.{Held, Took, Drained, Ready-among, Some-ready};
 use super::Shape;
 use super::seams::INSIDE;
+use super::seams::is_house;
 use super::spread::row_of;
+use queue::lists::wide;
 
 // How many cells a drain took, and how many are then pending.
 pub struct Taken {
@@ -21,8 +23,8 @@ fn take(
     times: &[u32],
     work: &mut [u32],
     size: usize,
-    cols: &[u8; 257],
-    rows: &[u8; 257],
+    cols: &[u8; 2051],
+    rows: &[u8; 2051],
     shape: Shape,
     m: usize,
 ) -> usize
@@ -39,7 +41,7 @@ fn take(
     work[at] = c as u32;
     let row = row_of(c, w);
     let col = c - row * w;
-    super::spread::tell(
+    let pending = super::spread::tell_storey(
         slow,
         times,
         work,
@@ -54,7 +56,24 @@ fn take(
         col,
         t,
         INSIDE,
-    )
+    );
+    if is_house(rows) {
+        let taken = wide(work[at]);
+        return super::spread::tell_stack(
+            slow,
+            times,
+            work,
+            pending,
+            cols,
+            rows,
+            shape,
+            n,
+            w,
+            taken,
+            t,
+        );
+    }
+    pending
 }
 
 // Takes every pending cell up to the bound.
@@ -63,8 +82,8 @@ pub fn drain(
     times: &[u32],
     work: &mut [u32],
     size: usize,
-    cols: &[u8; 257],
-    rows: &[u8; 257],
+    cols: &[u8; 2051],
+    rows: &[u8; 2051],
     shape: Shape,
     bound: u32,
 ) -> Taken

@@ -3,12 +3,15 @@ ghost use mathlib.Core.Path.{_≡_};
 ghost use mathlib.Core.Logic.{_⊎_, _≢_};
 ghost use Prim.Native.Nat.{ℕ, _+_, _/_, _≤_, _<_, min};
 ghost use lib.Dec.{eqb};
-ghost use Rattle.front.specs.Seams.{edge, border, inside, least-seam, hearer, near};
+ghost use Rattle.front.specs.Seams.{edge, border, inside, least-seam, hearer, near-on, storey-cuts, stack-cuts, near};
 ghost use Rattle.front.specs.Board.{land, rule-at, tentative, at, Ground, Measures, Site};
 ghost use Rattle.front.specs.State.{Held, Touched, Told};
 use super::Shape;
 use super::seams::BORDER;
 use super::seams::INSIDE;
+use super::seams::seam_over;
+use super::seams::seam_under;
+use super::seams::storey_rows;
 use eikonal::arrival::NEVER;
 
 // Lowers the cell e to what the rule gives it, if that is earlier. A cell that has had no time yet is new to the queue.
@@ -17,8 +20,8 @@ pub fn relax(
     times: &[u32],
     work: &mut [u32],
     size: usize,
-    cols: &[u8; 257],
-    rows: &[u8; 257],
+    cols: &[u8; 2051],
+    rows: &[u8; 2051],
     shape: Shape,
     n: usize,
     w: usize,
@@ -49,8 +52,8 @@ fn touch(
     times: &[u32],
     work: &mut [u32],
     size: usize,
-    cols: &[u8; 257],
-    rows: &[u8; 257],
+    cols: &[u8; 2051],
+    rows: &[u8; 2051],
     shape: Shape,
     n: usize,
     w: usize,
@@ -91,8 +94,8 @@ fn tell_across(
     times: &[u32],
     work: &mut [u32],
     size: usize,
-    cols: &[u8; 257],
-    rows: &[u8; 257],
+    cols: &[u8; 2051],
+    rows: &[u8; 2051],
     shape: Shape,
     n: usize,
     w: usize,
@@ -143,14 +146,14 @@ pub fn row_of(c: usize, w: usize) -> usize
     ((c as u32) / (w as u32)) as usize
 }
 
-// The neighbours of c, which is at a row and a column, across seams of the given kind hear of it.
-pub fn tell(
+// The neighbours of c on its storey, where it is at a row and a column, hear of it across seams of the given kind.
+pub fn tell_storey(
     slow: &[u32],
     times: &[u32],
     work: &mut [u32],
     size: usize,
-    cols: &[u8; 257],
-    rows: &[u8; 257],
+    cols: &[u8; 2051],
+    rows: &[u8; 2051],
     shape: Shape,
     n: usize,
     w: usize,
@@ -163,7 +166,8 @@ pub fn tell(
     requires { ⌜ Ground shape (now slow) (now times) (now cols) (now rows) × Measures shape n w × Held n (at (now work) size)
         × Site n w c row col × (kind ≢ edge) ⌝ }
     ensures { λ r. ⌜ Told n (rule-at shape (now (slow .entry)) (now (times .entry))) t
-        (near (land shape (now (slow .entry))) (shape .across) (shape .down) kind c) (at (now (work .entry)) size) (at (now (work .exit)) r) ⌝ }
+        (near-on (storey-cuts (land shape (now (slow .entry))) (shape .across) (shape .down)) n kind c)
+        (at (now (work .entry)) size) (at (now (work .exit)) r) ⌝ }
 {
     let left = tell_across(
         slow,
@@ -235,15 +239,75 @@ pub fn tell(
     )
 }
 
+// Those under and over it hear of it: they are of its tile. Its row and column are worked out again, so that nothing is held for houses alone.
+pub fn tell_stack(
+    slow: &[u32],
+    times: &[u32],
+    work: &mut [u32],
+    size: usize,
+    cols: &[u8; 2051],
+    rows: &[u8; 2051],
+    shape: Shape,
+    n: usize,
+    w: usize,
+    c: usize,
+    t: u32,
+) -> usize
+    requires { ⌜ Ground shape (now slow) (now times) (now cols) (now rows) × Measures shape n w × Held n (at (now work) size)
+        × (c < n) ⌝ }
+    ensures { λ r. ⌜ Told n (rule-at shape (now (slow .entry)) (now (times .entry))) t
+        (near-on (stack-cuts (land shape (now (slow .entry)))) n inside c) (at (now (work .entry)) size) (at (now (work .exit)) r) ⌝ }
+{
+    let row = row_of(c, w);
+    let col = c - row * w;
+    let h = storey_rows(rows);
+    let area = w * h;
+    let under = tell_across(
+        slow,
+        times,
+        work,
+        size,
+        cols,
+        rows,
+        shape,
+        n,
+        w,
+        back(c, area),
+        back(row, h),
+        col,
+        t,
+        seam_under(area, c),
+        INSIDE,
+    );
+    tell_across(
+        slow,
+        times,
+        work,
+        under,
+        cols,
+        rows,
+        shape,
+        n,
+        w,
+        c + area,
+        row + h,
+        col,
+        t,
+        seam_over(n, area, c),
+        INSIDE,
+    )
+}
+
 fn lesser(a: u8, b: u8) -> u8
     ensures { λ r. ⌜ r ≡ min a b ⌝ }
 {
     if a < b { a } else { b }
 }
 
-// Whether all four seams around a cell are inside its tile. An inside seam is the greatest, so that one branch is compiled.
-pub fn inner(cols: &[u8; 257], rows: &[u8; 257], row: usize, col: usize) -> bool
-    requires { ⌜ (row < 256) × (col < 256) ⌝ }
+// Whether all four seams around a cell on its storey are inside its tile, as those between storeys are. An inside seam is the greatest, so that one
+// branch is compiled.
+pub fn inner(cols: &[u8; 2051], rows: &[u8; 2051], row: usize, col: usize) -> bool
+    requires { ⌜ (row < 2048) × (col < 256) ⌝ }
     ensures { λ r. ⌜ r ≡ eqb (least-seam (now (cols .entry)) (now (rows .entry)) row col) inside ⌝ }
 {
     let beside = lesser(cols[col], cols[col + 1]);
@@ -251,14 +315,14 @@ pub fn inner(cols: &[u8; 257], rows: &[u8; 257], row: usize, col: usize) -> bool
     lesser(beside, over) == INSIDE
 }
 
-// The neighbours of c in other tiles hear of it. Most cells have none.
+// The neighbours of c in other tiles, which are on its storey, hear of it. Most cells have none.
 pub fn tell_others(
     slow: &[u32],
     times: &[u32],
     work: &mut [u32],
     size: usize,
-    cols: &[u8; 257],
-    rows: &[u8; 257],
+    cols: &[u8; 2051],
+    rows: &[u8; 2051],
     shape: Shape,
     n: usize,
     w: usize,
@@ -274,7 +338,7 @@ pub fn tell_others(
     if inner(cols, rows, row, col) {
         return size;
     }
-    tell(
+    tell_storey(
         slow,
         times,
         work,

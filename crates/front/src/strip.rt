@@ -1,9 +1,10 @@
-// A single round is worked out strip by strip, a strip being the rows of a row of tiles: none of its cells sees a tentative time of another strip. So the queue
-// holds the cells of one strip at a time, and stays small. What is pending past the bound is left behind: the round has no use for it.
+// A single round of a flat board is worked out strip by strip, a strip being the rows of a row of tiles: none of its cells sees a tentative time of
+// another strip. So the queue holds the cells of one strip at a time, and stays small. A house, whose tiles span all storeys, is one strip. What is
+// pending past the bound is left behind: the round has no use for it.
 ghost use Prim.Native.Nat.{_*_, _≤_, _<_};
 ghost use Rattle.eikonal.specs.Board.{never};
 ghost use Rattle.front.specs.Board.{rule-at, Ground};
-ghost use Rattle.front.specs.State.{Placed, Parted, Worked};
+ghost use Rattle.front.specs.State.{Placed, Strip, Worked};
 use super::Shape;
 use queue::lists::nearer;
 
@@ -12,14 +13,15 @@ fn drain_strip(
     slow: &[u32],
     times: &[u32],
     work: &mut [u32],
-    cols: &[u8; 257],
-    rows: &[u8; 257],
+    cols: &[u8; 2051],
+    rows: &[u8; 2051],
     shape: Shape,
     from: usize,
     end: usize,
     bound: u32,
 )
-    requires { ⌜ Ground shape (now slow) (now times) (now cols) (now rows) × Parted shape from end × Placed (shape .cells) (now work) × (bound < never) ⌝ }
+    requires { ⌜ Ground shape (now slow) (now times) (now cols) (now rows) × Strip shape (now slow) from end
+        × Placed (shape .cells) (now work) × (bound < never) ⌝ }
     ensures { λ r. ⌜ Worked (shape .cells) (rule-at shape (now (slow .entry)) (now (times .entry))) bound (from * shape .width) (end * shape .width)
         (now (work .entry)) (now (work .exit)) ⌝ }
 {
@@ -35,8 +37,8 @@ pub fn drain_strips(
     slow: &[u32],
     times: &[u32],
     work: &mut [u32],
-    cols: &[u8; 257],
-    rows: &[u8; 257],
+    cols: &[u8; 2051],
+    rows: &[u8; 2051],
     shape: Shape,
     bound: u32,
 )
@@ -44,8 +46,22 @@ pub fn drain_strips(
     ensures { λ r. ⌜ Worked (shape .cells) (rule-at shape (now (slow .entry)) (now (times .entry))) bound 0 (shape .cells)
         (now (work .entry)) (now (work .exit)) ⌝ }
 {
-    let h = shape.height;
-    let down = shape.down;
+    let h = shape.height as usize;
+    let down = shape.down as usize;
+    if shape.storeys > 1 {
+        drain_strip(
+            slow,
+            times,
+            work,
+            cols,
+            rows,
+            shape,
+            0,
+            h * (shape.storeys as usize),
+            bound,
+        );
+        return;
+    }
     let mut row = 0;
     while row < h {
         let end = nearer(row + down, h);
@@ -59,8 +75,8 @@ pub fn drain_tile(
     slow: &[u32],
     times: &[u32],
     work: &mut [u32],
-    cols: &[u8; 257],
-    rows: &[u8; 257],
+    cols: &[u8; 2051],
+    rows: &[u8; 2051],
     shape: Shape,
     bound: u32,
 )

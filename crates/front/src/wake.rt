@@ -10,12 +10,13 @@ fn wake_row(
     times: &[u32],
     work: &mut [u32],
     size: usize,
-    cols: &[u8; 257],
-    rows: &[u8; 257],
+    cols: &[u8; 2051],
+    rows: &[u8; 2051],
     shape: Shape,
     row: usize,
 ) -> usize
-    requires { ⌜ Ground shape (now slow) (now times) (now cols) (now rows) × Held (shape .cells) (at (now work) size) × (row < shape .height) ⌝ }
+    requires { ⌜ Ground shape (now slow) (now times) (now cols) (now rows) × Held (shape .cells) (at (now work) size)
+        × (row < shape .height * shape .storeys) ⌝ }
     ensures { λ r. ⌜ ((lo : ℕ) → (v : Work) → lo ≤ row * shape .width
         → Woken shape (now (slow .entry)) (now (times .entry)) lo (row * shape .width) v (at (now (work .entry)) size)
         → Woken shape (now (slow .entry)) (now (times .entry)) lo (suc row * shape .width) v (at (now (work .exit)) r)) ⌝ }
@@ -53,14 +54,14 @@ pub fn wake(
     times: &[u32],
     work: &mut [u32],
     size: usize,
-    cols: &[u8; 257],
-    rows: &[u8; 257],
+    cols: &[u8; 2051],
+    rows: &[u8; 2051],
     shape: Shape,
     from: usize,
     end: usize,
 ) -> usize
     requires { ⌜ Ground shape (now slow) (now times) (now cols) (now rows) × Held (shape .cells) (at (now work) size)
-        × (from ≤ end) × (end ≤ shape .height) ⌝ }
+        × (from ≤ end) × (end ≤ shape .height * shape .storeys) ⌝ }
     ensures { λ r. ⌜ Woken shape (now (slow .entry)) (now (times .entry)) (from * shape .width) (end * shape .width) (at (now (work .entry)) size)
         (at (now (work .exit)) r) ⌝ }
 {

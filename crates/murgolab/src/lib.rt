@@ -22,10 +22,12 @@ pub extern "C" fn murgolab_local_rule(
     right: u32,
     above: u32,
     below: u32,
+    over: u32,
+    under: u32,
 ) -> Reply
-    ensures { λ x. ⌜ Local-says g h left right above below x ⌝ }
+    ensures { λ x. ⌜ Local-says g h left right above below over under x ⌝ }
 {
-    eikonal::arrival::local_rule(g, h, left, right, above, below)
+    eikonal::arrival::local_rule(g, h, left, right, above, below, over, under)
 }
 
 #[no_mangle]
@@ -39,6 +41,7 @@ pub extern "C" fn murgolab_diagonal(slowness: u32) -> Reply
 pub extern "C" fn murgolab_march_plain(
     width: u32,
     height: u32,
+    storeys: u32,
     slow: &[u32],
     cells: &[u32],
     begins: &[u32],
@@ -46,17 +49,28 @@ pub extern "C" fn murgolab_march_plain(
     times: &mut [u32],
     work: &mut [u32],
 ) -> Reply
-    ensures { λ x. ⌜ Says (call (by-lists width height (now (slow .entry)) (now (cells .entry)) (now (begins .entry)))
+    ensures { λ x. ⌜ Says (call (by-lists width height storeys (now (slow .entry)) (now (cells .entry)) (now (begins .entry)))
         (March horizon) [] (length (now (work .entry))))
         x (lent (now (times .entry)) (now (work .entry))) (lent (now (times .exit)) (now (work .exit))) ⌝ }
 {
-    engine::calls::march(width, height, slow, cells, begins, horizon, times, work)
+    engine::calls::march(
+        width,
+        height,
+        storeys,
+        slow,
+        cells,
+        begins,
+        horizon,
+        times,
+        work,
+    )
 }
 
 #[no_mangle]
 pub extern "C" fn murgolab_one_round_plain(
     width: u32,
     height: u32,
+    storeys: u32,
     slow: &[u32],
     cells: &[u32],
     begins: &[u32],
@@ -67,13 +81,14 @@ pub extern "C" fn murgolab_one_round_plain(
     times: &mut [u32],
     work: &mut [u32],
 ) -> Reply
-    ensures { λ x. ⌜ Says (call (by-lists width height (now (slow .entry)) (now (cells .entry)) (now (begins .entry)))
+    ensures { λ x. ⌜ Says (call (by-lists width height storeys (now (slow .entry)) (now (cells .entry)) (now (begins .entry)))
         (Round across down bound) (now (order .entry)) (length (now (work .entry))))
         x (lent (now (times .entry)) (now (work .entry))) (lent (now (times .exit)) (now (work .exit))) ⌝ }
 {
     engine::calls::one_round(
         width,
         height,
+        storeys,
         slow,
         cells,
         begins,
@@ -90,6 +105,7 @@ pub extern "C" fn murgolab_one_round_plain(
 pub extern "C" fn murgolab_tile_run_plain(
     width: u32,
     height: u32,
+    storeys: u32,
     slow: &[u32],
     cells: &[u32],
     begins: &[u32],
@@ -101,13 +117,14 @@ pub extern "C" fn murgolab_tile_run_plain(
     times: &mut [u32],
     work: &mut [u32],
 ) -> Reply
-    ensures { λ x. ⌜ Says (call (by-lists width height (now (slow .entry)) (now (cells .entry)) (now (begins .entry)))
+    ensures { λ x. ⌜ Says (call (by-lists width height storeys (now (slow .entry)) (now (cells .entry)) (now (begins .entry)))
         (Run across down stride horizon) (now (order .entry)) (length (now (work .entry))))
         x (lent (now (times .entry)) (now (work .entry))) (lent (now (times .exit)) (now (work .exit))) ⌝ }
 {
     engine::calls::tile_run(
         width,
         height,
+        storeys,
         slow,
         cells,
         begins,
@@ -145,6 +162,7 @@ pub extern "C" fn murgolab_read_scenario_plain(
 pub extern "C" fn murgolab_write_scenario_plain(
     width: u32,
     height: u32,
+    storeys: u32,
     ticks: u32,
     ground: u32,
     slow: &[u32],
@@ -152,34 +170,46 @@ pub extern "C" fn murgolab_write_scenario_plain(
     begins: &[u32],
     out: &mut [u8],
 ) -> Reply
-    ensures { λ x. ⌜ Writes (by-lists width height (now (slow .entry)) (now (cells .entry)) (now (begins .entry))) ticks ground
+    ensures { λ x. ⌜ Writes (by-lists width height storeys (now (slow .entry)) (now (cells .entry)) (now (begins .entry))) ticks ground
         (now (out .entry)) (now (out .exit)) x ⌝ }
 {
-    scenario_write::write_scenario(width, height, ticks, ground, slow, cells, begins, out)
+    scenario_write::write_scenario(
+        width,
+        height,
+        storeys,
+        ticks,
+        ground,
+        slow,
+        cells,
+        begins,
+        out,
+    )
 }
 
 #[no_mangle]
 pub extern "C" fn murgolab_march(
     width: u32,
     height: u32,
+    storeys: u32,
     slow: &[u32],
     starts: &[Start],
     horizon: u32,
     times: &mut [u32],
     work: &mut [u32],
 ) -> Reply
-    ensures { λ x. ⌜ Says (call (by-records width height (now (slow .entry)) (now (starts .entry))) (March horizon) [] (length (now (work .entry))))
+    ensures { λ x. ⌜ Says (call (by-records width height storeys (now (slow .entry)) (now (starts .entry))) (March horizon) [] (length (now (work .entry))))
         x (lent (now (times .entry)) (now (work .entry))) (lent (now (times .exit)) (now (work .exit))) ⌝ }
 {
     // a march has no order of tiles, and reads none
     let job = record_calls::calls::march_job(horizon);
-    record_calls::calls::play_records(width, height, slow, starts, job, slow, times, work)
+    record_calls::calls::play_records(width, height, storeys, slow, starts, job, slow, times, work)
 }
 
 #[no_mangle]
 pub extern "C" fn murgolab_one_round(
     width: u32,
     height: u32,
+    storeys: u32,
     slow: &[u32],
     starts: &[Start],
     across: u32,
@@ -189,18 +219,29 @@ pub extern "C" fn murgolab_one_round(
     times: &mut [u32],
     work: &mut [u32],
 ) -> Reply
-    ensures { λ x. ⌜ Says (call (by-records width height (now (slow .entry)) (now (starts .entry)))
+    ensures { λ x. ⌜ Says (call (by-records width height storeys (now (slow .entry)) (now (starts .entry)))
         (Round across down bound) (now (order .entry)) (length (now (work .entry))))
         x (lent (now (times .entry)) (now (work .entry))) (lent (now (times .exit)) (now (work .exit))) ⌝ }
 {
     let job = record_calls::calls::round_job(across, down, bound);
-    record_calls::calls::play_records(width, height, slow, starts, job, order, times, work)
+    record_calls::calls::play_records(
+        width,
+        height,
+        storeys,
+        slow,
+        starts,
+        job,
+        order,
+        times,
+        work,
+    )
 }
 
 #[no_mangle]
 pub extern "C" fn murgolab_tile_run(
     width: u32,
     height: u32,
+    storeys: u32,
     slow: &[u32],
     starts: &[Start],
     across: u32,
@@ -211,12 +252,22 @@ pub extern "C" fn murgolab_tile_run(
     times: &mut [u32],
     work: &mut [u32],
 ) -> Reply
-    ensures { λ x. ⌜ Says (call (by-records width height (now (slow .entry)) (now (starts .entry)))
+    ensures { λ x. ⌜ Says (call (by-records width height storeys (now (slow .entry)) (now (starts .entry)))
         (Run across down stride horizon) (now (order .entry)) (length (now (work .entry))))
         x (lent (now (times .entry)) (now (work .entry))) (lent (now (times .exit)) (now (work .exit))) ⌝ }
 {
     let job = record_calls::calls::run_job(across, down, stride, horizon);
-    record_calls::calls::play_records(width, height, slow, starts, job, order, times, work)
+    record_calls::calls::play_records(
+        width,
+        height,
+        storeys,
+        slow,
+        starts,
+        job,
+        order,
+        times,
+        work,
+    )
 }
 
 #[no_mangle]
@@ -237,19 +288,21 @@ pub extern "C" fn murgolab_read_scenario(
 pub extern "C" fn murgolab_write_scenario(
     width: u32,
     height: u32,
+    storeys: u32,
     ticks: u32,
     ground: u32,
     slow: &[u32],
     starts: &[Start],
     out: &mut [u8],
 ) -> Reply
-    ensures { λ x. ⌜ Writes (by-records width height (now (slow .entry)) (now (starts .entry))) ticks ground
+    ensures { λ x. ⌜ Writes (by-records width height storeys (now (slow .entry)) (now (starts .entry))) ticks ground
         (now (out .entry)) (now (out .exit)) x ⌝ }
 {
     let judged = record_calls::judge::judge_records(slow, starts);
     let reply = scenario_write::begin_file(
         width,
         height,
+        storeys,
         ticks,
         ground,
         slow,

@@ -20,26 +20,26 @@ use Rattle.engine.specs.Calls.{Opened, Sowable, Sown, Endable, Ended}
 use Rattle.engine.specs.declared.calls.Task.{Task}
 use Rattle.engine.proofs.Theory.Steps.{sowable, endable, says}
 
-module _ (w h : ℕ) (ss : List ℕ) (ys : List Start) (j : Job) (os ts v : List ℕ) (k : Judged) (is : k ≡ judge ss ys nothing-judged) (t : Task) (v0 : List ℕ)
-    (op : (xs : List Start) → k ≡ judge ss xs nothing-judged → Opened (call (handed (board-of w h ss xs) (eqb (length ys) (length ys))) j os (length v))
+module _ (w h s : ℕ) (ss : List ℕ) (ys : List Start) (j : Job) (os ts v : List ℕ) (k : Judged) (is : k ≡ judge ss ys nothing-judged) (t : Task) (v0 : List ℕ)
+    (op : (xs : List Start) → k ≡ judge ss xs nothing-judged → Opened (call (handed (board-of w h s ss xs) (eqb (length ys) (length ys))) j os (length v))
     (length ts) t v v0) where
-  opened : Opened (call (by-records w h ss ys) j os (length v)) (length ts) t v v0
+  opened : Opened (call (by-records w h s ss ys) j os (length v)) (length ts) t v v0
   unfolding by-records
-  opened = subst (λ (p : Bool). Opened (call (handed (board-of w h ss ys) p) j os (length v)) (length ts) t v v0) (eq-eqb (length ys) (length ys) refl)
+  opened = subst (λ (p : Bool). Opened (call (handed (board-of w h s ss ys) p) j os (length v)) (length ts) t v v0) (eq-eqb (length ys) (length ys) refl)
       (op ys is)
 
   pub records-sow : Sowable t ys v0
   unfolding by-records
-  records-sow = sowable (call (by-records w h ss ys) j os (length v)) t ts v v0 refl opened
+  records-sow = sowable (call (by-records w h s ss ys) j os (length v)) t ts v v0 refl opened
 
   module _ (v1 : List ℕ) (so : Sown t ys v0 v1) where
     pub records-end : Endable t j ss os ts v1
     unfolding by-records
-    records-end = endable (call (by-records w h ss ys) j os (length v)) t ts v v0 refl opened v1 so
+    records-end = endable (call (by-records w h s ss ys) j os (length v)) t ts v v0 refl opened v1 so
 
-    pub records-say : (x : Reply) (us u : List ℕ) → Ended t j ss x ts us v1 u → Says (call (by-records w h ss ys) j os (length v)) x (lent ts v) (lent us u)
+    pub records-say : (x : Reply) (us u : List ℕ) → Ended t j ss x ts us v1 u → Says (call (by-records w h s ss ys) j os (length v)) x (lent ts v) (lent us u)
     unfolding by-records
-    records-say = says (call (by-records w h ss ys) j os (length v)) t ts v v0 refl opened v1 so
+    records-say = says (call (by-records w h s ss ys) j os (length v)) t ts v v0 refl opened v1 so
 
 -- the job by its name
 pub is-job : (p : Handed) (j j′ : Job) → j ≡ j′ → (os : List ℕ) (w : ℕ) (x : Reply) (a b : Lent) → Says (call p j os w) x a b → Says (call p j′ os w) x a b

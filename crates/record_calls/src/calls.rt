@@ -39,6 +39,7 @@ pub fn run_job(across: u32, down: u32, stride: u32, horizon: u32) -> Job
 pub fn play_records(
     width: u32,
     height: u32,
+    storeys: u32,
     slow: &[u32],
     starts: &[Start],
     job: Job,
@@ -46,13 +47,15 @@ pub fn play_records(
     times: &mut [u32],
     work: &mut [u32],
 ) -> Reply
-    ensures { λ x. ⌜ Says (call (by-records width height (now (slow .entry)) (now (starts .entry))) job (now (order .entry)) (length (now (work .entry))))
+    ensures { λ x. ⌜ Says (call (by-records width height storeys (now (slow .entry)) (now (starts .entry))) job (now (order .entry))
+        (length (now (work .entry))))
         x (lent (now (times .entry)) (now (work .entry))) (lent (now (times .exit)) (now (work .exit))) ⌝ }
 {
     let judged = super::judge::judge_records(slow, starts);
     let task = engine::calls::begin(
         width,
         height,
+        storeys,
         slow,
         starts.len(),
         starts.len(),

@@ -60,8 +60,8 @@ same-read f slow s s' c c' b b' ys ys' x x' ec eb r r' =
 
 pub same-write : Same-write
 unfolding Same-write Same-handed
-same-write w h t g slow c b out o o' ys y y' ec eb k k' =
-    let p : by-lists w h slow c b ≡ by-records w h slow ys = rw (ec, eb) (same-handed w h slow ys) in
+same-write w h storeys t g slow c b out o o' ys y y' ec eb k k' =
+    let p : by-lists w h storeys slow c b ≡ by-records w h storeys slow ys = rw (ec, eb) (same-handed w h storeys slow ys) in
     let y-is : y ≡ y' = k .answers ∙ sym (rw (← p) (k' .answers)) in
     (y-is, k .leaves ∙ rw (y-is, ← p) (sym (k' .leaves)))
 
@@ -73,12 +73,12 @@ records-read-then-write f slow slow-now ys ys-now x out out-now y bytes r z k l 
 
 pub records-write-then-read : Records-write-then-read
 unfolding Records-write-then-read Write-then-read Same-handed cells-of begins-of
-records-write-then-read w h t g slow zs out out-now y s s-now ys ys-now x k z r ls lz =
+records-write-then-read w h storeys t g slow zs out out-now y s s-now ys ys-now x k z r ls lz =
     let long = length-map zs (λ s. s .cell) in
     let late = length-map zs (λ s. s .time) in
-    let got = write-then-read w h t g slow (cells-of zs) (begins-of zs) out out-now y s s-now (cells-of ys) (cells-of ys-now) (begins-of ys) (begins-of ys-now)
-    x
-    (rw (same-handed w h slow zs) k) z r ls
+    let got = write-then-read w h storeys t g slow (cells-of zs) (begins-of zs) out out-now y s s-now
+    (cells-of ys) (cells-of ys-now) (begins-of ys) (begins-of ys-now) x
+    (rw (same-handed w h storeys slow zs) k) z r ls
     (omega (arith, long, length-map ys (λ s. s .cell))) (omega (arith, long, length-map ys (λ s. s .time))) in
     let same = same-records ys-now (zs ++ drop (length zs) ys) (whole (λ s. s .cell) long (got .2)) (whole (λ s. s .time) late (got .3)) in
     (rw (← long) (got .0), got .1, same)

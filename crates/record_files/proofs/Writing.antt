@@ -137,7 +137,7 @@ module _ (at count : ℕ) (out : List ℕ) (ys : List Start) where
           (sym (bytes-append start-bytes (take (min i count) ys) (part-at ys i)) ∙ ap bytes (ap (λ (t : List Start). t ++ part-at ys i) here ∙ sym next))
 
 -- ---- the call: all in front of the starts is written, and the records come behind it
-module _ (w h t g : ℕ) (ss : List ℕ) (ys : List Start) (j : Judged) (is-judged : j ≡ judge ss ys nothing-judged) where
+module _ (w h s t g : ℕ) (ss : List ℕ) (ys : List Start) (j : Judged) (is-judged : j ≡ judge ss ys nothing-judged) where
   abbrev n : ℕ
   n = length ys
 
@@ -147,7 +147,7 @@ module _ (w h t g : ℕ) (ss : List ℕ) (ys : List Start) (j : Judged) (is-judg
   pub records-judged : Judging ss n n j
   records-judged = record { starts = ys; judges = judges }
 
-  module _ (out mid : List ℕ) (x : Reply) (b : Begins w h t g ss n n j out mid x) where
+  module _ (out mid : List ℕ) (x : Reply) (b : Begins w h s t g ss n n j out mid x) where
     waits : x .number ≡ 0 → Awaits g ss n n ys out mid x
     waits z = awaits b judges z
 
@@ -168,11 +168,11 @@ module _ (w h t g : ℕ) (ss : List ℕ) (ys : List Start) (j : Judged) (is-judg
       ]
 
       -- records are as many cells as times
-      handed-so : {now : List ℕ} → Writes (given-by w h ss n n ys) t g out now x → Writes (by-records w h ss ys) t g out now x
+      handed-so : {now : List ℕ} → Writes (given-by w h s ss n n ys) t g out now x → Writes (by-records w h s ss ys) t g out now x
       unfolding by-records
-      handed-so {now} ws = subst (λ (p : Bool). Writes (handed (board-of w h ss ys) p) t g out now x) (eq-eqb n n refl) ws
+      handed-so {now} ws = subst (λ (p : Bool). Writes (handed (board-of w h s ss ys) p) t g out now x) (eq-eqb n n refl) ws
 
-      pub writes-records : (now : List ℕ) → now ≡ take at mid ++ (bytes (take k ys) ++ drop (at + start-size * k) mid) → Writes (by-records w h ss ys) t g out
+      pub writes-records : (now : List ℕ) → now ≡ take at mid ++ (bytes (take k ys) ++ drop (at + start-size * k) mid) → Writes (by-records w h s ss ys) t g out
           now x
       unfolding bytes-of
       writes-records now e = elim (ℕ-discrete (x .number) 0) [
@@ -181,5 +181,5 @@ module _ (w h t g : ℕ) (ss : List ℕ) (ys : List Start) (j : Judged) (is-judg
             (e ∙ ap₂ (λ u v. take at mid ++ (bytes u ++ drop (at + start-size * v) mid)) (take-all k ys (omega (arith, a .1))) (a .1)))
         | no d ↦ let a = at-none d in
             let stays : now ≡ mid = e ∙ ap₂ (λ u v. take u mid ++ (bytes (take v ys) ++ drop (u + start-size * v) mid)) (a .0) (a .1) in
-            subst (λ (o : List ℕ). Writes (by-records w h ss ys) t g out o x) (sym stays) (handed-so (writes-none b judges d))
+            subst (λ (o : List ℕ). Writes (by-records w h s ss ys) t g out o x) (sym stays) (handed-so (writes-none b judges d))
       ]

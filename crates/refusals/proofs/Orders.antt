@@ -95,18 +95,18 @@ inside a x ms l h = record { many = length-set ms (x - a) 1; marks = mark }
 
 -- ---- the tiles of a board: with n across and m down, the length is judged first
 module _ (w h tw th : ℕ) (xs : List ℕ) (n m : ℕ) (across : n ≡ up w tw) (down : m ≡ up h th) where
-  pub order-uneven : length xs ≢ n * m → false ≡ order-good (board-of w h [] []) tw th xs
+  pub order-uneven : length xs ≢ n * m → false ≡ order-good (board-of w h 1 [] []) tw th xs
   unfolding order-good tile-count
   order-uneven d = rw (← across, ← down, ne-eqb (length xs) (n * m) d)
 
-  pub order-even : length xs ≡ n * m → (q : Bool) → q ≡ all-there (n * m) xs → q ≡ order-good (board-of w h [] []) tw th xs
+  pub order-even : length xs ≡ n * m → (q : Bool) → q ≡ all-there (n * m) xs → q ≡ order-good (board-of w h 1 [] []) tw th xs
   unfolding order-good tile-count
   order-even e q t = rw (← across, ← down, eq-eqb (length xs) (n * m) e) t
 
 -- ---- of a board the causes 10, 11 and 12 see the sides alone
-pub same-sides : (w h : ℕ) (slow : List ℕ) (ys : List Start) (j : Job) (xs : List ℕ) → job-refusal (board-of w h [] []) j xs
-    ≡ job-refusal (board-of w h slow ys) j xs
+pub same-sides : (w h s : ℕ) (slow : List ℕ) (ys : List Start) (j : Job) (xs : List ℕ) → job-refusal (board-of w h 1 [] []) j xs
+    ≡ job-refusal (board-of w h s slow ys) j xs
 unfolding job-refusal tiles-refusal order-good tile-count
-same-sides w h slow ys (March z) xs = refl
-same-sides w h slow ys (Round tw th m) xs = refl
-same-sides w h slow ys (Run tw th s z) xs = refl
+same-sides w h s slow ys (March z) xs = refl
+same-sides w h s slow ys (Round tw th m) xs = refl
+same-sides w h s slow ys (Run tw th k z) xs = refl

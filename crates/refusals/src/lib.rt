@@ -2,7 +2,7 @@
 ghost use mathlib.Core.Path.{_≡_};
 ghost use mathlib.Core.Bool.{Bool, _||_};
 ghost use mathlib.Core.List.{List, []};
-ghost use Prim.Native.Nat.{ℕ, _≤_, min};
+ghost use Prim.Native.Nat.{ℕ, _*_, _≤_, min};
 ghost use lib.Dec.{ltb, eqb};
 ghost use lib.ListN.{length};
 ghost use Rattle.eikonal.specs.Board.{board-of, largest};
@@ -15,6 +15,7 @@ use eikonal::Job;
 use eikonal::Refusal;
 use eikonal::arrival::LARGEST;
 use eikonal::cause;
+use eikonal::refusals::house_size;
 use eikonal::refusals::side_good;
 
 // How many tile numbers are looked for at a time.
@@ -98,7 +99,7 @@ pub fn tiles_along(cells: u32, side: u32) -> u32
 // Whether the order has each of the board's tile numbers once. Of the board the sides matter here, and below.
 fn order_good(width: u32, height: u32, across: u32, down: u32, order: &[u32]) -> bool
     requires { ⌜ (width ≤ 256) × (height ≤ 256) × (1 ≤ across) × (across ≤ 256) × (1 ≤ down) × (down ≤ 256) ⌝ }
-    ensures { λ r. ⌜ r ≡ order-good (board-of width height [] []) across down (now (order .entry)) ⌝ }
+    ensures { λ r. ⌜ r ≡ order-good (board-of width height 1 [] []) across down (now (order .entry)) ⌝ }
 {
     let count = (tiles_along(width, across) * tiles_along(height, down)) as usize;
     if order.len() != count {
@@ -110,7 +111,7 @@ fn order_good(width: u32, height: u32, across: u32, down: u32, order: &[u32]) ->
 // 11 and 12.
 fn tiles_refusal(width: u32, height: u32, across: u32, down: u32, order: &[u32]) -> Refusal
     requires { ⌜ (width ≤ 256) × (height ≤ 256) ⌝ }
-    ensures { λ r. ⌜ r ≡ tiles-refusal (board-of width height [] []) across down (now (order .entry)) ⌝ }
+    ensures { λ r. ⌜ r ≡ tiles-refusal (board-of width height 1 [] []) across down (now (order .entry)) ⌝ }
 {
     if !side_good(across) {
         return cause(11);
@@ -139,7 +140,7 @@ fn stride_outside(stride: u32) -> bool
 // 10, 11 and 12 of what is to be done.
 fn job_refusal(width: u32, height: u32, job: Job, order: &[u32]) -> Refusal
     requires { ⌜ (width ≤ 256) × (height ≤ 256) ⌝ }
-    ensures { λ r. ⌜ r ≡ job-refusal (board-of width height [] []) job (now (order .entry)) ⌝ }
+    ensures { λ r. ⌜ r ≡ job-refusal (board-of width height 1 [] []) job (now (order .entry)) ⌝ }
 {
     match job {
         Job::March { horizon } => {
@@ -194,14 +195,15 @@ pub fn call_refusal(
     board: Refusal,
     width: u32,
     height: u32,
+    storeys: u32,
     job: Job,
     order: &[u32],
     times: usize,
     work: usize,
 ) -> Refusal
-    requires { ⌜ (board .number ≡ 0 → (width ≤ 256) × (height ≤ 256)) ⌝ }
-    ensures { λ r. ⌜ ((slow : List ℕ) (xs : List Start) (paired : Bool) → board ≡ handed-refusal (handed (board-of width height slow xs) paired)
-        → r ≡ refusal (call (handed (board-of width height slow xs) paired) job (now (order .entry)) work) times) ⌝ }
+    requires { ⌜ (board .number ≡ 0 → (width ≤ 256) × (height ≤ 256) × (width * height * storeys ≤ 65536)) ⌝ }
+    ensures { λ r. ⌜ ((slow : List ℕ) (xs : List Start) (paired : Bool) → board ≡ handed-refusal (handed (board-of width height storeys slow xs) paired)
+        → r ≡ refusal (call (handed (board-of width height storeys slow xs) paired) job (now (order .entry)) work) times) ⌝ }
 {
     if board.number != 0 {
         return board;
@@ -210,5 +212,5 @@ pub fn call_refusal(
     if own.number != 0 {
         return own;
     }
-    lists_refusal((width * height) as usize, times, work)
+    lists_refusal(house_size(width, height, storeys), times, work)
 }

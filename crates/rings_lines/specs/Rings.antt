@@ -1,4 +1,4 @@
--- WHAT `rings` PRINTS, byte for byte: "The scenario file" and "Turned down" of document 01, turns as Card 3 of document 02 has them.
+-- WHAT `rings` PRINTS, byte for byte: "The scenario file" and "Turned down" of document 01, turns as Card 3 of document 02 has them, storeys as Card 12.
 use mathlib.Core.Path.{_≡_}
 use mathlib.Core.Bool.{cond}
 use mathlib.Core.List.{List, [], _∷_, _++_}
@@ -22,7 +22,7 @@ turn-text k t = cond (eqb (turn-of t k) never) (45 ∷ []) (decimal (turn-of t k
 unfoldable pub behind : (wide c : ℕ) → ℕ
 behind w c = cond (eqb ((c + 1) % w) 0) 10 32
 
--- a field for each time, from cell c on
+-- a field for each time, from cell c on: row after row and storey after storey
 unfoldable pub rows : (wide ticks c : ℕ) → (times : List ℕ) → List ℕ
 rows w k c [] = []
 rows w k c (t ∷ ts) = (turn-text k t ++ (behind w c ∷ [])) ++ rows w k (c + 1) ts
@@ -34,7 +34,7 @@ head-line x = (decimal (x .width) ++ (32 ∷ [])) ++ ((decimal (x .height) ++ (3
 unfoldable pub refused-line : (number : ℕ) → List ℕ
 refused-line n = (114 ∷ 101 ∷ 102 ∷ 117 ∷ 115 ∷ 101 ∷ 100 ∷ 32 ∷ []) ++ (decimal n ++ (10 ∷ []))
 
--- 20,498 bytes: a board of 1,024 cells can have as many runs and starts
+-- 20,500 bytes: a board of 1,024 cells can have as many runs and starts
 abbrev pub longest : ℕ
 longest = file-size 1024 1024
 

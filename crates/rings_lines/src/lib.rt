@@ -24,7 +24,7 @@ use scenario::runs::wide;
 use tablet::small::small_refusal;
 use text::put_number;
 
-// 20,498 bytes: a board of 1,024 cells can have as many runs and starts.
+// 20,500 bytes: a board of 1,024 cells can have as many runs and starts.
 pub const LONGEST: usize = HEAD + RUN * 1024 + START * 1024;
 
 // The byte behind a cell's field.
@@ -51,7 +51,7 @@ fn put_turn(out: &mut [u8], at: usize, time: u32, ticks: u32, last: u8) -> usize
     put_number(out, at, turn, last)
 }
 
-// A field for each time.
+// A field for each time: the rows of a storey, then those of the next.
 fn put_rows(out: &mut [u8], at: usize, times: &[u32], width: usize, ticks: u32) -> usize
     requires { ⌜ (at + 11 * length (now times) ≤ length (now out)) × (length (now times) ≤ 1024) × (1 ≤ width) × (ticks-good ticks ≡ true) ⌝ }
     ensures put { λ r. ⌜ Put (now (out .entry)) at (rows width ticks 0 (now (times .entry))) (now (out .exit)) r ⌝ }

@@ -29,16 +29,31 @@ pub record Block (wide top bottom left right c : ℕ) : Type 0 where
   pub left-most : left ≤ c % wide
   pub right-most : c % wide < right
 
+-- the cells that lie in some rows and columns of their storey, whichever it is: rows are numbered through all storeys
+pub record Pillar (wide high top bottom left right c : ℕ) : Type 0 where
+  pub top-most : top ≤ c / wide % high
+  pub bottom-most : c / wide % high < bottom
+  pub left-most : left ≤ c % wide
+  pub right-most : c % wide < right
+
+-- those of them in the rows before one
+pub record Pillar-before (wide high top bottom left right row c : ℕ) : Type 0 where
+  pub is : Pillar wide high top bottom left right c
+  pub before : c / wide < row
+
 -- the number of a cell's tile
 abbrev pub tile-in : Shape → (c : ℕ) → ℕ
 tile-in s c = tile-of (land s []) (s .across) (s .down) c
 
--- sides of a board and of its tiles, and lists with room for its cells
+-- sides and storeys of a board, sides of its tiles, and lists with room for its cells
 pub record Fitting (s : Shape) (times work : List ℕ) : Type 0 where
-  pub cells : s .cells ≡ s .width * s .height
+  pub cells : s .cells ≡ s .height * s .storeys * s .width
+  pub few : s .cells ≤ 65536
   pub wide-low : 1 ≤ s .width
   pub wide-high : s .width ≤ 256
+  pub high-low : 1 ≤ s .height
   pub high-high : s .height ≤ 256
+  pub storeys-high : s .storeys ≤ 8
   pub across-low : 1 ≤ s .across
   pub across-high : s .across ≤ 256
   pub down-low : 1 ≤ s .down

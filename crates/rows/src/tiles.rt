@@ -2,14 +2,14 @@
 ghost use mathlib.Core.Path.{_≡_};
 ghost use mathlib.Core.Bool.{true, cond};
 ghost use mathlib.Core.List.{[]};
-ghost use Prim.Native.Nat.{_+_, _≤_, _<_};
+ghost use Prim.Native.Nat.{_+_, _*_, _≤_, _<_};
 ghost use lib.Dec.{eqb};
 ghost use lib.ListN.{length, getD};
 ghost use Rattle.eikonal.specs.Refusals.{order-good};
 ghost use Rattle.eikonal.specs.Inner.Clip.{clip};
 ghost use Rattle.front.specs.Board.{land};
 ghost use Rattle.rows.specs.Lists.{due};
-ghost use Rattle.rows.specs.Rows.{Entered, Everywhere, Block, tile-in, Fitting, Wrote};
+ghost use Rattle.rows.specs.Rows.{Entered, Everywhere, Block, Pillar, tile-in, Fitting, Wrote};
 use super::whole::clip;
 use eikonal::refusals::shorter;
 use front::Shape;
@@ -48,7 +48,7 @@ fn write_row(
     right: usize,
     bound: u32,
 ) -> u32
-    requires { ⌜ Fitting shape (now times) (now work) × (row < shape .height) × (left ≤ right) × (right ≤ shape .width) ⌝ }
+    requires { ⌜ Fitting shape (now times) (now work) × (row < shape .height * shape .storeys) × (left ≤ right) × (right ≤ shape .width) ⌝ }
     ensures { λ r. ⌜ Entered (Block (shape .width) row (row + 1) left right) (due bound (now (work .entry)) (shape .cells))
         (now (times .entry)) (now (times .exit)) r ⌝ }
 {
@@ -61,7 +61,7 @@ fn write_row(
     fill_row(&mut times[a..e], &work[from..end], bound)
 }
 
-// The rows from `top` up to `bottom`.
+// The rows from `top` up to `bottom`, numbered through all storeys.
 fn write_rows(
     times: &mut [u32],
     work: &[u32],
@@ -72,7 +72,7 @@ fn write_rows(
     right: usize,
     bound: u32,
 ) -> u32
-    requires { ⌜ Fitting shape (now times) (now work) × (bottom ≤ shape .height) × (left ≤ right) × (right ≤ shape .width) ⌝ }
+    requires { ⌜ Fitting shape (now times) (now work) × (bottom ≤ shape .height * shape .storeys) × (left ≤ right) × (right ≤ shape .width) ⌝ }
     ensures { λ r. ⌜ Entered (Block (shape .width) top bottom left right) (due bound (now (work .entry)) (shape .cells))
         (now (times .entry)) (now (times .exit)) r ⌝ }
 {
@@ -85,21 +85,56 @@ fn write_rows(
     count
 }
 
-// A tile, cut at the board's edge.
+// The rows from `top` up to `bottom` of every storey.
+fn write_storeys(
+    times: &mut [u32],
+    work: &[u32],
+    shape: Shape,
+    top: usize,
+    bottom: usize,
+    left: usize,
+    right: usize,
+    bound: u32,
+) -> u32
+    requires { ⌜ Fitting shape (now times) (now work) × (top ≤ 1099511627776) × (bottom ≤ shape .height) × (left ≤ right) × (right ≤ shape .width) ⌝ }
+    ensures { λ r. ⌜ Entered (Pillar (shape .width) (shape .height) top bottom left right) (due bound (now (work .entry)) (shape .cells))
+        (now (times .entry)) (now (times .exit)) r ⌝ }
+{
+    let h = shape.height as usize;
+    let lines = h * (shape.storeys as usize);
+    let mut count = 0;
+    let mut first = 0;
+    while first < lines {
+        count += write_rows(
+            times,
+            work,
+            shape,
+            first + top,
+            first + bottom,
+            left,
+            right,
+            bound,
+        );
+        first += h;
+    }
+    count
+}
+
+// A tile, cut at the board's edge. It spans all storeys.
 fn write_tile(times: &mut [u32], work: &[u32], shape: Shape, tile: u32, bound: u32) -> u32
     requires { ⌜ Fitting shape (now times) (now work) ⌝ }
     ensures { λ r. ⌜ Entered (λ c. tile-in shape c ≡ tile) (due bound (now (work .entry)) (shape .cells)) (now (times .entry)) (now (times .exit)) r ⌝ }
 {
     let w = shape.width;
-    let across = shape.across;
-    let down = shape.down;
+    let across = shape.across as usize;
+    let down = shape.down as usize;
     let in_a_row = (w + across - 1) / across;
     let t = tile as usize;
     let top = t / in_a_row * down;
     let left = t % in_a_row * across;
-    let bottom = shorter(top + down, shape.height);
+    let bottom = shorter(top + down, shape.height as usize);
     let right = shorter(left + across, w);
-    write_rows(times, work, shape, top, bottom, left, right, bound)
+    write_storeys(times, work, shape, top, bottom, left, right, bound)
 }
 
 // Every tile, in the order given.

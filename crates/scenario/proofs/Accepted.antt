@@ -38,8 +38,9 @@ module _ (f : List ℕ) (h : Bytes f) where
   head-back : head-size ≤ length f → head-bytes (head-in f) ≡ take head-size f
   unfolding head-bytes head-in
   head-back l =
-      joined 14 4 f _ _ (joined 10 4 f _ _ (joined 6 4 f _ _ (joined 4 2 f _ _ (joined 2 2 f _ _ (two-back f h (omega arith)) (two-at 2 (omega arith)))
-      (two-at 4 (omega arith))) (four-at 6 (omega arith))) (four-at 10 (omega arith))) (four-at 14 (omega arith))
+      joined 16 4 f _ _ (joined 12 4 f _ _ (joined 8 4 f _ _ (joined 6 2 f _ _ (joined 4 2 f _ _ (joined 2 2 f _ _
+      (two-back f h (omega arith)) (two-at 2 (omega arith))) (two-at 4 (omega arith))) (two-at 6 (omega arith)))
+      (four-at 8 (omega arith))) (four-at 12 (omega arith))) (four-at 16 (omega arith))
 
 pub accepted-is-file-of : Accepted-is-file-of
 unfolding Accepted-is-file-of file-of head-of front held size runs-in starts-in
@@ -47,7 +48,7 @@ accepted-is-file-of f h e =
     let a = accepted f e in
     let x = head-in f in
     let base = runs-end (x .runs) in
-    let runs = good-maximal (x .width * x .height) (x .ground) (runs-in f) (a .rest .runs) in
+    let runs = good-maximal (x .width * x .height * x .storeys) (x .ground) (runs-in f) (a .rest .runs) in
     let head = head-back f h (a .front .head) in
     let long = a .front .long in
     let some = write-back run-size run-in run-bytes run-back (x .runs) (drop head-size f) (bytes-drop head-size f h)

@@ -21,7 +21,7 @@ pub reader-zero : (k : Refusal) (f : List ℕ) → k .number ≡ 0 → reader-an
 unfolding reader-answer
 reader-zero k f e = rw (eq-eqb (k .number) 0 e)
 
-pub reader-refused : (k : Refusal) (f : List ℕ) → k .number ≢ 0 → reader-answer k f ≡ scenario k 0 0 0 0 0
+pub reader-refused : (k : Refusal) (f : List ℕ) → k .number ≢ 0 → reader-answer k f ≡ scenario k 0 0 0 0 0 0
 unfolding reader-answer
 reader-refused k f h = rw (ne-eqb (k .number) 0 h)
 

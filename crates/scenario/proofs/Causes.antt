@@ -4,16 +4,15 @@ use mathlib.Core.Bool.{Bool, true, false, _&&_, not}
 use mathlib.Core.List.{List, [], _∷_}
 use Prim.Native.Nat.{ℕ, suc, _+_, _≤_, _<_}
 use native.Mathlib.Omega.{arith}
-use native.Mathlib.Nat.{mul-le-mul}
 use lib.Dec.{ltb, leb}
 use lib.ListN.{length}
 use borrow.Author.Tests.{ltb-false, eqb-true, eq-eqb, leb-true, le-leb, ltb-true, not-false, not-true}
-use Rattle.eikonal.specs.Board.{Board, size}
-use Rattle.eikonal.specs.Refusals.{or-else, sides-good, slows-refusal, late, starts-refusal}
+use Rattle.eikonal.specs.Board.{size}
+use Rattle.eikonal.specs.Refusals.{or-else, sides-good, house-refusal, late, starts-refusal}
 use Rattle.eikonal.specs.Inner.Judge.{starts-rise}
 use Rattle.eikonal.specs.declared.Start.{Start}
 use Rattle.eikonal.proofs.Causes.{fulfilled, neither}
-use Rattle.eikonal.proofs.Good.{and-true, or-false, sides-within}
+use Rattle.eikonal.proofs.Good.{and-true, or-false}
 use Rattle.scenario.specs.Runs.{runs-good}
 use Rattle.scenario.specs.File.{head-size, file-size, head-in, runs-in, held, ticks-good, length-good, head-refusal, runs-refusal, file-refusal}
 use Rattle.scenario.proofs.Records.{All}
@@ -55,16 +54,17 @@ headed f e =
       ticks = fulfilled (ticks-good (x .ticks)) 2 _ (r2 .1) .0;
     }
 
--- 5, 21, 6
+-- 5, 21, 23, 6
 pub record Laid (f : List ℕ) : Type 0 where
-  pub slows : slows-refusal (head-in f .ground ∷ slows-of (runs-in f)) .number ≡ 0
+  pub slows : let x = head-in f in house-refusal (x .width) (x .height) (x .storeys) (x .ground ∷ slows-of (runs-in f)) .number ≡ 0
   pub runs : runs-good (size (held f)) (head-in f .ground) 0 (head-in f .ground) (runs-in f) ≡ true
 
 pub laid : (f : List ℕ) → runs-refusal f .number ≡ 0 → Laid f
 unfolding runs-refusal
 laid f e =
-    let g = head-in f .ground in
-    let r = neither (slows-refusal (g ∷ slows-of (runs-in f))) _ e in
+    let x = head-in f in
+    let g = x .ground in
+    let r = neither (house-refusal (x .width) (x .height) (x .storeys) (g ∷ slows-of (runs-in f))) _ e in
     record { slows = r .0; runs = fulfilled (runs-good (size (held f)) g 0 g (runs-in f)) 5 _ (r .1) .0 }
 
 -- and 7, 18, 8, 9
@@ -93,11 +93,7 @@ accepts f a =
     )
     (a .starts)
 
--- ---- boards
-pub size-most : (b : Board) → sides-good (b .wide) (b .high) ≡ true → size b ≤ 65536
-unfolding size
-size-most b e = let s = sides-within (b .wide) (b .high) e in mul-le-mul (s .1) (s .3)
-
+-- ---- starts
 -- cells that rise are no more than the board has
 pub rise-count : (n l : ℕ) (xs : List Start) → starts-rise n l xs ≡ true → l ≤ n → l + length xs ≤ n
 unfolding starts-rise

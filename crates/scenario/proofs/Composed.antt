@@ -8,7 +8,7 @@ use lib.ListN.{length, take, drop, length-map}
 use lib.Seq.{take-at}
 use borrow.Author.Tests.{eq-eqb, eqb-true, le-ltb, le-leb}
 use Rattle.eikonal.specs.Board.{size}
-use Rattle.eikonal.specs.Refusals.{none, or-else, slows-refusal, Handed, handed, by-records, by-lists, starts-of, cells-of, begins-of}
+use Rattle.eikonal.specs.Refusals.{none, or-else, house-refusal, Handed, handed, by-records, by-lists, starts-of, cells-of, begins-of}
 use Rattle.eikonal.specs.Ledger.{answer}
 use Rattle.eikonal.specs.Promise.{Same-handed, Lists-are-records}
 use Rattle.eikonal.specs.declared.Reply.{Reply}
@@ -34,17 +34,21 @@ taken : (k n : ℕ) (xs old now : List ℕ) → k ≡ 0 → length xs ≡ n → 
 taken k n xs old now e l h = ap (take n) (h ∙ filled-in k xs old e) ∙ take-at xs (drop (length xs) old) n l
 
 -- ---- READ, THEN WRITTEN
-pub slows-held : (f : List ℕ) → Accepted f → slows-refusal (head-in f .ground ∷ held f .slow) .number ≡ 0
+pub slows-held : (f : List ℕ) → Accepted f → let x = head-in f in
+    house-refusal (x .width) (x .height) (x .storeys) (x .ground ∷ held f .slow) .number ≡ 0
 unfolding held
-slows-held f a = let x = head-in f in good-among _ _ (painted-among (x .width * x .height) (x .ground) (runs-in f)) (a .rest .slows)
+slows-held f a =
+    let x = head-in f in
+    good-among (x .width) (x .height) (x .storeys) _ _ (painted-among (x .width * x .height * x .storeys) (x .ground) (runs-in f)) (a .rest .slows)
 
 -- its board as the reader hands it on, in plain lists
 unfoldable pub held-lists : List ℕ → Handed
-held-lists f = by-lists (head-in f .width) (head-in f .height) (held f .slow) (cells-of (starts-in f)) (begins-of (starts-in f))
+held-lists f =
+    by-lists (head-in f .width) (head-in f .height) (head-in f .storeys) (held f .slow) (cells-of (starts-in f)) (begins-of (starts-in f))
 
 pub held-handed : (f : List ℕ) → held-lists f ≡ handed (held f) true
 unfolding held-lists Same-handed by-records held
-held-handed f = same-handed (head-in f .width) (head-in f .height) (held f .slow) (starts-in f)
+held-handed f = same-handed (head-in f .width) (head-in f .height) (head-in f .storeys) (held f .slow) (starts-in f)
 
 module _ (f : List ℕ) (h : Bytes f) (e : file-refusal f .number ≡ 0) where
   held-written : written (held-lists f) (head-in f .ticks) (head-in f .ground) ≡ f
@@ -60,7 +64,7 @@ module _ (f : List ℕ) (h : Bytes f) (e : file-refusal f .number ≡ 0) where
         held-handed f,
         a .front .sides,
         a .front .ticks,
-        eq-eqb (length (held f .slow)) (x .width * x .height) (slow-length f a),
+        eq-eqb (length (held f .slow)) (x .width * x .height * x .storeys) (slow-length f a),
       )
       (slows-held f a)
 
@@ -80,7 +84,7 @@ wrote p t g out out-now f y w e q =
 record Read (f slow-now cells-now begins-now : List ℕ) (x : Scenario) : Type 0 where
   accepted : file-refusal f .number ≡ 0
   is : x ≡ scenario-of (head-in f)
-  slows : take (head-in f .width * head-in f .height) slow-now ≡ held f .slow
+  slows : take (head-in f .width * head-in f .height * head-in f .storeys) slow-now ≡ held f .slow
   cells-are : take (start-count f) cells-now ≡ cells-of (starts-in f)
   begins-are : take (start-count f) begins-now ≡ begins-of (starts-in f)
 
@@ -111,11 +115,11 @@ read-then-write f slow slow-now cells cells-now begins begins-now x out out-now 
 module _ (p : Handed) (t g : ℕ) (k : Taken p t g) where
   found : let f = written p t g in (file-refusal f .number ≡ 0) × (held f ≡ p .board) × (head-in f .ticks ≡ t) × (head-in f .ground ≡ g)
   unfolding File-of-is-accepted written
-  found = file-of-is-accepted (p .board) t g (written p t g) (board-taken k) (k .given .ticks) (ground-alone g (p .board .slow) (k .given .slows)) refl
+  found = file-of-is-accepted (p .board) t g (written p t g) (board-taken k) (k .given .ticks) (ground-alone _ _ _ g (p .board .slow) (k .given .slows)) refl
 
-  found-sides : let x = head-in (written p t g) in (x .width ≡ p .board .wide) × (x .height ≡ p .board .high)
+  found-sides : let x = head-in (written p t g) in (x .width ≡ p .board .wide) × (x .height ≡ p .board .high) × (x .storeys ≡ p .board .storeys)
   unfolding held
-  found-sides = (ap (λ u. u .wide) (found .1), ap (λ u. u .high) (found .1))
+  found-sides = (ap (λ u. u .wide) (found .1), ap (λ u. u .high) (found .1), ap (λ u. u .storeys) (found .1))
 
   found-starts : starts-in (written p t g) ≡ p .board .starts
   unfolding held
@@ -128,13 +132,14 @@ module _ (p : Handed) (t g : ℕ) (k : Taken p t g) where
   unfolding reader-refusal room-good or-else size
   found-refusal n q l m =
       let b = p .board in
-      rw (found .0, found-sides .0, found-sides .1, found-count, le-leb (b .wide * b .high) n (omega (arith, k .given .long)), le-leb (length (b .starts)) q m)
+      let room = le-leb (b .wide * b .high * b .storeys) n (omega (arith, k .given .long)) in
+      rw (found .0, found-sides .0, found-sides .1, found-sides .2, found-count, room, le-leb (length (b .starts)) q m)
 
   found-answer : (n q : ℕ) → length (p .board .slow) ≤ n → length (p .board .starts) ≤ q → let f = written p t g in
-      reader-answer (reader-refusal f n q) f ≡ scenario none (p .board .wide) (p .board .high) t g (length (p .board .starts))
+      reader-answer (reader-refusal f n q) f ≡ scenario none (p .board .wide) (p .board .high) (p .board .storeys) t g (length (p .board .starts))
   unfolding scenario-of
   found-answer n q l m =
-      reader-zero _ (written p t g) (found-refusal n q l m) ∙ rw (found-sides .0, found-sides .1, found .2, found .3, found-count) refl
+      reader-zero _ (written p t g) (found-refusal n q l m) ∙ rw (found-sides .0, found-sides .1, found-sides .2, found .2, found .3, found-count) refl
 
 -- a list that was lent begins with what was entered
 begins-with : (n : ℕ) (xs ys old now : List ℕ) → n ≡ 0 → now ≡ filled n xs old → xs ≡ ys → now ≡ ys ++ drop (length ys) old
@@ -142,8 +147,8 @@ begins-with n xs ys old now z e q = e ∙ filled-in n xs old z ∙ ap (λ u. u +
 
 pub write-then-read : Write-then-read
 unfolding Write-then-read Lists-are-records by-lists cells-of answer scenario
-write-then-read w h t g slow cells begins out out-now y s s-now c c-now b b-now x wr z rd ls lc lb =
-    let p = by-lists w h slow cells begins in
+write-then-read w h storeys t g slow cells begins out out-now y s s-now c c-now b b-now x wr z rd ls lc lb =
+    let p = by-lists w h storeys slow cells begins in
     let taken : writer-refusal p t g (length out) .number ≡ 0 = sym (answered-number _ _) ∙ ap (λ u. u .number) (sym (wr .answers)) ∙ z in
     let k = took p t g (length out) taken .0 in
     let pair = lists-are-records cells begins (eqb-true _ _ (k .given .paired)) in
@@ -154,7 +159,7 @@ write-then-read w h t g slow cells begins out out-now y s s-now c c-now b b-now 
     let r = rw back at rd in
     let is = r .answers ∙ found-answer p t g k (length s) (min (length c) (length b)) ls (omega (arith, many)) in
     let zero = ap (λ u. u .number) is in (
-      is ∙ ap (scenario none w h t g) (sym many),
+      is ∙ ap (scenario none w h storeys t g) (sym many),
       begins-with (x .number) _ slow s s-now zero (r .slow-holds) (ap (λ u. u .slow) (found p t g k .1)),
       begins-with (x .number) _ cells c c-now zero (r .cells-hold) (ap cells-of (found-starts p t g k) ∙ sym (pair .0)),
       begins-with (x .number) _ begins b b-now zero (r .begins-hold) (ap begins-of (found-starts p t g k) ∙ sym (pair .1)),

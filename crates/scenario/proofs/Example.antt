@@ -2,8 +2,10 @@
 use mathlib.Core.Path.{_≡_, refl}
 use mathlib.Core.List.{List, [], _∷_}
 use Prim.Native.Nat.{ℕ, _+_, _*_}
+use lib.ListN.{drop}
 use Rattle.eikonal.specs.Board.{Board, size, slowness, along-row, down-column}
-use Rattle.eikonal.specs.Refusals.{none, or-else, side-good, sides-good, steep, half-wall, any-pair, pairs-refusal, slows-refusal}
+use Rattle.eikonal.specs.Refusals.{cause, none, or-else, side-good, sides-good, steep, half-wall, uneven, any-pair, pairs-refusal, slows-refusal}
+use Rattle.eikonal.specs.Refusals.{storeys-good, ill-stacked, storeys-refusal, house-refusal}
 use Rattle.eikonal.specs.Refusals.{first-fault, late, on-wall, records-refusal, starts-refusal}
 use Rattle.scenario.specs.Bytes.{two, four, two-bytes, four-bytes, records, bytes-of}
 use Rattle.scenario.specs.Runs.{run, end, painted, run-good, runs-good, closed, runs-on, runs-of}
@@ -17,11 +19,11 @@ abbrev other : ℕ
 other = 300 + 65536 * 7
 
 board : Board
-board = record { wide = 4; high = 1; slow = ground ∷ other ∷ other ∷ 0 ∷ []; starts = record { cell = 2; time = 70000 } ∷ [] }
+board = record { wide = 4; high = 1; storeys = 1; slow = ground ∷ other ∷ other ∷ 0 ∷ []; starts = record { cell = 2; time = 70000 } ∷ [] }
 
 bytes : List ℕ
 bytes =
-    4 ∷ 0 ∷ 1 ∷ 0 ∷ 100 ∷ 0 ∷ 10 ∷ 0 ∷ 20 ∷ 0 ∷ 2 ∷ 0 ∷ 0 ∷ 0 ∷ 1 ∷ 0 ∷ 0 ∷ 0
+    4 ∷ 0 ∷ 1 ∷ 0 ∷ 1 ∷ 0 ∷ 100 ∷ 0 ∷ 10 ∷ 0 ∷ 20 ∷ 0 ∷ 2 ∷ 0 ∷ 0 ∷ 0 ∷ 1 ∷ 0 ∷ 0 ∷ 0
     ∷ 1 ∷ 0 ∷ 0 ∷ 0 ∷ 2 ∷ 0 ∷ 0 ∷ 0 ∷ 44 ∷ 1 ∷ 7 ∷ 0
     ∷ 3 ∷ 0 ∷ 0 ∷ 0 ∷ 1 ∷ 0 ∷ 0 ∷ 0 ∷ 0 ∷ 0 ∷ 0 ∷ 0
     ∷ 2 ∷ 0 ∷ 0 ∷ 0 ∷ 112 ∷ 17 ∷ 1 ∷ 0 ∷ []
@@ -30,8 +32,13 @@ its-bytes : file-of 100 ground board ≡ bytes
 unfolding file-of head-of front head-bytes two-bytes four-bytes bytes-of run-bytes start-bytes runs-of runs-on closed run board bytes
 its-bytes = refl
 
-its-refusal : file-refusal bytes ≡ none
-unfolding file-refusal head-refusal runs-refusal length-good sides-good ticks-good or-else side-good slows-refusal pairs-refusal any-pair steep half-wall
-    along-row down-column starts-refusal records-refusal first-fault late on-wall
-    slowness size held head-in runs-in starts-in records run-in start-in run end painted run-good runs-good two four bytes
-its-refusal = refl
+-- as two storeys of 2 by 1 cells
+stacked : List ℕ
+stacked = 2 ∷ 0 ∷ 1 ∷ 0 ∷ 2 ∷ 0 ∷ drop 6 bytes
+
+-- with pairs of unequal numbers it is accepted on one storey alone
+its-refusal : (file-refusal bytes ≡ none) × (file-refusal stacked ≡ cause 23)
+unfolding file-refusal head-refusal runs-refusal length-good sides-good ticks-good or-else side-good house-refusal slows-refusal pairs-refusal any-pair
+    steep half-wall uneven storeys-refusal ill-stacked storeys-good along-row down-column starts-refusal records-refusal first-fault late on-wall
+    slowness size held head-in runs-in starts-in records run-in start-in run end painted run-good runs-good two four bytes stacked
+its-refusal = (refl, refl)

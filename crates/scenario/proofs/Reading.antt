@@ -9,7 +9,7 @@ use borrow.Author.Tests.{leb-true}
 use Rattle.eikonal.specs.Board.{size}
 use Rattle.eikonal.specs.Refusals.{cells-of, begins-of}
 use Rattle.eikonal.proofs.Causes.{fulfilled, neither}
-use Rattle.eikonal.proofs.Good.{and-true}
+use Rattle.eikonal.proofs.Good.{and-true, sides-within}
 use Rattle.scenario.specs.declared.Head.{Head}
 use Rattle.scenario.specs.declared.Scenario.{Scenario}
 use Rattle.scenario.specs.Bytes.{records}
@@ -21,11 +21,11 @@ use Rattle.scenario.proofs.Painted.{length-painted}
 use Rattle.scenario.proofs.Causes.{Headed, Accepted}
 use Rattle.scenario.proofs.Answers.{reader-number, kept}
 
-pub slow-length : (f : List ℕ) → Accepted f → length (held f .slow) ≡ head-in f .width * head-in f .height
+pub slow-length : (f : List ℕ) → Accepted f → let x = head-in f in length (held f .slow) ≡ x .width * x .height * x .storeys
 unfolding held size
 slow-length f a =
     let x = head-in f in
-    length-painted (x .width * x .height) (x .ground) 0 (x .ground) (runs-in f) (a .rest .runs) (omega arith) ∙ omega arith
+    length-painted (x .width * x .height * x .storeys) (x .ground) 0 (x .ground) (runs-in f) (a .rest .runs) (omega arith) ∙ omega arith
 
 pub count-starts : (f : List ℕ) → length (starts-in f) ≡ start-count f
 unfolding starts-in
@@ -44,7 +44,10 @@ module _ (f : List ℕ) (x : Head) (e : x ≡ head-in f) where
   pub file-long : Headed f → length f ≡ file-size (x .runs) (x .starts)
   file-long h = rw e (h .long)
 
-  pub cells-read : (n : ℕ) → n ≡ x .width * x .height → n ≡ size (held f)
+  pub sides-read : Headed f → (x .width ≤ 256) × (x .height ≤ 256)
+  sides-read h = let s = sides-within _ _ (h .sides) in rw e (s .1, s .3)
+
+  pub cells-read : (n : ℕ) → n ≡ x .width * x .height * x .storeys → n ≡ size (held f)
   unfolding held size
   cells-read n p = rw e at p
 

@@ -1,4 +1,4 @@
--- Slownesses that are neither 5 nor 21, and lists that have none but those of a list of such.
+-- Slownesses that are none of 5, 21 and 23, and lists that have none but those of a list of such.
 use mathlib.Core.Path.{_≡_, refl}
 use mathlib.Core.Bool.{Bool, false}
 use mathlib.Core.List.{List, [], _∷_}
@@ -7,8 +7,8 @@ use native.Mathlib.Omega.{arith}
 use lib.Dec.{ltb}
 use borrow.Author.Tests.{ltb-false}
 use Rattle.eikonal.specs.Board.{along-row, down-column}
-use Rattle.eikonal.specs.Refusals.{steep, half-wall, any-pair, pairs-refusal, slows-refusal}
-use Rattle.eikonal.proofs.Good.{or-false, unflawed}
+use Rattle.eikonal.specs.Refusals.{steep, half-wall, uneven, any-pair, house-refusal}
+use Rattle.eikonal.proofs.Good.{or-false, housed, houses}
 
 -- a test spares a list: no entry meets it
 module _ (p : (g h : ℕ) → Bool) where
@@ -44,24 +44,38 @@ slow-fits s ss e =
 abbrev pub Among : (ts ss : List ℕ) → Type 0
 Among ts ss = (p : (g h : ℕ) → Bool) → Spares p ss → Spares p ts
 
-pub good-among : (ts ss : List ℕ) → Among ts ss → slows-refusal ss .number ≡ 0 → slows-refusal ts .number ≡ 0
-unfolding slows-refusal pairs-refusal
-good-among ts ss a e = let r = unflawed (any-pair steep ss) (any-pair half-wall ss) e in rw (a steep (r .0), a half-wall (r .1))
+module _ (w h s : ℕ) where
+  abbrev Good : List ℕ → Type 0
+  Good ss = house-refusal w h s ss .number ≡ 0
 
-pub none-steep : (ss : List ℕ) → slows-refusal ss .number ≡ 0 → Spares steep ss
-unfolding slows-refusal
-none-steep ss e = unflawed (any-pair steep ss) (any-pair half-wall ss) e .0
+  pub good-among : (ts ss : List ℕ) → Among ts ss → Good ss → Good ts
+  good-among ts ss a e =
+      let k = housed w h s ss e in
+      houses w h s ts (record {
+        gentle = a steep (k .gentle);
+        whole = a half-wall (k .whole);
+        low = k .low;
+        high = k .high;
+        few = k .few;
+        level = λ l. a uneven (k .level l);
+      })
 
--- THE GROUND AND A BOARD'S CELLS, each good and both
-pub ground-alone : (g : ℕ) (ss : List ℕ) → slows-refusal (g ∷ ss) .number ≡ 0 → slows-refusal (g ∷ []) .number ≡ 0
-ground-alone g ss e = good-among (g ∷ []) (g ∷ ss) (λ p h. spares-more p g ss [] h (spares-none p)) e
+  -- THE GROUND AND A BOARD'S CELLS, each good and both
+  pub ground-alone : (g : ℕ) (ss : List ℕ) → Good (g ∷ ss) → Good (g ∷ [])
+  ground-alone g ss e = good-among (g ∷ []) (g ∷ ss) (λ p r. spares-more p g ss [] r (spares-none p)) e
 
-pub cells-alone : (g : ℕ) (ss : List ℕ) → slows-refusal (g ∷ ss) .number ≡ 0 → slows-refusal ss .number ≡ 0
-cells-alone g ss e = good-among ss (g ∷ ss) (λ p. spares-rest p g ss) e
+  pub cells-alone : (g : ℕ) (ss : List ℕ) → Good (g ∷ ss) → Good ss
+  cells-alone g ss e = good-among ss (g ∷ ss) (λ p. spares-rest p g ss) e
 
-pub with-ground : (g : ℕ) (ss : List ℕ) → slows-refusal (g ∷ []) .number ≡ 0 → slows-refusal ss .number ≡ 0 → slows-refusal (g ∷ ss) .number ≡ 0
-unfolding slows-refusal pairs-refusal
-with-ground g ss e f =
-    let r = unflawed (any-pair steep (g ∷ [])) (any-pair half-wall (g ∷ [])) e in
-    let s = unflawed (any-pair steep ss) (any-pair half-wall ss) f in
-    rw (spares-more steep g [] ss (r .0) (s .0), spares-more half-wall g [] ss (r .1) (s .1))
+  pub with-ground : (g : ℕ) (ss : List ℕ) → Good (g ∷ []) → Good ss → Good (g ∷ ss)
+  with-ground g ss e f =
+      let r = housed w h s (g ∷ []) e in
+      let k = housed w h s ss f in
+      houses w h s (g ∷ ss) (record {
+        gentle = spares-more steep g [] ss (r .gentle) (k .gentle);
+        whole = spares-more half-wall g [] ss (r .whole) (k .whole);
+        low = k .low;
+        high = k .high;
+        few = k .few;
+        level = λ l. spares-more uneven g [] ss (r .level l) (k .level l);
+      })

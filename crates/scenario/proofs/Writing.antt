@@ -10,7 +10,7 @@ use lib.ListN.{length, take, drop, length-append, length-drop}
 use lib.Seq.{take-at, drop-at, drop-drop}
 use borrow.Author.Tests.{eq-eqb, eqb-true, lt-ltb, le-ltb, ltb-false}
 use Rattle.eikonal.specs.Board.{size}
-use Rattle.eikonal.specs.Refusals.{cause, none, or-else, sides-good, slows-refusal, starts-refusal, handed-refusal, board-refusal, Handed}
+use Rattle.eikonal.specs.Refusals.{cause, none, or-else, sides-good, house-refusal, starts-refusal, handed-refusal, board-refusal, Handed}
 use Rattle.eikonal.specs.Ledger.{answer, answered}
 use Rattle.eikonal.specs.Inner.Judge.{judged-refusal}
 use Rattle.eikonal.specs.declared.Refusal.{Refusal}
@@ -18,7 +18,7 @@ use Rattle.eikonal.specs.declared.Reply.{Reply}
 use Rattle.eikonal.specs.declared.Start.{Start}
 use Rattle.eikonal.specs.declared.refusals.Judged.{Judged}
 use Rattle.eikonal.proofs.Causes.{fulfilled, passed, neither, caused, spared, first, next}
-use Rattle.eikonal.proofs.Good.{and-true, sound}
+use Rattle.eikonal.proofs.Good.{and-true, housed, sound}
 use Rattle.eikonal.proofs.Judging.{judge-refuses}
 use Rattle.eikonal.proofs.Answers.{answered-number, answered-zero, answered-refused}
 use Rattle.scenario.specs.Bytes.{bytes-of}
@@ -27,17 +27,17 @@ use Rattle.scenario.specs.File.{start-size, runs-end, file-size, start-b
 use Rattle.scenario.specs.Calls.{filled, given-refusal, written, writer-refusal, Writes}
 use Rattle.scenario.specs.Inner.Begin.{given-by, Judges, Begins}
 use Rattle.scenario.proofs.Slows.{cells-alone}
-use Rattle.scenario.proofs.Causes.{size-most, rise-count}
+use Rattle.scenario.proofs.Causes.{rise-count}
 use Rattle.scenario.proofs.Answers.{filled-in, kept}
 use Rattle.scenario.proofs.Written.{starts-length, front-length, length-file}
 
--- ---- a board that is not refused: by 2, 3, 4, 5, 21, and by its starts
+-- ---- a board that is not refused: by 2, 3, 4, 5, 21, 23, and by its starts
 pub record Given (p : Handed) (t g : ℕ) : Type 0 where
   pub sides : sides-good (p .board .wide) (p .board .high) ≡ true
   pub ticks : ticks-good t ≡ true
   pub paired : p .paired ≡ true
   pub long : length (p .board .slow) ≡ size (p .board)
-  pub slows : slows-refusal (g ∷ p .board .slow) .number ≡ 0
+  pub slows : let b = p .board in house-refusal (b .wide) (b .high) (b .storeys) (g ∷ b .slow) .number ≡ 0
 
 pub record Taken (p : Handed) (t g : ℕ) : Type 0 where
   pub given : Given p t g
@@ -88,54 +88,58 @@ module _ {p : Handed} {t g : ℕ} (k : Taken p t g) where
   unfolding handed-refusal or-else
   board-taken =
       let b = p .board in
-      rw (k .given .sides, eq-eqb (length (b .slow)) (size b) (k .given .long), cells-alone g (b .slow) (k .given .slows)) (k .starts)
+      rw (k .given .sides, eq-eqb (length (b .slow)) (size b) (k .given .long), cells-alone _ _ _ g (b .slow) (k .given .slows)) (k .starts)
+
+  size-most : size (p .board) ≤ 65536
+  unfolding size
+  size-most = housed _ _ _ _ (k .given .slows) .few
 
   pub slow-most : length (p .board .slow) ≤ 65536
-  slow-most = omega (arith, k .given .long, size-most (p .board) (k .given .sides))
+  slow-most = omega (arith, k .given .long, size-most)
 
   pub starts-most : length (p .board .starts) ≤ 65536
   starts-most =
       let b = p .board in
-      omega (arith, size-most b (k .given .sides), rise-count (size b) 0 (b .starts) (sound b (k .starts) .rise) (omega arith))
+      omega (arith, size-most, rise-count (size b) 0 (b .starts) (sound b (k .starts) .rise) (omega arith))
 
 pub written-length : (p : Handed) (t g : ℕ) → length (written p t g) ≡ file-size (length (runs-of g (p .board .slow))) (length (p .board .starts))
 unfolding written
 written-length p t g = length-file t g (p .board)
 
 -- ---- the first part: its ways out, whatever the starts are that were judged
-module _ {ss : List ℕ} {cells begins : ℕ} {j : Judged} {xs : List Start} (js : Judges ss cells begins j xs) (w h t g : ℕ)
-    (z : given-refusal (given-by w h ss cells begins xs) t g .number ≡ 0) where
+module _ {ss : List ℕ} {cells begins : ℕ} {j : Judged} {xs : List Start} (js : Judges ss cells begins j xs) (w h s t g : ℕ)
+    (z : given-refusal (given-by w h s ss cells begins xs) t g .number ≡ 0) where
   -- the judgement is the starts' refusal
-  pub judges-starts : judged-refusal j ≡ starts-refusal (given-by w h ss cells begins xs .board)
-  judges-starts = let p = given-by w h ss cells begins xs in ap judged-refusal (js .is) ∙ judge-refuses (p .board) (gave p t g z .long)
+  pub judges-starts : judged-refusal j ≡ starts-refusal (given-by w h s ss cells begins xs .board)
+  judges-starts = let p = given-by w h s ss cells begins xs in ap judged-refusal (js .is) ∙ judge-refuses (p .board) (gave p t g z .long)
 
   pub judges-many : length xs ≡ cells
-  judges-many = js .many (eqb-true cells begins (gave (given-by w h ss cells begins xs) t g z .paired))
+  judges-many = js .many (eqb-true cells begins (gave (given-by w h s ss cells begins xs) t g z .paired))
 
-  pub judges-taken : judged-refusal j .number ≡ 0 → Taken (given-by w h ss cells begins xs) t g
-  judges-taken y = record { given = gave (given-by w h ss cells begins xs) t g z; starts = sym (ap (λ u. u .number) judges-starts) ∙ y }
+  pub judges-taken : judged-refusal j .number ≡ 0 → Taken (given-by w h s ss cells begins xs) t g
+  judges-taken y = record { given = gave (given-by w h s ss cells begins xs) t g z; starts = sym (ap (λ u. u .number) judges-starts) ∙ y }
 
-  pub judges-length : length (written (given-by w h ss cells begins xs) t g) ≡ file-size (length (runs-of g ss)) cells
-  judges-length = written-length (given-by w h ss cells begins xs) t g ∙ ap (file-size (length (runs-of g ss))) judges-many
+  pub judges-length : length (written (given-by w h s ss cells begins xs) t g) ≡ file-size (length (runs-of g ss)) cells
+  judges-length = written-length (given-by w h s ss cells begins xs) t g ∙ ap (file-size (length (runs-of g ss))) judges-many
 
-module _ (w h t g : ℕ) (ss : List ℕ) (cells begins : ℕ) (j : Judged) (out : List ℕ) (x : Reply) where
+module _ (w h s t g : ℕ) (ss : List ℕ) (cells begins : ℕ) (j : Judged) (out : List ℕ) (x : Reply) where
   pub begins-refused : (k : Refusal) → k .number ≢ 0 → x ≡ answer k 0
-      → ((xs : List Start) → Judges ss cells begins j xs → k ≡ writer-refusal (given-by w h ss cells begins xs) t g (length out))
-      → Begins w h t g ss cells begins j out out x
+      → ((xs : List Start) → Judges ss cells begins j xs → k ≡ writer-refusal (given-by w h s ss cells begins xs) t g (length out))
+      → Begins w h s t g ss cells begins j out out x
   unfolding answer
   begins-refused k n q f = record {
-    answers = λ xs js. q ∙ sym (answered-refused k (length (written (given-by w h ss cells begins xs) t g)) n) ∙ ap₂ answered (f xs js) refl;
+    answers = λ xs js. q ∙ sym (answered-refused k (length (written (given-by w h s ss cells begins xs) t g)) n) ∙ ap₂ answered (f xs js) refl;
     leaves = kept (x .number) _ out (λ z. n (sym (ap (λ u. u .number) q) ∙ z));
   }
 
   pub begins-done : (need : ℕ) → x ≡ answer none need
-      → ((xs : List Start) → Judges ss cells begins j xs → let p = given-by w h ss cells begins xs in
+      → ((xs : List Start) → Judges ss cells begins j xs → let p = given-by w h s ss cells begins xs in
       (none ≡ writer-refusal p t g (length out)) × (length (written p t g) ≡ need))
-      → (now : List ℕ) → now ≡ filled 0 (front (head-of w h t g ss cells) ss) out → Begins w h t g ss cells begins j out now x
+      → (now : List ℕ) → now ≡ filled 0 (front (head-of w h s t g ss cells) ss) out → Begins w h s t g ss cells begins j out now x
   unfolding answer
   begins-done need q f now e = record {
     answers = λ xs js. q ∙ ap (answer none) (sym (f xs js .1)) ∙ sym (answered-zero none _ refl) ∙ ap₂ answered (f xs js .0) refl;
-    leaves = e ∙ ap (λ u. filled u (front (head-of w h t g ss cells) ss) out) (sym (ap (λ u. u .number) q));
+    leaves = e ∙ ap (λ u. filled u (front (head-of w h s t g ss cells) ss) out) (sym (ap (λ u. u .number) q));
   }
 
 -- ---- the second part: the starts behind it
@@ -147,41 +151,41 @@ pub record Awaits (g : ℕ) (ss : List ℕ) (cells begins : ℕ) (xs : List Star
   pub fits : x .count ≤ length out
   pub long : length mid ≡ length out
 
-module _ {w h t g : ℕ} {ss : List ℕ} {cells begins : ℕ} {j : Judged} {out mid : List ℕ} {x : Reply} (b : Begins w h t g ss cells begins j out mid x)
+module _ {w h s t g : ℕ} {ss : List ℕ} {cells begins : ℕ} {j : Judged} {out mid : List ℕ} {x : Reply} (b : Begins w h s t g ss cells begins j out mid x)
     {xs : List Start} (js : Judges ss cells begins j xs) where
-  pub writes-none : x .number ≢ 0 → Writes (given-by w h ss cells begins xs) t g out mid x
+  pub writes-none : x .number ≢ 0 → Writes (given-by w h s ss cells begins xs) t g out mid x
   writes-none n = record { answers = b .answers xs js; leaves = b .leaves ∙ sym (kept (x .number) _ out n) ∙ kept (x .number) _ out n }
 
   module _ (z : x .number ≡ 0) where
-    mid-is : mid ≡ front (head-of w h t g ss cells) ss ++ drop (length (front (head-of w h t g ss cells) ss)) out
+    mid-is : mid ≡ front (head-of w h s t g ss cells) ss ++ drop (length (front (head-of w h s t g ss cells) ss)) out
     mid-is = b .leaves ∙ filled-in (x .number) _ out z
 
     pub awaits : Awaits g ss cells begins xs out mid x
     unfolding answer head-of
     awaits =
-        let p = given-by w h ss cells begins xs in
+        let p = given-by w h s ss cells begins xs in
         let zero = sym (answered-number _ _) ∙ ap (λ u. u .number) (sym (b .answers xs js)) ∙ z in
         let k = took p t g (length out) zero in
         let pairs = eqb-true cells begins (k .0 .given .paired) in
         let count : x .count ≡ length (written p t g) = ap (λ u. u .count) (b .answers xs js ∙ answered-zero _ _ zero) in
         let r = length (runs-of g ss) in
         let size : x .count ≡ file-size r cells = count ∙ written-length p t g ∙ ap (file-size r) (js .many pairs) in
-        let y = front (head-of w h t g ss cells) ss in
-        let before = front-length (head-of w h t g ss cells) ss in
+        let y = front (head-of w h s t g ss cells) ss in
+        let before = front-length (head-of w h s t g ss cells) ss in
         let long : length mid ≡ length out =
         ap length mid-is ∙ length-append y (drop (length y) out) ∙ simp length-drop (omega (arith, before, size, count, k .1)) in
         record { pairs = pairs; many = js .many pairs; count = size; fits = omega (arith, count, k .1); long = long }
 
     pub writes-all : (at : ℕ) (now : List ℕ) → at ≡ runs-end (length (runs-of g ss))
-        → now ≡ take at mid ++ (bytes-of start-bytes xs ++ drop (at + start-size * cells) mid) → Writes (given-by w h ss cells begins xs) t g out now x
+        → now ≡ take at mid ++ (bytes-of start-bytes xs ++ drop (at + start-size * cells) mid) → Writes (given-by w h s ss cells begins xs) t g out now x
     unfolding written file-of head-of
     writes-all at now e f = record { answers = b .answers xs js; leaves = f ∙ whole ∙ sym (filled-in (x .number) (written p t g) out z) }
       where
         p : Handed
-        p = given-by w h ss cells begins xs
+        p = given-by w h s ss cells begins xs
 
         a : List ℕ
-        a = front (head-of w h t g ss cells) ss
+        a = front (head-of w h s t g ss cells) ss
 
         ys : List ℕ
         ys = bytes-of start-bytes xs
@@ -190,7 +194,7 @@ module _ {w h t g : ℕ} {ss : List ℕ} {cells begins : ℕ} {j : Judged} {out 
         many = awaits .many
 
         at-is : length a ≡ at
-        at-is = front-length (head-of w h t g ss cells) ss ∙ sym e
+        at-is = front-length (head-of w h s t g ss cells) ss ∙ sym e
 
         long : length (a ++ ys) ≡ length a + start-size * cells
         long = length-append a ys ∙ ap (λ u. length a + u) (starts-length xs ∙ ap (λ u. start-size * u) many)
@@ -204,4 +208,4 @@ module _ {w h t g : ℕ} {ss : List ℕ} {cells begins : ℕ} {j : Judged} {out 
         whole =
             ap₂ (λ u v. u ++ (ys ++ v)) (ap (take at) mid-is ∙ take-at a (drop (length a) out) at at-is) rest
             ∙ sym (append-assoc a ys (drop (length (a ++ ys)) out))
-            ∙ ap (λ q. (front (head-of w h t g ss q) ss ++ ys) ++ drop (length (front (head-of w h t g ss q) ss ++ ys)) out) (sym many)
+            ∙ ap (λ q. (front (head-of w h s t g ss q) ss ++ ys) ++ drop (length (front (head-of w h s t g ss q) ss ++ ys)) out) (sym many)

@@ -10,9 +10,9 @@ use lib.Seq.{drop-at, drop-drop}
 use borrow.Author.Tests.{eqb-true}
 use Rattle.eikonal.specs.Board.{Board, size}
 use Rattle.eikonal.specs.declared.Start.{Start}
-use Rattle.eikonal.specs.Refusals.{sides-good, steep, slows-refusal, starts-refusal, handed-refusal, board-refusal}
+use Rattle.eikonal.specs.Refusals.{sides-good, steep, house-refusal, starts-refusal, handed-refusal, board-refusal}
 use Rattle.eikonal.proofs.Causes.{fulfilled, neither}
-use Rattle.eikonal.proofs.Good.{sides-within, Sound, sound}
+use Rattle.eikonal.proofs.Good.{sides-within, Housed, housed, Sound, sound}
 use Rattle.scenario.specs.Bytes.{two, four, two-bytes, four-bytes, bytes-of}
 use Rattle.scenario.specs.declared.Head.{Head}
 use Rattle.scenario.specs.declared.Run.{Run}
@@ -22,18 +22,19 @@ use Rattle.scenario.specs.File.{head-in, run-in, start-in, runs-in, star
 use Rattle.scenario.specs.Promise.{File-of-is-accepted}
 use Rattle.scenario.proofs.Numbers.{two-front, four-front}
 use Rattle.scenario.proofs.Records.{read-back, length-bytes}
-use Rattle.scenario.proofs.Slows.{Spares, spares-rest, slow-fits, good-among, none-steep, with-ground}
+use Rattle.scenario.proofs.Slows.{Spares, spares-rest, slow-fits, good-among, with-ground}
 use Rattle.scenario.proofs.GoodRuns as GoodRuns
 use Rattle.scenario.proofs.GoodRuns.{runs-of-good, slows-of, runs-of-among, runs-of-count}
 use Rattle.scenario.proofs.Painted.{painted-runs}
 use Rattle.scenario.proofs.Causes as Causes
-use Rattle.scenario.proofs.Causes.{accepts, rise-count, size-most, some-ticks}
+use Rattle.scenario.proofs.Causes.{accepts, rise-count, some-ticks}
 
 -- ---- a head, a run and a start come back from their bytes
 -- the numbers of a head fit their bytes
 record Small (x : Head) : Type 0 where
   width : x .width < 65536
   height : x .height < 65536
+  storeys : x .storeys < 65536
   ticks : x .ticks < 65536
   ground : x .ground < 4294967296
   runs : x .runs < 4294967296
@@ -44,6 +45,7 @@ unfolding head-in head-bytes four-bytes two-bytes four two
 head-front x bs s = λ i. record {
   width = two-front (x .width) [] (s .width) i;
   height = two-front (x .height) [] (s .height) i;
+  storeys = two-front (x .storeys) [] (s .storeys) i;
   ticks = two-front (x .ticks) [] (s .ticks) i;
   ground = four-front (x .ground) [] (s .ground) i;
   runs = four-front (x .runs) [] (s .runs) i;
@@ -102,14 +104,14 @@ front-length x ss =
 pub length-file : (t g : ℕ) (b : Board) → length (file-of t g b) ≡ file-size (length (runs-of g (b .slow))) (length (b .starts))
 unfolding file-of head-of
 length-file t g b =
-    let x = head-of (b .wide) (b .high) t g (b .slow) (length (b .starts)) in
+    let x = head-of (b .wide) (b .high) (b .storeys) t g (b .slow) (length (b .starts)) in
     omega (arith, length-append (front x (b .slow)) (bytes-of start-bytes (b .starts)), front-length x (b .slow), starts-length (b .starts))
 
 -- ---- a board that is not refused
 record Given (b : Board) : Type 0 where
   sides : sides-good (b .wide) (b .high) ≡ true
   long : length (b .slow) ≡ size b
-  slows : slows-refusal (b .slow) .number ≡ 0
+  slows : house-refusal (b .wide) (b .high) (b .storeys) (b .slow) .number ≡ 0
   starts : starts-refusal b .number ≡ 0
 
 given : (b : Board) → board-refusal b .number ≡ 0 → Given b
@@ -117,15 +119,15 @@ unfolding handed-refusal
 given b e =
     let r2 = fulfilled (sides-good (b .wide) (b .high)) 1 _ e in
     let r4 = fulfilled (eqb (length (b .slow)) (size b)) 3 _ (r2 .1) in
-    let r = neither (slows-refusal (b .slow)) _ (r4 .1) in
+    let r = neither (house-refusal (b .wide) (b .high) (b .storeys) (b .slow)) _ (r4 .1) in
     record { sides = r2 .0; long = eqb-true (length (b .slow)) (size b) (r4 .0); slows = r .0; starts = r .1 }
 
-module _ (b : Board) (t g : ℕ) (a : Given b) (tl : t ≤ 65535) (gg : slows-refusal (g ∷ []) .number ≡ 0) where
+module _ (b : Board) (t g : ℕ) (a : Given b) (tl : t ≤ 65535) (gg : house-refusal (b .wide) (b .high) (b .storeys) (g ∷ []) .number ≡ 0) where
   rs : List Run
   rs = runs-of g (b .slow)
 
   x : Head
-  x = head-of (b .wide) (b .high) t g (b .slow) (length (b .starts))
+  x = head-of (b .wide) (b .high) (b .storeys) t g (b .slow) (length (b .starts))
 
   f : List ℕ
   f = head-bytes x ++ (bytes-of run-bytes rs ++ bytes-of start-bytes (b .starts))
@@ -134,9 +136,6 @@ module _ (b : Board) (t g : ℕ) (a : Given b) (tl : t ≤ 65535) (gg : slows-re
   unfolding file-of front head-of x f rs
   is-file = append-assoc (head-bytes x) (bytes-of run-bytes rs) (bytes-of start-bytes (b .starts))
 
-  n-most : size b ≤ 65536
-  n-most = size-most b (a .sides)
-
   starts-sound : Sound b
   starts-sound = sound b (a .starts)
 
@@ -144,18 +143,27 @@ module _ (b : Board) (t g : ℕ) (a : Given b) (tl : t ≤ 65535) (gg : slows-re
   unfolding rs
   good = rw (a .long) at (runs-of-good g (b .slow))
 
-  slows : slows-refusal (g ∷ slows-of rs) .number ≡ 0
+  slows : house-refusal (b .wide) (b .high) (b .storeys) (g ∷ slows-of rs) .number ≡ 0
   unfolding rs
-  slows = good-among (g ∷ slows-of (runs-of g (b .slow))) (g ∷ b .slow) (runs-of-among g (b .slow)) (with-ground g (b .slow) gg (a .slows))
+  slows =
+      good-among _ _ _ (g ∷ slows-of (runs-of g (b .slow))) (g ∷ b .slow) (runs-of-among g (b .slow)) (with-ground _ _ _ g (b .slow) gg (a .slows))
+
+  house : Housed (b .wide) (b .high) (b .storeys) (g ∷ slows-of rs)
+  house = housed _ _ _ _ slows
 
   gentle : Spares steep (g ∷ slows-of rs)
-  gentle = none-steep (g ∷ slows-of rs) slows
+  gentle = house .gentle
+
+  n-most : size b ≤ 65536
+  unfolding size
+  n-most = house .few
 
   head-small : Small x
   unfolding x head-of
   head-small = record {
     width = omega (arith, sides-within (b .wide) (b .high) (a .sides) .1);
     height = omega (arith, sides-within (b .wide) (b .high) (a .sides) .3);
+    storeys = omega (arith, house .high);
     ticks = omega arith;
     ground = slow-fits g (slows-of rs) gentle;
     runs = omega (arith, runs-of-count g (b .slow), a .long, n-most);
@@ -190,7 +198,7 @@ module _ (b : Board) (t g : ℕ) (a : Given b) (tl : t ≤ 65535) (gg : slows-re
       )
       (read-back start-size start-in start-bytes Causes.Small start-front start-next (b .starts) [] small)
 
-  holds-slow : painted g 0 (b .wide * b .high) rs ≡ b .slow
+  holds-slow : painted g 0 (b .wide * b .high * b .storeys) rs ≡ b .slow
   unfolding rs size
   holds-slow = rw (a .long) at (painted-runs g (b .slow))
 

@@ -6,7 +6,7 @@ use Prim.Native.Nat.{ℕ, _*_, min}
 use lib.Dec.{ltb, leb, eqb}
 use lib.ListN.{length, drop}
 use Rattle.eikonal.specs.Board.{size}
-use Rattle.eikonal.specs.Refusals.{cause, none, or-else, sides-good, slows-refusal, starts-refusal, Handed, cells-of, begins-of}
+use Rattle.eikonal.specs.Refusals.{cause, none, or-else, sides-good, house-refusal, starts-refusal, Handed, cells-of, begins-of}
 use Rattle.eikonal.specs.Ledger.{answered}
 use Rattle.eikonal.specs.declared.Refusal.{Refusal}
 use Rattle.eikonal.specs.declared.Reply.{Reply}
@@ -20,19 +20,19 @@ filled k xs old = cond (eqb k 0) (xs ++ drop (length xs) old) old
 
 -- THE READER: 14 is for a slowness list under N and start lists under q
 unfoldable pub room-good : Head → (slows starts : ℕ) → Bool
-room-good x n q = leb (x .width * x .height) n && leb (x .starts) q
+room-good x n q = leb (x .width * x .height * x .storeys) n && leb (x .starts) q
 
 unfoldable pub reader-refusal : List ℕ → (slows starts : ℕ) → Refusal
 reader-refusal f n q = or-else (file-refusal f) (cond (not (room-good (head-in f) n q)) (cause 14) none)
 
-unfoldable pub scenario : Refusal → (width height ticks ground starts : ℕ) → Scenario
-scenario k w h t g q = record { number = k .number; width = w; height = h; ticks = t; ground = g; starts = q; place = k .place }
+unfoldable pub scenario : Refusal → (width height storeys ticks ground starts : ℕ) → Scenario
+scenario k w h s t g q = record { number = k .number; width = w; height = h; storeys = s; ticks = t; ground = g; starts = q; place = k .place }
 
 unfoldable pub scenario-of : Head → Scenario
-scenario-of x = scenario none (x .width) (x .height) (x .ticks) (x .ground) (x .starts)
+scenario-of x = scenario none (x .width) (x .height) (x .storeys) (x .ticks) (x .ground) (x .starts)
 
 unfoldable pub reader-answer : Refusal → List ℕ → Scenario
-reader-answer k f = cond (eqb (k .number) 0) (scenario-of (head-in f)) (scenario k 0 0 0 0 0)
+reader-answer k f = cond (eqb (k .number) 0) (scenario-of (head-in f)) (scenario k 0 0 0 0 0 0)
 
 pub record Reads (f slow slow-now cells cells-now begins begins-now : List ℕ) (x : Scenario) : Type 0 where
   pub answers : x ≡ reader-answer (reader-refusal f (length slow) (min (length cells) (length begins))) f
@@ -40,13 +40,13 @@ pub record Reads (f slow slow-now cells cells-now begins begins-now : List ℕ) 
   pub cells-hold : cells-now ≡ filled (x .number) (cells-of (starts-in f)) cells
   pub begins-hold : begins-now ≡ filled (x .number) (begins-of (starts-in f)) begins
 
--- THE WRITER: 2, 3, 4, 5, 21 of what is handed in
+-- THE WRITER: 2, 3, 4, 5, 21, 23 of what is handed in
 unfoldable pub given-refusal : Handed → (ticks ground : ℕ) → Refusal
 given-refusal p t g =
     let b = p .board in
     cond (not (sides-good (b .wide) (b .high))) (cause 2)
     (cond (not (ticks-good t)) (cause 3)
-    (cond (not (p .paired && eqb (length (b .slow)) (size b))) (cause 4) (slows-refusal (g ∷ b .slow))))
+    (cond (not (p .paired && eqb (length (b .slow)) (size b))) (cause 4) (house-refusal (b .wide) (b .high) (b .storeys) (g ∷ b .slow))))
 
 unfoldable pub written : Handed → (ticks ground : ℕ) → List ℕ
 written p t g = file-of t g (p .board)

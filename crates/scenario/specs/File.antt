@@ -6,7 +6,7 @@ use lib.Dec.{leb, eqb}
 use lib.ListN.{length, drop}
 use Rattle.eikonal.specs.Board.{Board, board-of, size}
 use Rattle.eikonal.specs.declared.Start.{Start}
-use Rattle.eikonal.specs.Refusals.{cause, none, or-else, sides-good, slows-refusal, starts-refusal}
+use Rattle.eikonal.specs.Refusals.{cause, none, or-else, sides-good, house-refusal, starts-refusal}
 use Rattle.eikonal.specs.declared.Refusal.{Refusal}
 use Rattle.scenario.specs.Bytes.{two, four, two-bytes, four-bytes, records, bytes-of}
 use Rattle.scenario.specs.declared.Head.{Head}
@@ -15,7 +15,7 @@ use Rattle.scenario.specs.Runs.{run, painted, runs-good, runs-of}
 
 -- HOW MANY BYTES a head, a run and a start have; where so many runs end, and where the file does
 abbrev pub head-size : ℕ
-head-size = 18
+head-size = 20
 
 abbrev pub run-size : ℕ
 run-size = 12
@@ -32,7 +32,8 @@ file-size r q = runs-end r + start-size * q
 -- THEIR BYTES
 unfoldable pub head-bytes : Head → List ℕ
 head-bytes x =
-    two-bytes (x .width) ++ two-bytes (x .height) ++ two-bytes (x .ticks) ++ four-bytes (x .ground) ++ four-bytes (x .runs) ++ four-bytes (x .starts)
+    two-bytes (x .width) ++ two-bytes (x .height) ++ two-bytes (x .storeys) ++ two-bytes (x .ticks) ++ four-bytes (x .ground) ++ four-bytes (x .runs)
+    ++ four-bytes (x .starts)
 
 unfoldable pub run-bytes : Run → List ℕ
 run-bytes x = four-bytes (x .offset) ++ four-bytes (x .long) ++ four-bytes (x .slow)
@@ -41,8 +42,8 @@ unfoldable pub start-bytes : Start → List ℕ
 start-bytes x = four-bytes (x .cell) ++ four-bytes (x .time)
 
 -- the head of a board with so many starts, and all bytes in front of these
-unfoldable pub head-of : (w h ticks ground : ℕ) → (slow : List ℕ) → (starts : ℕ) → Head
-head-of w h t g ss q = record { width = w; height = h; ticks = t; ground = g; runs = length (runs-of g ss); starts = q }
+unfoldable pub head-of : (w h storeys ticks ground : ℕ) → (slow : List ℕ) → (starts : ℕ) → Head
+head-of w h s t g ss q = record { width = w; height = h; storeys = s; ticks = t; ground = g; runs = length (runs-of g ss); starts = q }
 
 unfoldable pub front : Head → (slow : List ℕ) → List ℕ
 front x ss = head-bytes x ++ bytes-of run-bytes (runs-of (x .ground) ss)
@@ -50,17 +51,18 @@ front x ss = head-bytes x ++ bytes-of run-bytes (runs-of (x .ground) ss)
 -- THE ONE FILE that fits a board, its ticks per turn and its ground
 unfoldable pub file-of : (ticks ground : ℕ) → Board → List ℕ
 file-of t g b =
-    front (head-of (b .wide) (b .high) t g (b .slow) (length (b .starts))) (b .slow) ++ bytes-of start-bytes (b .starts)
+    front (head-of (b .wide) (b .high) (b .storeys) t g (b .slow) (length (b .starts))) (b .slow) ++ bytes-of start-bytes (b .starts)
 
 -- WHAT A FILE HOLDS
 unfoldable pub head-in : List ℕ → Head
 head-in f = record {
   width = two f;
   height = two (drop 2 f);
-  ticks = two (drop 4 f);
-  ground = four (drop 6 f);
-  runs = four (drop 10 f);
-  starts = four (drop 14 f);
+  storeys = two (drop 4 f);
+  ticks = two (drop 6 f);
+  ground = four (drop 8 f);
+  runs = four (drop 12 f);
+  starts = four (drop 16 f);
 }
 
 abbrev pub start-count : List ℕ → ℕ
@@ -81,7 +83,7 @@ starts-in f = records start-size start-in (head-in f .starts) (drop (runs-end (h
 unfoldable pub held : List ℕ → Board
 held f =
     let x = head-in f in
-    board-of (x .width) (x .height) (painted (x .ground) 0 (x .width * x .height) (runs-in f)) (starts-in f)
+    board-of (x .width) (x .height) (x .storeys) (painted (x .ground) 0 (x .width * x .height * x .storeys) (runs-in f)) (starts-in f)
 
 -- WHY A FILE IS REFUSED: the causes in the order in which they are looked for
 unfoldable pub ticks-good : ℕ → Bool
@@ -96,11 +98,13 @@ head-refusal f =
     let x = head-in f in
     cond (not (length-good f)) (cause 1) (cond (not (sides-good (x .width) (x .height))) (cause 2) (cond (not (ticks-good (x .ticks))) (cause 3) none))
 
--- 5, 21, 6: the ground's and all runs' slownesses, then the rules of runs
+-- 5, 21, 23, 6: the ground's and all runs' slownesses, with the storeys; then the rules of runs
 unfoldable pub runs-refusal : List ℕ → Refusal
 runs-refusal f =
-    let g = head-in f .ground in
-    or-else (slows-refusal (g ∷ map (λ x. x .slow) (runs-in f))) (cond (not (runs-good (size (held f)) g 0 g (runs-in f))) (cause 6) none)
+    let x = head-in f in
+    let g = x .ground in
+    or-else (house-refusal (x .width) (x .height) (x .storeys) (g ∷ map (λ y. y .slow) (runs-in f)))
+    (cond (not (runs-good (size (held f)) g 0 g (runs-in f))) (cause 6) none)
 
 -- 7, 18, 8, 9 are those of the board that it holds
 unfoldable pub file-refusal : List ℕ → Refusal

@@ -5,7 +5,7 @@ use mathlib.Core.List.{List, [], _∷_, _++_}
 use Prim.Native.Nat.{ℕ, _+_, _*_, _≤_, _<_}
 use lib.ListN.{length, take, drop}
 use Rattle.eikonal.specs.Board.{Board, size, largest}
-use Rattle.eikonal.specs.Refusals.{Handed, none, slows-refusal, board-refusal, by-lists}
+use Rattle.eikonal.specs.Refusals.{Handed, none, house-refusal, board-refusal, by-lists}
 use Rattle.eikonal.specs.Ledger.{answer}
 use Rattle.eikonal.specs.Promise.{First-at-fault}
 use Rattle.eikonal.specs.declared.Reply.{Reply}
@@ -29,7 +29,8 @@ One-file =
 -- THE FILE OF A GOOD BOARD, with a ground that is no cause of refusal, is accepted, and holds that board
 unfoldable pub File-of-is-accepted : Type 0
 File-of-is-accepted =
-    (b : Board) (t g : ℕ) (f : List ℕ) → board-refusal b .number ≡ 0 → ticks-good t ≡ true → slows-refusal (g ∷ []) .number ≡ 0 →
+    (b : Board) (t g : ℕ) (f : List ℕ) → board-refusal b .number ≡ 0 → ticks-good t ≡ true →
+    house-refusal (b .wide) (b .high) (b .storeys) (g ∷ []) .number ≡ 0 →
     f ≡ file-of t g b → (file-refusal f .number ≡ 0) × (held f ≡ b) × (head-in f .ticks ≡ t) × (head-in f .ground ≡ g)
 
 -- READ, THEN WRITTEN with the same ground, an accepted file has the same bytes. The lists that were lent may be longer than needed
@@ -37,17 +38,18 @@ unfoldable pub Read-then-write : Type 0
 Read-then-write =
     (f slow slow-now cells cells-now begins begins-now : List ℕ) (x : Scenario) (out out-now : List ℕ) (y : Reply) → Bytes f →
     Reads f slow slow-now cells cells-now begins begins-now x → x .number ≡ 0 →
-    Writes (by-lists (x .width) (x .height) (take (x .width * x .height) slow-now) (take (x .starts) cells-now) (take (x .starts) begins-now))
+    Writes (by-lists (x .width) (x .height) (x .storeys)
+    (take (x .width * x .height * x .storeys) slow-now) (take (x .starts) cells-now) (take (x .starts) begins-now))
     (x .ticks) (x .ground) out out-now y →
     length f ≤ length out → (y ≡ answer none (length f)) × (out-now ≡ f ++ drop (length f) out)
 
 -- WRITTEN, THEN READ into lists that are long enough, a board is the same board
 unfoldable pub Write-then-read : Type 0
 Write-then-read =
-    (w h t g : ℕ) (slow cells begins out out-now : List ℕ) (y : Reply) (s s-now c c-now b b-now : List ℕ) (x : Scenario) →
-    Writes (by-lists w h slow cells begins) t g out out-now y → y .number ≡ 0 → Reads (take (y .count) out-now) s s-now c c-now b b-now x →
+    (w h storeys t g : ℕ) (slow cells begins out out-now : List ℕ) (y : Reply) (s s-now c c-now b b-now : List ℕ) (x : Scenario) →
+    Writes (by-lists w h storeys slow cells begins) t g out out-now y → y .number ≡ 0 → Reads (take (y .count) out-now) s s-now c c-now b b-now x →
     length slow ≤ length s → length cells ≤ length c → length cells ≤ length b →
-    (x ≡ scenario none w h t g (length cells)) × (s-now ≡ slow ++ drop (length slow) s)
+    (x ≡ scenario none w h storeys t g (length cells)) × (s-now ≡ slow ++ drop (length slow) s)
     × (c-now ≡ cells ++ drop (length cells) c) × (b-now ≡ begins ++ drop (length begins) b)
 
 -- THE PLACE that the reader and the writer answer is that of the first start at fault

@@ -12,6 +12,7 @@ use super::bytes::put_four;
 use super::bytes::put_two;
 use super::bytes::two_at;
 use super::runs::wide;
+use eikonal::refusals::house_size;
 
 pub fn head_of(file: &[u8]) -> Head
     requires { ⌜ head-size ≤ length (now file) ⌝ }
@@ -20,10 +21,11 @@ pub fn head_of(file: &[u8]) -> Head
     Head {
         width: two_at(file, 0),
         height: two_at(file, 2),
-        ticks: two_at(file, 4),
-        ground: four_at(file, 6),
-        runs: four_at(file, 10),
-        starts: four_at(file, 14),
+        storeys: two_at(file, 4),
+        ticks: two_at(file, 6),
+        ground: four_at(file, 8),
+        runs: four_at(file, 12),
+        starts: four_at(file, 16),
     }
 }
 
@@ -33,17 +35,19 @@ pub fn put_head(out: &mut [u8], head: Head)
 {
     put_two(out, 0, head.width);
     put_two(out, 2, head.height);
-    put_two(out, 4, head.ticks);
-    put_four(out, 6, head.ground);
-    put_four(out, 10, head.runs);
-    put_four(out, 14, head.starts);
+    put_two(out, 4, head.storeys);
+    put_two(out, 6, head.ticks);
+    put_four(out, 8, head.ground);
+    put_four(out, 12, head.runs);
+    put_four(out, 16, head.starts);
 }
 
-// How many cells the board has.
+// How many cells the board has, whatever the storeys are.
 pub fn board_size(head: Head) -> usize
-    ensures { λ r. ⌜ r ≡ head .width * head .height ⌝ }
+    requires { ⌜ (head .width ≤ 256) × (head .height ≤ 256) ⌝ }
+    ensures { λ r. ⌜ r ≡ head .width * head .height * head .storeys ⌝ }
 {
-    wide(head.width) * wide(head.height)
+    house_size(head.width, head.height, head.storeys)
 }
 
 // Where the starts begin.

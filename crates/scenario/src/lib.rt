@@ -18,6 +18,7 @@ pub struct Scenario {
     pub number: u32,
     pub width: u32,
     pub height: u32,
+    pub storeys: u32,
     pub ticks: u32,
     pub ground: u32,
     pub starts: u32,
@@ -33,16 +34,17 @@ pub struct TurnReply {
 }
 
 // How many bytes a head, a run and a start have.
-pub const HEAD: usize = 18;
+pub const HEAD: usize = 20;
 
 pub const RUN: usize = 12;
 
 pub const START: usize = 8;
 
-// The numbers that a file begins with: sides, ticks per turn, the ground's slowness, how many runs and starts follow.
+// The numbers that a file begins with: sides, storeys, ticks per turn, the ground's slowness, how many runs and starts follow.
 pub struct Head {
     pub width: u32,
     pub height: u32,
+    pub storeys: u32,
     pub ticks: u32,
     pub ground: u32,
     pub runs: u32,

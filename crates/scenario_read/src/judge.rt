@@ -1,5 +1,6 @@
 // A file judged whole, before any list is written: its refusal, and what it holds besides its lists.
 ghost use mathlib.Core.Path.{_≡_};
+ghost use Prim.Native.Nat.{_≤_};
 ghost use Rattle.eikonal.specs.Refusals.{starts-refusal};
 ghost use Rattle.scenario.specs.File.{head-in, held, head-refusal, runs-refusal, file-refusal};
 ghost use Rattle.scenario.specs.Calls.{scenario, scenario-of, room-good, reader-refusal, reader-answer};
@@ -8,8 +9,8 @@ use super::starts::starts_on_wall;
 use eikonal::Refusal;
 use eikonal::cause;
 use eikonal::refusals::flawless;
+use eikonal::refusals::flaws_refusal;
 use eikonal::refusals::judged_refusal;
-use eikonal::refusals::pairs_refusal;
 use eikonal::refusals::with_pair;
 use scenario::HEAD;
 use scenario::Head;
@@ -42,14 +43,14 @@ fn head_refusal(file: &[u8]) -> Refusal
     cause(0)
 }
 
-// 5, 21 and 6: all slownesses, the ground's too, are looked at before any other rule of runs.
+// 5, 21, 23 and 6: all slownesses, the ground's too, are looked at before any other rule of runs.
 fn runs_refusal(file: &[u8], head: Head) -> Refusal
     requires { ⌜ (head-refusal (now file) .number ≡ 0) × («head» ≡ head-in (now file)) ⌝ }
     ensures { λ r. ⌜ r ≡ runs-refusal (now (file .entry)) ⌝ }
 {
     let count = wide(head.runs);
     let flaws = with_runs(file, count, with_pair(head.ground, flawless()));
-    let pairs = pairs_refusal(flaws.steep, flaws.half);
+    let pairs = flaws_refusal(head.width, head.height, head.storeys, flaws);
     if pairs.number != 0 {
         return pairs;
     }
@@ -92,12 +93,13 @@ pub fn file_refusal(file: &[u8]) -> Refusal
 }
 
 fn refused(refusal: Refusal) -> Scenario
-    ensures { λ r. ⌜ r ≡ scenario refusal 0 0 0 0 0 ⌝ }
+    ensures { λ r. ⌜ r ≡ scenario refusal 0 0 0 0 0 0 ⌝ }
 {
     Scenario {
         number: refusal.number,
         width: 0,
         height: 0,
+        storeys: 0,
         ticks: 0,
         ground: 0,
         starts: 0,
@@ -106,6 +108,7 @@ fn refused(refusal: Refusal) -> Scenario
 }
 
 fn room_good(head: Head, slows: usize, starts: usize) -> bool
+    requires { ⌜ («head» .width ≤ 256) × («head» .height ≤ 256) ⌝ }
     ensures { λ r. ⌜ r ≡ room-good «head» slows starts ⌝ }
 {
     if slows < board_size(head) {
@@ -121,6 +124,7 @@ fn scenario_of(head: Head) -> Scenario
         number: 0,
         width: head.width,
         height: head.height,
+        storeys: head.storeys,
         ticks: head.ticks,
         ground: head.ground,
         starts: head.starts,

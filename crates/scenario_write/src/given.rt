@@ -7,24 +7,25 @@ ghost use Rattle.scenario.specs.Inner.Begin.{given-by};
 use eikonal::Refusal;
 use eikonal::cause;
 use eikonal::refusals::flawless;
-use eikonal::refusals::pairs_refusal;
+use eikonal::refusals::flaws_refusal;
+use eikonal::refusals::house_size;
 use eikonal::refusals::with_pair;
 use eikonal::refusals::with_pairs;
-use scenario::runs::wide;
 use scenario::sides_good;
 use scenario::ticks_good;
 
-// 2, 3, 4, 5 and 21: all slownesses, the ground's too, are looked at for 5 before any is for 21.
+// 2, 3, 4, 5, 21 and 23: all slownesses, the ground's too, are looked at for 5 before any is for 21, and for 21 before any is for 23.
 pub fn given_refusal(
     width: u32,
     height: u32,
+    storeys: u32,
     ticks: u32,
     ground: u32,
     slow: &[u32],
     cells: usize,
     begins: usize,
 ) -> Refusal
-    ensures { λ r. ⌜ ((xs : List Start) → r ≡ given-refusal (given-by width height (now (slow .entry)) cells begins xs) ticks ground) ⌝ }
+    ensures { λ r. ⌜ ((xs : List Start) → r ≡ given-refusal (given-by width height storeys (now (slow .entry)) cells begins xs) ticks ground) ⌝ }
 {
     if !sides_good(width, height) {
         return cause(2);
@@ -35,9 +36,9 @@ pub fn given_refusal(
     if cells != begins {
         return cause(4);
     }
-    if slow.len() != wide(width) * wide(height) {
+    if slow.len() != house_size(width, height, storeys) {
         return cause(4);
     }
     let flaws = with_pairs(slow, with_pair(ground, flawless()));
-    pairs_refusal(flaws.steep, flaws.half)
+    flaws_refusal(width, height, storeys, flaws)
 }

@@ -19,6 +19,7 @@ use scenario::heads::starts_base;
 pub fn begin_file(
     width: u32,
     height: u32,
+    storeys: u32,
     ticks: u32,
     ground: u32,
     slow: &[u32],
@@ -28,9 +29,9 @@ pub fn begin_file(
     out: &mut [u8],
 ) -> Reply
     requires { ⌜ Judging (now slow) cells begins «judged» ⌝ }
-    ensures { λ x. ⌜ Begins width height ticks ground (now (slow .entry)) cells begins «judged» (now (out .entry)) (now (out .exit)) x ⌝ }
+    ensures { λ x. ⌜ Begins width height storeys ticks ground (now (slow .entry)) cells begins «judged» (now (out .entry)) (now (out .exit)) x ⌝ }
 {
-    let given = given::given_refusal(width, height, ticks, ground, slow, cells, begins);
+    let given = given::given_refusal(width, height, storeys, ticks, ground, slow, cells, begins);
     if given.number != 0 {
         return eikonal::refused(given);
     }
@@ -38,7 +39,7 @@ pub fn begin_file(
     if starts.number != 0 {
         return eikonal::refused(starts);
     }
-    let head = write::head_for(width, height, ticks, ground, slow, cells);
+    let head = write::head_for(width, height, storeys, ticks, ground, slow, cells);
     let at = starts_base(head);
     let need = file_length(head);
     if out.len() < need {
@@ -52,6 +53,7 @@ pub fn begin_file(
 pub fn write_scenario(
     width: u32,
     height: u32,
+    storeys: u32,
     ticks: u32,
     ground: u32,
     slow: &[u32],
@@ -59,13 +61,14 @@ pub fn write_scenario(
     begins: &[u32],
     out: &mut [u8],
 ) -> Reply
-    ensures { λ x. ⌜ Writes (by-lists width height (now (slow .entry)) (now (cells .entry)) (now (begins .entry))) ticks ground
+    ensures { λ x. ⌜ Writes (by-lists width height storeys (now (slow .entry)) (now (cells .entry)) (now (begins .entry))) ticks ground
         (now (out .entry)) (now (out .exit)) x ⌝ }
 {
     let judged = judge_starts(slow, cells, begins, nothing_judged());
     let reply = begin_file(
         width,
         height,
+        storeys,
         ticks,
         ground,
         slow,

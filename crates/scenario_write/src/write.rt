@@ -104,17 +104,19 @@ fn write_starts(out: &mut [u8], at: usize, cells: &[u32], begins: &[u32])
 pub fn head_for(
     width: u32,
     height: u32,
+    storeys: u32,
     ticks: u32,
     ground: u32,
     slow: &[u32],
     starts: usize,
 ) -> Head
     requires { ⌜ (length (now slow) ≤ 65536) × (starts ≤ 65536) ⌝ }
-    ensures { λ r. ⌜ r ≡ head-of width height ticks ground (now (slow .entry)) starts ⌝ }
+    ensures { λ r. ⌜ r ≡ head-of width height storeys ticks ground (now (slow .entry)) starts ⌝ }
 {
     Head {
         width: width,
         height: height,
+        storeys: storeys,
         ticks: ticks,
         ground: ground,
         runs: count_runs(slow, ground) as u32,

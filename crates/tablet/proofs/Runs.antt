@@ -3,7 +3,6 @@ use mathlib.Core.Path.{_≡_, ap, _∙_}
 use mathlib.Core.Bool.{true}
 use mathlib.Core.List.{List}
 use Prim.Native.Nat.{ℕ, _*_, _≤_}
-use native.Mathlib.Nat.{mul-le-mul}
 use native.Mathlib.Omega.{arith}
 use lib.ListN.{length}
 use borrow.Author.Tests.{eq-eqb, ne-eqb, le-ltb}
@@ -16,23 +15,23 @@ use Rattle.eikonal.specs.declared.Reply.{Reply}
 use Rattle.eikonal.specs.declared.Job.the-variants.{Run}
 use Rattle.tablet.specs.Small.{horizon, Tiled}
 
--- a board with sides to 32, tiles in a good order, as many times as cells, and 4,096 entries to work in
+-- a board with sides to 32 and 1,024 cells at the most, tiles in a good order, as many times as cells, and 4,096 entries to work in
 module _ (p : Handed) {tw th s : ℕ} (xs ts ws : List ℕ) (fine : handed-refusal p .number ≡ 0)
-    (sides : (p .board .wide ≤ 32) × (p .board .high ≤ 32) × (length ts ≡ p .board .wide * p .board .high))
+    (sides : (p .board .wide ≤ 32) × (p .board .high ≤ 32) × (p .board .wide * p .board .high * p .board .storeys ≤ 1024)
+    × (length ts ≡ p .board .wide * p .board .high * p .board .storeys))
     (t : Tiled s tw th) (ordered : order-good (p .board) tw th xs ≡ true) (room : length ws ≡ 4096) where
   accepted : refusal (call p (Run tw th s horizon) xs (length ws)) (length ts) .number ≡ 0
   unfolding refusal or-else job-refusal tiles-refusal lists-refusal size
   accepted =
-      let n = p .board .wide * p .board .high in
-      let few : n ≤ 32 * 32 = mul-le-mul (sides .0) (sides .1) in
+      let n = p .board .wide * p .board .high * p .board .storeys in
       rw (
         fine,
         ne-eqb s 0 (λ q. omega (arith, t .least)),
         le-ltb largest s (t .most),
         t .sides,
         ordered,
-        eq-eqb (length ts) n (sides .2),
-        le-ltb (length ws) (4 * n) (omega arith),
+        eq-eqb (length ts) n (sides .3),
+        le-ltb (length ws) (4 * n) (omega (arith, sides .2)),
       )
 
   module _ (x : Reply) (ts-now ws-now : List ℕ) (z : ℕ) (k : Says (call p (Run tw th s z) xs (length ws)) x (lent ts ws) (lent ts-now ws-now))

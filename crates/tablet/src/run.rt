@@ -39,10 +39,11 @@ fn rise(order: &mut [u32])
     }
 }
 
-// A board with sides to 32 that no number refuses.
+// A board with sides to 32 and 1,024 cells at the most that no number refuses.
 fn run_board(
     width: u32,
     height: u32,
+    storeys: u32,
     slow: &[u32],
     cells: &[u32],
     begins: &[u32],
@@ -51,12 +52,14 @@ fn run_board(
     down: u32,
     times: &mut [u32],
 ) -> u32
-    requires board { ⌜ handed-refusal (by-lists width height (now slow) (now cells) (now begins)) .number ≡ 0 ⌝ }
-    requires sides { ⌜ (width ≤ 32) × (height ≤ 32) × (length (now times) ≡ width * height) ⌝ }
+    requires board { ⌜ handed-refusal (by-lists width height storeys (now slow) (now cells) (now begins)) .number ≡ 0 ⌝ }
+    requires sides { ⌜ (width ≤ 32) × (height ≤ 32) × (width * height * storeys ≤ 1024)
+        × (length (now times) ≡ width * height * storeys) ⌝ }
     requires tiles { ⌜ Tiled stride across down ⌝ }
     ensures rounds { λ r. ⌜ r
-        ≡ rounds (by-lists width height (now (slow .entry)) (now (cells .entry)) (now (begins .entry)) .board) across down stride horizon ⌝ }
-    ensures times { λ r. ⌜ now (times .exit) ≡ marched (by-lists width height (now (slow .entry)) (now (cells .entry)) (now (begins .entry)) .board) horizon ⌝ }
+        ≡ rounds (by-lists width height storeys (now (slow .entry)) (now (cells .entry)) (now (begins .entry)) .board) across down stride horizon ⌝ }
+    ensures times { λ r. ⌜ now (times .exit)
+        ≡ marched (by-lists width height storeys (now (slow .entry)) (now (cells .entry)) (now (begins .entry)) .board) horizon ⌝ }
 {
     let mut order = entries();
     let tiles = (tiles_along(width, across) * tiles_along(height, down)) as usize;
@@ -65,6 +68,7 @@ fn run_board(
     let reply = engine::calls::tile_run(
         width,
         height,
+        storeys,
         slow,
         cells,
         begins,
@@ -102,6 +106,7 @@ fn run_starts(
     run_board(
         head.width,
         head.height,
+        head.storeys,
         slow,
         &cells[..q],
         &begins[..q],

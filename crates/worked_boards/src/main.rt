@@ -1,5 +1,5 @@
-// Goes through the boards worked by hand that are not starred, those of document 01 and of Cards 3 and 10 of document 02: what each gives, and
-// whether it is what the pages say.
+// Goes through the boards worked by hand that are not starred, those of document 01 and of Cards 3, 10 and 12 of document 02: what each gives,
+// and whether it is what the pages say.
 use eikonal::Reply;
 use eikonal::arrival::NEVER;
 use libc::STDOUT_FILENO;
@@ -72,6 +72,7 @@ fn round(name: &[u8], bound: u32, times: &mut [u32], want: &[u32]) {
     engine::calls::one_round(
         3,
         3,
+        1,
         &slow,
         &cell,
         &begin,
@@ -106,6 +107,7 @@ fn run(name: &[u8], side: u32, order: &[u32], rounds: u32) {
     let reply = engine::calls::tile_run(
         3,
         3,
+        1,
         &slow,
         &cell,
         &begin,
@@ -127,7 +129,17 @@ fn march(name: &[u8], cells: &[u32], begins: &[u32], number: u32, count: u32, wa
     let slow = [TEN; 9];
     let mut times = [0u32; 9];
     let mut work = [0u32; 36];
-    let reply = engine::calls::march(3, 3, &slow, cells, begins, 300000000, &mut times, &mut work);
+    let reply = engine::calls::march(
+        3,
+        3,
+        1,
+        &slow,
+        cells,
+        begins,
+        300000000,
+        &mut times,
+        &mut work,
+    );
     tell_reply(name, reply, number, count);
     tell(b"its times: ", &times, want);
 }
@@ -142,6 +154,7 @@ fn side(name: &[u8], width: u32, height: u32, number: u32, count: u32) {
     let reply = engine::calls::march(
         width,
         height,
+        1,
         &slow,
         &cell,
         &begin,
@@ -190,6 +203,7 @@ fn turns() {
     engine::calls::march(
         3,
         3,
+        1,
         &slow,
         &[0u32],
         &[0u32],
@@ -220,12 +234,13 @@ fn ploughed() {
     let want = [0u32, 10, 20, 20, 26, 34, 40, 45, 51];
     let mut times = [0u32; 9];
     let mut work = [0u32; 36];
-    let march = engine::calls::march(3, 3, &slow, &cell, &begin, 51, &mut times, &mut work);
+    let march = engine::calls::march(3, 3, 1, &slow, &cell, &begin, 51, &mut times, &mut work);
     tell_reply(b"ploughed, refusal and cells reached: ", march, 0, 9);
     tell(b"its times: ", &times, &want);
     let run = engine::calls::tile_run(
         3,
         3,
+        1,
         &slow,
         &cell,
         &begin,
@@ -243,7 +258,7 @@ fn ploughed() {
 
 // What a cell is given from its left and from above, with 10 ticks along its row and 20 down its column.
 fn furrow(name: &[u8], left: u32, above: u32, number: u32, time: u32) {
-    let reply = eikonal::arrival::local_rule(10, 20, left, NEVER, above, NEVER);
+    let reply = eikonal::arrival::local_rule(10, 20, left, NEVER, above, NEVER, NEVER, NEVER);
     tell_reply(name, reply, number, time);
 }
 
@@ -253,10 +268,76 @@ fn furrows() {
     furrow(b"(10, 20) from both at once: ", 0, 0, 0, 9);
 }
 
+// What a cell of slowness 10 is given from its left, from above and from under it.
+fn corner(name: &[u8], left: u32, above: u32, under: u32, time: u32) {
+    let reply = eikonal::arrival::local_rule(10, 10, left, NEVER, above, NEVER, NEVER, under);
+    tell_reply(name, reply, 0, time);
+}
+
+fn corners() {
+    corner(b"(0, 0, 0): ", 0, 0, 0, 6);
+    corner(b"(0, 0, 7): ", 0, 0, 7, 8);
+}
+
+// A house of two storeys, 2 by 2, slowness 10, start cell 0 at 0: marched, and run in tiles of 1 by 1, which span both storeys, with stride 20.
+fn house() {
+    let slow = [TEN; 8];
+    let cell = [0u32; 1];
+    let begin = [0u32; 1];
+    let order = [0u32, 1, 2, 3];
+    let want = [0u32, 10, 10, 18, 10, 18, 18, 24];
+    let mut times = [0u32; 8];
+    let mut work = [0u32; 32];
+    let march = engine::calls::march(2, 2, 2, &slow, &cell, &begin, 24, &mut times, &mut work);
+    tell_reply(b"house, refusal and cells reached: ", march, 0, 8);
+    tell(b"its times: ", &times, &want);
+    let run = engine::calls::tile_run(
+        2,
+        2,
+        2,
+        &slow,
+        &cell,
+        &begin,
+        1,
+        1,
+        20,
+        24,
+        &order,
+        &mut times,
+        &mut work,
+    );
+    tell_reply(b"house in 1 by 1 tiles, refusal and rounds: ", run, 0, 4);
+    tell(b"its times: ", &times, &want);
+}
+
+// A house of 1 by 1 with as many storeys as there are slownesses.
+fn tower(name: &[u8], storeys: u32, slow: &[u32], times: &mut [u32], number: u32, count: u32) {
+    let mut work = [0u32; 36];
+    let reply = engine::calls::march(
+        1,
+        1,
+        storeys,
+        slow,
+        &[0u32],
+        &[0u32],
+        300000000,
+        times,
+        &mut work,
+    );
+    tell_reply(name, reply, number, count);
+}
+
+fn towers() {
+    let mut eight = [0u32; 8];
+    let mut nine = [0u32; 9];
+    tower(b"8 storeys: ", 8, &[TEN; 8], &mut eight, 0, 8);
+    tower(b"9 storeys: ", 9, &[TEN; 9], &mut nine, 23, 0);
+}
+
 // 3 by 3, 10 ticks, ground (10, 10), no runs, start cell 0 at 0.
 fn rings() {
     let file =
-        b"\x03\x00\x03\x00\x0a\x00\x0a\x00\x0a\x00\x00\x00\x00\x00\x01\x00\x00\x00\x00\x00\x00\x00\x00\x00\x00\x00";
+        b"\x03\x00\x03\x00\x01\x00\x0a\x00\x0a\x00\x0a\x00\x00\x00\x00\x00\x01\x00\x00\x00\x00\x00\x00\x00\x00\x00\x00\x00";
     let mut text = [0u8; 11300];
     let n = rings_lines::rings_lines(file, &mut text);
     io::write_all(STDOUT_FILENO, b"rings:\n");
@@ -281,5 +362,8 @@ fn main() {
     turns();
     furrows();
     ploughed();
+    corners();
+    house();
+    towers();
     rings();
 }

@@ -7,19 +7,19 @@ use crate::{Reply, Start};
 #[rustfmt::skip]
 extern "C" {
     fn murgolab_march(
-        width: u32, height: u32, slow: *const u32, slow_len: usize,
+        width: u32, height: u32, storeys: u32, slow: *const u32, slow_len: usize,
         starts: *const Start, starts_len: usize,
         horizon: u32,
         times: *mut u32, times_len: usize, work: *mut u32, work_len: usize,
     ) -> Reply;
     fn murgolab_one_round(
-        width: u32, height: u32, slow: *const u32, slow_len: usize,
+        width: u32, height: u32, storeys: u32, slow: *const u32, slow_len: usize,
         starts: *const Start, starts_len: usize,
         across: u32, down: u32, bound: u32, order: *const u32, order_len: usize,
         times: *mut u32, times_len: usize, work: *mut u32, work_len: usize,
     ) -> Reply;
     fn murgolab_tile_run(
-        width: u32, height: u32, slow: *const u32, slow_len: usize,
+        width: u32, height: u32, storeys: u32, slow: *const u32, slow_len: usize,
         starts: *const Start, starts_len: usize,
         across: u32, down: u32, stride: u32, horizon: u32, order: *const u32, order_len: usize,
         times: *mut u32, times_len: usize, work: *mut u32, work_len: usize,
@@ -36,7 +36,7 @@ pub fn march(
     // SAFETY: the lists are as long as said, and those lent for writing are borrowed alone
     unsafe {
         murgolab_march(
-            b.width, b.height, b.slow.as_ptr(), b.slow.len(),
+            b.width, b.height, b.storeys, b.slow.as_ptr(), b.slow.len(),
             starts.as_ptr(), starts.len(),
             horizon,
             times.as_mut_ptr(), times.len(), work.as_mut_ptr(), work.len(),
@@ -54,7 +54,7 @@ pub fn one_round(
     // SAFETY: the lists are as long as said, and those lent for writing are borrowed alone
     unsafe {
         murgolab_one_round(
-            b.width, b.height, b.slow.as_ptr(), b.slow.len(),
+            b.width, b.height, b.storeys, b.slow.as_ptr(), b.slow.len(),
             starts.as_ptr(), starts.len(),
             across, down, bound, order.as_ptr(), order.len(),
             times.as_mut_ptr(), times.len(), work.as_mut_ptr(), work.len(),
@@ -73,7 +73,7 @@ pub fn tile_run(
     // SAFETY: the lists are as long as said, and those lent for writing are borrowed alone
     unsafe {
         murgolab_tile_run(
-            b.width, b.height, b.slow.as_ptr(), b.slow.len(),
+            b.width, b.height, b.storeys, b.slow.as_ptr(), b.slow.len(),
             starts.as_ptr(), starts.len(),
             across, down, stride, horizon, order.as_ptr(), order.len(),
             times.as_mut_ptr(), times.len(), work.as_mut_ptr(), work.len(),

@@ -3,14 +3,23 @@
 use crate::Reply;
 
 extern "C" {
-    fn murgolab_local_rule(g: u32, h: u32, left: u32, right: u32, above: u32, below: u32) -> Reply;
+    fn murgolab_local_rule(
+        g: u32,
+        h: u32,
+        left: u32,
+        right: u32,
+        above: u32,
+        below: u32,
+        over: u32,
+        under: u32,
+    ) -> Reply;
     fn murgolab_diagonal(slowness: u32) -> Reply;
 }
 
 #[inline]
-pub fn local_rule([g, h]: [u32; 2], [left, right, above, below]: [u32; 4]) -> Reply {
+pub fn local_rule([g, h]: [u32; 2], [left, right, above, below, over, under]: [u32; 6]) -> Reply {
     // SAFETY: numbers alone
-    unsafe { murgolab_local_rule(g, h, left, right, above, below) }
+    unsafe { murgolab_local_rule(g, h, left, right, above, below, over, under) }
 }
 
 #[inline]

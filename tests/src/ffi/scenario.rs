@@ -11,7 +11,7 @@ extern "C" {
         cells: *mut u32, cells_len: usize, begins: *mut u32, begins_len: usize,
     ) -> Scenario;
     fn murgolab_write_scenario_plain(
-        width: u32, height: u32, ticks: u32, ground: u32, slow: *const u32, slow_len: usize,
+        width: u32, height: u32, storeys: u32, ticks: u32, ground: u32, slow: *const u32, slow_len: usize,
         cells: *const u32, cells_len: usize, begins: *const u32, begins_len: usize,
         out: *mut u8, out_len: usize,
     ) -> Reply;
@@ -35,7 +35,7 @@ pub fn write(b: &Board, ticks: u32, ground: u32, out: &mut [u8]) -> Reply {
     // SAFETY: the lists are as long as said, and the one lent for writing is borrowed alone
     unsafe {
         murgolab_write_scenario_plain(
-            b.width, b.height, ticks, ground, b.slow.as_ptr(), b.slow.len(),
+            b.width, b.height, b.storeys, ticks, ground, b.slow.as_ptr(), b.slow.len(),
             b.cells.as_ptr(), b.cells.len(), b.begins.as_ptr(), b.begins.len(),
             out.as_mut_ptr(), out.len(),
         )

@@ -20,7 +20,11 @@ pub record Good (b : Board) : Type 0 where
   pub wide-high : b .wide ≤ 256
   pub high-low : 1 ≤ b .high
   pub high-high : b .high ≤ 256
+  pub storeys-low : 1 ≤ b .storeys
+  pub storeys-high : b .storeys ≤ 8
+  pub few : size b ≤ 65536
   pub slow-length : length (b .slow) ≡ size b
   pub pairs : (c : ℕ) → Pair (along-row (slowness b c)) (down-column (slowness b c))
+  pub level : 2 ≤ b .storeys → (c : ℕ) → along-row (slowness b c) ≡ down-column (slowness b c)
   pub starts-known : (c : ℕ) → Known 1000000 (start-time c (b .starts))
   pub walls-free : (c : ℕ) → slowness b c ≡ 0 → start-time c (b .starts) ≡ never

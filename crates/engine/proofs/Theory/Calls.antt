@@ -65,13 +65,18 @@ module _ {s : Shape} {slow : List ℕ} {xs : List Start} {times work : List ℕ}
         wide-high = g .wide-high;
         high-low = g .high-low;
         high-high = g .high-high;
+        storeys-low = g .storeys-low;
+        storeys-high = g .storeys-high;
+        few = g .few;
         slow-length = g .slow-length;
         pairs = g .pairs;
+        level = g .level;
         starts-known = λ c. inl refl;
         walls-free = λ c w. refl;
       }
 
-  pub ground : (ts cols rows : List ℕ) → length ts ≡ n → Marked (s .width) (s .across) cols → Marked (s .height) (s .down) rows → Ground s slow ts cols rows
+  pub ground : (ts cols rows : List ℕ) → length ts ≡ n → Marked (s .width) (s .across) 1 cols → Marked (s .height) (s .down) (s .storeys) rows
+      → Ground s slow ts cols rows
   ground ts cols rows l lc lr = record {
     good = good-land;
     cells = fit .size;
@@ -95,6 +100,13 @@ module _ {s : Shape} {slow : List ℕ} {xs : List Start} {times work : List ℕ}
       same : (c : ℕ) → c < length ts → getD ts c 0 ≡ getD (replicate (size b) never) c 0
       same c l = fi .inside c (omega arith) (omega (arith, fi .long, fit .many))
           ∙ sym (getD-replicate (size b) c never 0 (omega (arith, size-is, fi .long, fit .many)))
+
+  -- rows are numbered through all storeys
+  pub rows-whole : n ≡ s .height * s .storeys * s .width
+  rows-whole = fit .size ∙ turned
+    where
+      turned : s .width * s .height * s .storeys ≡ s .height * s .storeys * s .width
+      turned = omega arith
 
   -- ---- A TILE RUN begins with all times never
   module _ {v : Work} (be : Standing n xs work) (ga : Gathered n 0 n work v) (ts : List ℕ) (all : ts ≡ all-never b) (S H : ℕ) where

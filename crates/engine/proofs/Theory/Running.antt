@@ -90,7 +90,7 @@ pub drained-to : {n b b' m : ℕ} {L : ℕ → (ℕ → ℕ) → ℕ} {v v' : Wo
 drained-to {n} {b} {b'} {m} {L} {v} {v'} q dr = subst (λ u. Drained n u m L v v') q dr
 
 -- ---- the same with a shape, as code has it
-pub size-whole : (s : Shape) (slow : List ℕ) (xs : List Start) → s .cells ≡ s .width * s .height → s .cells ≡ size (whole s slow xs)
+pub size-whole : (s : Shape) (slow : List ℕ) (xs : List Start) → s .cells ≡ s .width * s .height * s .storeys → s .cells ≡ size (whole s slow xs)
 unfolding size
 size-whole s slow xs e = e
 

@@ -4,7 +4,6 @@ use mathlib.Core.Bool.{true}
 use mathlib.Core.Logic.{_≢_}
 use mathlib.Core.List.{List, _++_}
 use native.Mathlib.Decide.{ℕ-discrete}
-use native.Mathlib.Nat.{mul-le-mul}
 use native.Mathlib.Omega.{arith}
 use Prim.Native.Nat.{ℕ, _*_, _≤_}
 use lib.ListN.{length, replicate}
@@ -32,42 +31,49 @@ use Rattle.engine.proofs.Theory.Calls.{drop-same}
 
 -- ---- an accepted job can be done in its shape, whose tiles have good sides
 module _ (b : Board) (xs : List ℕ) (wide : b .wide ≤ 256) (high : b .high ≤ 256) where
-  doable : (j : Job) → job-refusal b j xs .number ≡ 0 → Doable j (shaped (b .wide) (b .high) j) xs
+  doable : (j : Job) → job-refusal b j xs .number ≡ 0 → Doable j (shaped (b .wide) (b .high) (b .storeys) j) xs
   unfolding Doable order-good tile-count
   doable (March z) e = (wide, high, march-can b xs z e)
   doable (Round tw th m) e = let r = round-can b xs tw th m e in (refl, refl, r .0, r .1 .ordered)
   doable (Run tw th d z) e = let r = run-can b xs tw th d z e in (refl, refl, r .1, r .2, r .0)
 
-  tiles-sided : (j : Job) → job-refusal b j xs .number ≡ 0 → (s : Shape) → s ≡ shaped (b .wide) (b .high) j
+  tiles-sided : (j : Job) → job-refusal b j xs .number ≡ 0 → (s : Shape) → s ≡ shaped (b .wide) (b .high) (b .storeys) j
       → (1 ≤ s .across) × (s .across ≤ 256) × (1 ≤ s .down) × (s .down ≤ 256)
   tiles-sided (March z) e s is = rw is (omega arith, omega arith, omega arith, omega arith)
   tiles-sided (Round tw th m) e s is = let r = round-can b xs tw th m e .1 in rw is (r .across-low, r .across-high, r .down-low, r .down-high)
   tiles-sided (Run tw th d z) e s is = let r = run-can b xs tw th d z e .3 in rw is (r .across-low, r .across-high, r .down-low, r .down-high)
 
 -- the board is in its shape
-in-shape : (b : Board) (j : Job) (s : Shape) → s ≡ shaped (b .wide) (b .high) j → (s .width ≡ b .wide) × (s .height ≡ b .high) × (s .cells ≡ size b)
+record In-shape (b : Board) (s : Shape) : Type 0 where
+  wide : s .width ≡ b .wide
+  high : s .height ≡ b .high
+  storeys : s .storeys ≡ b .storeys
+  whole : s .cells ≡ s .width * s .height * s .storeys
+  cells : s .cells ≡ size b
+
+in-shape : (b : Board) (j : Job) (s : Shape) → s ≡ shaped (b .wide) (b .high) (b .storeys) j → In-shape b s
 unfolding size
-in-shape b (March z) s is = rw is (refl, refl, refl)
-in-shape b (Round tw th m) s is = rw is (refl, refl, refl)
-in-shape b (Run tw th d z) s is = rw is (refl, refl, refl)
+in-shape b (March z) s is = rw is (record { wide = refl; high = refl; storeys = refl; whole = refl; cells = refl })
+in-shape b (Round tw th m) s is = rw is (record { wide = refl; high = refl; storeys = refl; whole = refl; cells = refl })
+in-shape b (Run tw th d z) s is = rw is (record { wide = refl; high = refl; storeys = refl; whole = refl; cells = refl })
 
 -- ---- what a call that is not refused gives its beginning: sides that fit, and room
-pub sides-fit : (p : Handed) (r : Refusal) → r ≡ handed-refusal p → r .number ≡ 0 → (p .board .wide ≤ 256) × (p .board .high ≤ 256)
-sides-fit p r e z = let g = accepted p (sym (ap (λ (k : Refusal). k .number) e) ∙ z) .good in (g .wide-high, g .high-high)
+pub sides-fit : (p : Handed) (r : Refusal) → r ≡ handed-refusal p → r .number ≡ 0
+    → (p .board .wide ≤ 256) × (p .board .high ≤ 256) × (p .board .wide * p .board .high * p .board .storeys ≤ 65536)
+unfolding size
+sides-fit p r e z = let g = accepted p (sym (ap (λ (k : Refusal). k .number) e) ∙ z) .good in (g .wide-high, g .high-high, g .few)
 
 module _ (c : Call) (t : ℕ) (r : Refusal) (e : r ≡ refusal c t) (z : r .number ≡ 0) where
   fine : Fits c t
   fine = fits c t (sym (ap (λ (k : Refusal). k .number) e) ∙ z)
 
-  pub board-sides : (call-board c .wide ≤ 256) × (call-board c .high ≤ 256)
-  board-sides = let g = fine .given .good in (g .wide-high, g .high-high)
-
-  pub board-room : (s : Shape) → s ≡ shaped (call-board c .wide) (call-board c .high) (c .job) → (s .cells ≤ 65536) × (4 * s .cells ≤ c .work)
+  pub board-sides : (call-board c .wide ≤ 256) × (call-board c .high ≤ 256) × (call-board c .wide * call-board c .high * call-board c .storeys ≤ 65536)
   unfolding size
-  board-room s is =
-      let g = fine .given .good in
-      rw (in-shape (call-board c) (c .job) s is .2)
-      (omega (arith, mul-le-mul (g .wide-high) (g .high-high)), fine .work-fits)
+  board-sides = let g = fine .given .good in (g .wide-high, g .high-high, g .few)
+
+  pub board-room : (s : Shape) → s ≡ shaped (call-board c .wide) (call-board c .high) (call-board c .storeys) (c .job)
+      → (s .cells ≤ 65536) × (4 * s .cells ≤ c .work)
+  board-room s is = rw (in-shape (call-board c) (c .job) s is .cells) (fine .given .good .few, fine .work-fits)
 
 -- what is kept of the work list is kept from before the starts were placed
 through-from : {n k : ℕ} {xs : List Start} {us : List ℕ} {r : ℕ} {ts v v' w : List ℕ} → Begun n xs v v' → Through n k us r ts v' w → Through n k us r ts v w
@@ -86,7 +92,7 @@ module _ (c : Call) (t : Task) (ts v v0 : List ℕ) (same : c .work ≡ length v
   fit z = fits c (length ts) (not-refused z)
 
   cells-are : t .refusal .number ≡ 0 → t .shape .cells ≡ size (call-board c)
-  cells-are z = in-shape (call-board c) (c .job) (t .shape) (op .shape-is z) .2
+  cells-are z = in-shape (call-board c) (c .job) (t .shape) (op .shape-is z) .cells
 
   -- plain lists of its starts are of one length
   pub even : t .refusal .number ≡ 0 → c .handed .paired ≡ true
@@ -108,14 +114,14 @@ module _ (c : Call) (t : Task) (ts v v0 : List ℕ) (same : c .work ≡ length v
         let g = fit z .given .good in
         let d = tiles-sided b (c .order) (g .wide-high) (g .high-high) (c .job) (fit z .can) (t .shape) (op .shape-is z) in
         record {
-          good = rw (i .0, i .1) g;
-          size = rw (i .2, i .0, i .1) refl;
+          good = rw (i .wide, i .high, i .storeys) g;
+          size = i .whole;
           across-low = d .0;
           across-high = d .1;
           down-low = d .2;
           down-high = d .3;
-          many = fit z .times-fit ∙ sym (i .2);
-          room = omega (arith, fit z .work-fits, i .2, stands z .long, same);
+          many = fit z .times-fit ∙ sym (i .cells);
+          room = omega (arith, fit z .work-fits, i .cells, stands z .long, same);
         }
 
     -- the job can be done
@@ -133,8 +139,8 @@ module _ (c : Call) (t : Task) (ts v v0 : List ℕ) (same : c .work ≡ length v
     through z r us u go =
         let b = call-board c in
         let i = in-shape b (c .job) (t .shape) (op .shape-is z) in
-        let is : whole (t .shape) (b .slow) (b .starts) ≡ b = rw (i .0, i .1) refl in
-        rw (is, i .2) at (through-from (stands z) (go (b .starts) (fitting z) (stands z .stands)))
+        let is : whole (t .shape) (b .slow) (b .starts) ≡ b = rw (i .wide, i .high, i .storeys) refl in
+        rw (is, i .cells) at (through-from (stands z) (go (b .starts) (fitting z) (stands z .stands)))
 
     pub says : (x : Reply) (us u : List ℕ) → Ended t (c .job) (call-board c .slow) x ts us v1 u → Says c x (lent ts v) (lent us u)
     unfolding ledger-answer ledger-after work-after

@@ -1,24 +1,43 @@
 -- What code reads of a cell's neighbours is what the rule sees of them.
-use mathlib.Core.Path.{_≡_, refl, sym, ap, subst, _∙_}
-use mathlib.Core.Logic.{_≢_}
+use mathlib.Core.Path.{_≡_, refl, sym, ap, ap₂, subst, _∙_}
+use mathlib.Core.Bool.{true, false, cond}
+use mathlib.Core.Logic.{_⊎_, inl, inr, _≢_}
 use mathlib.Core.List.{List, [], _∷_}
 use Prim.Native.Nat.{ℕ, zero, suc, _+_, _*_, _-_, _/_, _%_, _≤_, _<_, min}
 use native.Mathlib.Omega.{arith}
 use native.Mathlib.Decide.{ℕ-discrete}
-use native.Mathlib.Nat.{mul-le-mul-right, mul-comm, div-eq-of-lt-le, div-add-mod', div-one, mod-lt, mod-eq-of-lt, mod-self, zero-mod}
+use native.Mathlib.Nat.{
+  mul-le-mul,
+  mul-le-mul-left,
+  mul-le-mul-right,
+  mul-comm,
+  mul-mod-right,
+  mod-mod,
+  div-eq-of-lt-le,
+  div-add-mod',
+  div-one,
+  mod-lt,
+  mod-eq-of-lt,
+  mod-self,
+  mod-one,
+  zero-mod,
+}
 use native.Mathlib.Numerals.{add-one}
+use lib.Dec.{ltb}
 use lib.ListN.{length, getD}
-use borrow.Author.Tests.{eq-eqb, ne-eqb, lt-ltb, le-ltb}
+use borrow.Author.Tests.{eq-eqb, ne-eqb, lt-ltb, le-ltb, ltb-true, ltb-false}
 use Rattle.eikonal.specs.Axes.{place, sight}
-use Rattle.eikonal.specs.Board.{Board, never, largest, size, column-axis, row-axis, slowness, along-row, down-column, time, local-of, arrival}
+use Rattle.eikonal.specs.Board.{Board, never, largest, size, column-axis, row-axis, storey-axis, slowness, along-row, down-column, time, local-of, arrival}
 use Rattle.eikonal.specs.Tiles.{counts-as}
-use Rattle.eikonal.proofs.Good.{size-most}
-use Rattle.eikonal.proofs.Grid.{quotient-low}
+use Rattle.eikonal.proofs.Levels.{order}
+use Rattle.eikonal.proofs.Local.{earlier-min}
+use Rattle.eikonal.proofs.Grid.{quotient-low, place-low, unit-most, on-cell}
+use Rattle.eikonal.proofs.Rule.{storeys-span}
 use Rattle.front.specs.Front.{ghosted}
-use Rattle.front.specs.Seams.{Cut, seam, seam-back, seam-on, edge, across}
-use Rattle.front.specs.Board.{land, rule-at, Marked, Ground, Measures, Site, Sees}
+use Rattle.front.specs.Seams.{Cut, cut, seam, seam-back, seam-on, edge, inside, across, mark-under, mark-over}
+use Rattle.front.specs.Board.{land, rule-at, both-seen, Marked, Ground, Measures, Site, Sees}
 use Rattle.front.specs.declared.Shape.{Shape}
-use Rattle.front.proofs.Theory.Seams.{seam-edge, seam-round, seam-next, Straight, columns-straight, rows-straight, sees}
+use Rattle.front.proofs.Theory.Seams.{seam-edge, seam-inside, seam-round, seam-next, Straight, columns-straight, rows-straight, storeys-straight, sees}
 
 -- an entry of a list is the same by any default
 getD-any : (l : List ℕ) (i d e : ℕ) → i < length l → getD l i d ≡ getD l i e
@@ -59,21 +78,22 @@ module _ (s f g : ℕ) where
   across-border a b = rw (ne-eqb s 0 a, ne-eqb s 2 b)
 
 -- ---- where a seam is not the edge there is a place behind it, or ahead
-module _ {n s i : ℕ} {js : List ℕ} (la : Marked n s js) (l : i < n) where
+module _ {n s many i : ℕ} {js : List ℕ} (la : Marked n s many js) (l : i < n * many) where
   pub place-behind : getD js i 0 ≢ edge → 1 ≤ i
   place-behind q = elim (ℕ-discrete i 0) [
     | yes z ↦ absurd (q (la .at i (omega arith) ∙ seam-edge n s i (ap (λ (u : ℕ). u % n) z ∙ zero-mod n)))
     | no z ↦ omega arith
   ]
 
-  pub place-ahead : getD js (i + 1) 0 ≢ edge → i + 1 < n
-  place-ahead q = elim (ℕ-discrete (i + 1) n) [
-    | yes z ↦ absurd (q (la .at (i + 1) (omega arith) ∙ seam-edge n s (i + 1) (ap (λ (u : ℕ). u % n) z ∙ mod-self n)))
+  pub place-ahead : getD js (i + 1) 0 ≢ edge → i + 1 < n * many
+  place-ahead q = elim (ℕ-discrete (i + 1) (n * many)) [
+    | yes z ↦ absurd (q (la .at (i + 1) (omega arith) ∙ seam-edge n s (i + 1) (ap (λ (u : ℕ). u % n) z ∙ mul-mod-right n many)))
     | no z ↦ omega arith
   ]
 
 -- the seams laid around a cell that is at the i-th place
-module _ (x : Cut) (c : ℕ) {i : ℕ} {js : List ℕ} (la : Marked (x .axis .count) (x .side) js) (at : place (x .axis) c ≡ i % x .axis .count) (l : i < x .axis .count) where
+module _ (x : Cut) (c : ℕ) {many i : ℕ} {js : List ℕ} (la : Marked (x .axis .count) (x .side) many js) (at : place (x .axis) c ≡ i % x .axis .count)
+    (l : i < x .axis .count * many) where
   pub marked-back : getD js i 0 ≡ seam-back x c
   marked-back = la .at i (omega arith) ∙ seam-round (x .axis .count) (x .side) i ∙ ap (seam (x .axis .count) (x .side)) (sym at)
 
@@ -108,6 +128,21 @@ module _ {n w c row col : ℕ} (si : Site n w c row col) where
   pub below-site : c + w < n → Site n w (c + w) (row + 1) col
   below-site l = record { on = l; cell = omega (arith, si .cell); column = si .column }
 
+  -- where a storey has h rows, those under and over it
+  module _ (h : ℕ) {area : ℕ} (q : h * w ≡ area) where
+    pub under-row : area ≤ c → h ≤ row
+    under-row l = go (order row h)
+      where
+        go : (row < h) ⊎ (h ≤ row) → h ≤ row
+        go (inl i) = absurd (omega (arith, si .cell, si .column, mul-le-mul-right w i))
+        go (inr i) = i
+
+    pub under-site : {e k : ℕ} → c ≡ e + area → row ≡ k + h → Site n w e k col
+    under-site p r = record { on = omega (arith, si .on); cell = omega (arith, si .cell, ap (λ (u : ℕ). u * w) r); column = si .column }
+
+    pub over-site : c + area < n → Site n w (c + area) (row + h) col
+    over-site l = record { on = l; cell = omega (arith, si .cell); column = si .column }
+
 -- a shape's own numbers are its measures
 pub measured : {s : Shape} → Measures s (s .cells) (s .width)
 measured = record { cells = refl; width = refl }
@@ -118,10 +153,27 @@ module _ {s : Shape} {slow ts cols rows : List ℕ} (gr : Ground s slow ts cols 
   cells-size = gr .cells
 
   pub cells-most : s .cells ≤ 65536
-  cells-most = omega (arith, cells-size, size-most (gr .good))
+  cells-most = omega (arith, cells-size, gr .good .few)
 
   pub slow-long : length slow ≡ s .cells
   slow-long = gr .good .slow-length ∙ sym cells-size
+
+  -- rows are numbered through all storeys
+  pub lines-most : s .height * s .storeys ≤ 2048
+  lines-most = mul-le-mul (gr .good .high-high) (gr .good .storeys-high)
+
+  pub rows-whole : s .height * s .storeys * s .width ≡ s .cells
+  rows-whole = turned ∙ sym (gr .cells)
+    where
+      turned : s .height * s .storeys * s .width ≡ s .width * s .height * s .storeys
+      turned = omega arith
+
+  -- what stands behind the rows' seams: a house has two storeys or more, and a storey has so many cells
+  pub house : ltb 1 (getD rows 2050 0) ≡ true → 2 ≤ s .storeys
+  house e = omega (arith, ltb-true 1 (getD rows 2050 0) e, gr .lines .over)
+
+  pub flat : ltb 1 (getD rows 2050 0) ≡ false → s .storeys ≡ 1
+  flat e = omega (arith, ltb-false 1 (getD rows 2050 0) e, gr .lines .over, gr .good .storeys-low)
 
   module _ {n w : ℕ} (me : Measures s n w) where
     pub width-low : 1 ≤ w
@@ -130,17 +182,23 @@ module _ {s : Shape} {slow ts cols rows : List ℕ} (gr : Ground s slow ts cols 
     pub width-high : w ≤ 256
     width-high = omega (arith, me .width, gr .good .wide-high)
 
-    area : n ≡ s .height * w
-    area = me .cells ∙ gr .cells ∙ mul-comm (s .width) (s .height) ∙ ap (λ (u : ℕ). s .height * u) (sym (me .width))
+    whole : n ≡ s .height * s .storeys * w
+    whole = me .cells ∙ sym rows-whole ∙ ap (λ (u : ℕ). s .height * s .storeys * u) (sym (me .width))
+
+    pub storey-is : {h : ℕ} → h ≡ getD rows 2049 0 + 1 → w * h ≡ s .width * s .height
+    storey-is e = ap₂ _*_ (me .width) (e ∙ gr .lines .last)
+
+    pub storey-most : s .width * s .height ≤ n
+    storey-most = omega (arith, me .cells, gr .cells, mul-le-mul-left (s .width * s .height) (gr .good .storeys-low))
 
     module _ {c row col : ℕ} (si : Site n w c row col) where
       on : c < size (land s slow)
       on = omega (arith, me .cells, cells-size, si .on)
 
-      pub line : row < s .height
-      line = omega (arith, row-is si, quotient-low c w (s .height) (omega (arith, si .on, area)))
+      pub line : row < s .height * s .storeys
+      line = omega (arith, row-is si, quotient-low c w (s .height * s .storeys) (omega (arith, si .on, whole)))
 
-      pub column : col < s .width
+      pub column : col < s .width * 1
       column = omega (arith, me .width, si .column)
 
       -- ---- the neighbours are on the board where the seams are not the edge
@@ -148,13 +206,13 @@ module _ {s : Shape} {slow ts cols rows : List ℕ} (gr : Ground s slow ts cols 
       left-some q = omega (arith, si .cell, place-behind (gr .columns) column q)
 
       pub right-some : getD cols (col + 1) 0 ≢ edge → c + 1 < n
-      right-some q = omega (arith, si .cell, me .width, place-ahead (gr .columns) column q, area, mul-le-mul-right w line)
+      right-some q = omega (arith, si .cell, me .width, place-ahead (gr .columns) column q, whole, mul-le-mul-right w line)
 
       pub above-some : getD rows row 0 ≢ edge → w ≤ c
       above-some q = omega (arith, si .cell, mul-le-mul-right w (place-behind (gr .lines) line q))
 
       pub below-some : getD rows (row + 1) 0 ≢ edge → c + w < n
-      below-some q = omega (arith, si .cell, si .column, area, mul-le-mul-right w (place-ahead (gr .lines) line q))
+      below-some q = omega (arith, si .cell, si .column, whole, mul-le-mul-right w (place-ahead (gr .lines) line q))
 
       module _ {work : List ℕ} (room : 4 * n ≤ length work) (u : ℕ) {mark : ℕ} where
         fits : (less more : ℕ) → (mark ≢ edge → (more ≤ n) × (less ≤ c + more) × (c + more - less < n)) → Sees n slow ts work c less more mark
@@ -174,41 +232,149 @@ module _ {s : Shape} {slow ts cols rows : List ℕ} (gr : Ground s slow ts cols 
         pub fits-on : (mark ≢ edge → c + u < n) → Sees n slow ts work c 0 u mark
         fits-on h = fits 0 u (λ q. (omega (arith, h q), omega arith, omega (arith, h q)))
 
-      -- ---- what code reads across the seams of an axis is what the rule sees there
-      abbrev ghost : (d e : ℕ) → ℕ
-      ghost d e = counts-as (land s slow) ts e
+      -- it lies within the seams as laid
+      pub within : (col < 256) × (row < 2048)
+      within = (omega (arith, column, gr .good .wide-high), omega (arith, line, lines-most))
 
-      -- the places of the cell, by its column and its row
-      pub column-at : place (column-axis (land s slow)) c ≡ col % s .width
+      -- so its neighbours on its storey can be seen
+      module _ {work : List ℕ} (room : 4 * n ≤ length work) where
+        pub sees-columns : Sees n slow ts work c 1 0 (getD cols col 0) × Sees n slow ts work c 0 1 (getD cols (col + 1) 0)
+        sees-columns = (fits-back room 1 left-some, fits-on room 1 right-some)
+
+        pub sees-rows : Sees n slow ts work c w 0 (getD rows row 0) × Sees n slow ts work c 0 w (getD rows (row + 1) 0)
+        sees-rows = (fits-back room w above-some, fits-on room w below-some)
+
+      -- ---- the places of the cell: its column, its row in the storey, its storey
+      abbrev board : Board
+      board = land s slow
+
+      pub column-at : place (column-axis board) c ≡ col % s .width
       unfolding place
-      column-at = ap (λ (u : ℕ). u % s .width) (div-one c) ∙ ap (λ (k : ℕ). c % k) (sym (me .width)) ∙ col-is si ∙ sym (mod-eq-of-lt column)
+      column-at = ap (λ (u : ℕ). u % s .width) (div-one c) ∙ ap (λ (k : ℕ). c % k) (sym (me .width)) ∙ col-is si
+          ∙ sym (mod-eq-of-lt (omega (arith, column)))
 
-      pub line-at : place (row-axis (land s slow)) c ≡ row % s .height
+      pub line-at : place (row-axis board) c ≡ row % s .height
       unfolding place
       line-at = ap (λ (k : ℕ). c / k % s .height) (sym (me .width)) ∙ ap (λ (u : ℕ). u % s .height) (row-is si)
 
-      module _ {x : Cut} (st : Straight (land s slow) (s .across) (s .down) x) {js : List ℕ} (la : Marked (x .axis .count) (x .side) js)
-          {i l r : ℕ} (at : place (x .axis) c ≡ i % x .axis .count) (low : i < x .axis .count) (f : ℕ → ℕ) where
-        read : l ≡ across (getD js i 0) (f (c + 0 - x .axis .unit)) (ghost c (c + 0 - x .axis .unit))
-            → r ≡ across (getD js (i + 1) 0) (f (c + x .axis .unit - 0)) (ghost c (c + x .axis .unit - 0))
-            → min l r ≡ sight (x .axis) c (ghosted (land s slow) (s .across) (s .down) ghost f c)
-        read p q =
-            let here : c + 0 ≡ c = omega arith in
-            let there : c + x .axis .unit - 0 ≡ c + x .axis .unit = omega arith in
-            sees st c ghost f (p ∙ rw (here, marked-back x c la at low)) (q ∙ rw (there, marked-on x c la at low))
+      abbrev stack : Cut
+      stack = cut (storey-axis board) (s .storeys)
 
-      -- THE RULE from what code reads of the four neighbours
-      pub rule-read : (f : ℕ → ℕ) {l r u d x y : ℕ}
-          → l ≡ across (getD cols col 0) (f (c + 0 - 1)) (ghost c (c + 0 - 1))
-          → r ≡ across (getD cols (col + 1) 0) (f (c + 1 - 0)) (ghost c (c + 1 - 0))
-          → u ≡ across (getD rows row 0) (f (c + 0 - w)) (ghost c (c + 0 - w))
-          → d ≡ across (getD rows (row + 1) 0) (f (c + w - 0)) (ghost c (c + w - 0))
-          → x ≡ min l r → y ≡ min u d
-          → min never (local-of (along-row (getD slow c 0)) (down-column (getD slow c 0)) x y) ≡ rule-at s slow ts c f
+      stack-whole : n ≡ s .storeys * (s .width * s .height)
+      stack-whole = me .cells ∙ gr .cells ∙ mul-comm (s .width * s .height) (s .storeys)
+
+      module _ {area : ℕ} (storey : area ≡ s .width * s .height) where
+        -- a cell has one under it just if it is past the first storey, and one over it just if it is before the last
+        lowest : c < area → place (storey-axis board) c ≡ 0
+        lowest l = elim (ℕ-discrete (place (storey-axis board) c) 0) [
+          | yes q ↦ q
+          | no q ↦ absurd (omega (arith, storey, unit-most (storeys-span (gr .good)) c q))
+        ]
+
+        not-lowest : area ≤ c → place (storey-axis board) c ≢ 0
+        unfolding place
+        not-lowest l z =
+            let k = s .width * s .height in
+            let low : c / k < s .storeys = quotient-low c k (s .storeys) (omega (arith, si .on, stack-whole)) in
+            let none : c / k ≡ 0 = sym (mod-eq-of-lt low) ∙ z in
+            omega (arith, storey, div-add-mod' c k, mod-lt c (mul-le-mul (gr .good .wide-low) (gr .good .high-low)), ap (λ (u : ℕ). u * k) none)
+
+        highest : n ≤ c + area → suc (place (storey-axis board) c) ≡ s .storeys
+        highest l = elim (ℕ-discrete (suc (place (storey-axis board) c)) (s .storeys)) [
+          | yes q ↦ q
+          | no q ↦ absurd (omega (arith, storey, me .cells, cells-size, on-cell (storeys-span (gr .good)) c on q))
+        ]
+
+        not-highest : c + area < n → suc (place (storey-axis board) c) ≢ s .storeys
+        unfolding place
+        not-highest l z =
+            let k = s .width * s .height in
+            let low : c / k < s .storeys = quotient-low c k (s .storeys) (omega (arith, si .on, stack-whole)) in
+            let last : suc (c / k) ≡ s .storeys = ap suc (sym (mod-eq-of-lt low)) ∙ z in
+            omega (arith, storey, stack-whole, div-add-mod' c k, ap (λ (u : ℕ). u * k) last)
+
+        pub under-mark : mark-under area c ≡ seam-back stack c
+        under-mark = go (order c area)
+          where
+            go : (c < area) ⊎ (area ≤ c) → mark-under area c ≡ seam-back stack c
+            go (inl l) = rw (lt-ltb c area l) (sym (seam-edge (s .storeys) (s .storeys) _ (ap (λ (u : ℕ). u % s .storeys) (lowest l) ∙ zero-mod (s .storeys))))
+            go (inr l) =
+                let p = mod-eq-of-lt (place-low (storeys-span (gr .good)) c) in
+                rw (le-ltb c area l)
+                (sym (seam-inside (s .storeys) (s .storeys) _ (λ z. not-lowest l (sym p ∙ z))
+                (λ z. not-lowest l (sym p ∙ sym (mod-mod (place (storey-axis board) c) (s .storeys)) ∙ z))))
+
+        pub over-mark : mark-over n area c ≡ seam-on stack c
+        over-mark = go (order (c + area) n)
+          where
+            go : (c + area < n) ⊎ (n ≤ c + area) → mark-over n area c ≡ seam-on stack c
+            go (inl l) =
+                let i = suc (place (storey-axis board) c) in
+                let p : i % s .storeys ≡ i = mod-eq-of-lt (omega (arith, place-low (storeys-span (gr .good)) c, not-highest l)) in
+                rw (lt-ltb (c + area) n l)
+                (sym (seam-inside (s .storeys) (s .storeys) i (λ z. omega (arith, p)) (λ z. omega (arith, p, mod-mod i (s .storeys)))))
+            go (inr l) =
+                rw (le-ltb (c + area) n l)
+                (sym (seam-edge (s .storeys) (s .storeys) _ (ap (λ (u : ℕ). u % s .storeys) (highest l) ∙ mod-self (s .storeys))))
+
+        pub under-some : mark-under area c ≢ edge → area ≤ c
+        under-some q = go (order c area)
+          where
+            go : (c < area) ⊎ (area ≤ c) → area ≤ c
+            go (inl l) = absurd (q (rw (lt-ltb c area l)))
+            go (inr l) = l
+
+        pub over-some : mark-over n area c ≢ edge → c + area < n
+        over-some q = go (order (c + area) n)
+          where
+            go : (c + area < n) ⊎ (n ≤ c + area) → c + area < n
+            go (inl l) = l
+            go (inr l) = absurd (q (rw (le-ltb (c + area) n l)))
+
+      -- ---- what code reads across the seams of an axis is what the rule sees there
+      abbrev ghost : (d e : ℕ) → ℕ
+      ghost d e = counts-as board ts e
+
+      abbrev seen : (f : ℕ → ℕ) → (e : ℕ) → ℕ
+      seen f e = ghosted board (s .across) (s .down) ghost f c e
+
+      read : {x : Cut} → Straight board (s .across) (s .down) x → {m k z : ℕ} → m ≡ seam-back x c → k ≡ seam-on x c → (f : ℕ → ℕ)
+          → z ≡ both-seen board ts f c (x .axis .unit) m k → z ≡ sight (x .axis) c (seen f)
+      read {x} st mb mo f e =
+          let here : c + 0 ≡ c = omega arith in
+          let there : c + x .axis .unit - 0 ≡ c + x .axis .unit = omega arith in
+          e ∙ sees st c ghost f (rw (here, mb)) (rw (there, mo))
+
+      pub columns-read : (f : ℕ → ℕ) {z : ℕ} → z ≡ both-seen board ts f c 1 (getD cols col 0) (getD cols (col + 1) 0)
+          → z ≡ sight (column-axis board) c (seen f)
+      columns-read f =
+          read (columns-straight (gr .good) (s .across) (s .down) (gr .across) (gr .down))
+          (marked-back (cut (column-axis board) (s .across)) c (gr .columns) column-at column)
+          (marked-on (cut (column-axis board) (s .across)) c (gr .columns) column-at column) f
+
+      pub rows-read : (f : ℕ → ℕ) {z : ℕ} → z ≡ both-seen board ts f c w (getD rows row 0) (getD rows (row + 1) 0)
+          → z ≡ sight (row-axis board) c (seen f)
+      rows-read f e =
+          read (rows-straight (gr .good) (s .across) (s .down) (gr .across) (gr .down))
+          (marked-back (cut (row-axis board) (s .down)) c (gr .lines) line-at line) (marked-on (cut (row-axis board) (s .down)) c (gr .lines) line-at line) f
+          (e ∙ ap (λ (k : ℕ). both-seen board ts f c k (getD rows row 0) (getD rows (row + 1) 0)) (me .width))
+
+      pub stack-read : (f : ℕ → ℕ) {area z : ℕ} → area ≡ s .width * s .height → z ≡ both-seen board ts f c area (mark-under area c) (mark-over n area c)
+          → z ≡ sight (storey-axis board) c (seen f)
+      stack-read f {area} q e =
+          read (storeys-straight (gr .good) (s .across) (s .down) (gr .across) (gr .down)) (under-mark q) (over-mark q) f
+          (e ∙ ap (λ (k : ℕ). both-seen board ts f c k (mark-under area c) (mark-over n area c)) q)
+
+      -- on a flat board nothing
+      pub flat-read : (f : ℕ → ℕ) → s .storeys ≡ 1 → never ≡ sight (storey-axis board) c (seen f)
+      unfolding sight place
+      flat-read f e =
+          let first : c / (s .width * s .height) % s .storeys ≡ 0 = ap (λ (u : ℕ). c / (s .width * s .height) % u) e ∙ mod-one (c / (s .width * s .height)) in
+          sym (rw (eq-eqb _ 0 first, eq-eqb _ _ (ap suc first ∙ sym e)) (earlier-min never never))
+
+      -- THE RULE from what code reads along the axes
+      pub rule-read : (f : ℕ → ℕ) {x y z : ℕ} → x ≡ sight (column-axis board) c (seen f) → y ≡ sight (row-axis board) c (seen f)
+          → z ≡ sight (storey-axis board) c (seen f)
+          → min never (local-of (along-row (getD slow c 0)) (down-column (getD slow c 0)) x y z) ≡ rule-at s slow ts c f
       unfolding arrival slowness
-      rule-read f {l} {r} {u} {d} el er eu ed ex ey =
-          let cs = columns-straight (gr .good) (s .across) (s .down) (gr .across) (gr .down) in
-          let rs = rows-straight (gr .good) (s .across) (s .down) (gr .across) (gr .down) in
-          let eu' = subst (λ k. u ≡ across (getD rows row 0) (f (c + 0 - k)) (ghost c (c + 0 - k))) (me .width) eu in
-          let ed' = subst (λ k. d ≡ across (getD rows (row + 1) 0) (f (c + k - 0)) (ghost c (c + k - 0))) (me .width) ed in
-          rw (ex ∙ read cs (gr .columns) column-at column f el er, ey ∙ read rs (gr .lines) line-at line f eu' ed') refl
+      rule-read f ex ey ez = rw (ex, ey, ez) refl

@@ -6,18 +6,31 @@ use mathlib.Core.Logic.{_⊎_, inl, inr, _≢_}
 use Prim.Native.Nat.{ℕ, suc, _+_, _*_, _-_, _/_, _%_, _≤_, _<_, min}
 use native.Mathlib.Omega.{arith}
 use native.Mathlib.Decide.{ℕ-discrete}
-use native.Mathlib.Nat.{suc-mod, mod-lt, mod-mod, mod-eq-of-lt, mod-self, zero-mod, div-add-mod', div-one, add-mod-right, div-eq-of-lt-le}
+use native.Mathlib.Nat.{
+  suc-mod,
+  mod-lt,
+  mod-mod,
+  mod-eq-of-lt,
+  mod-self,
+  zero-mod,
+  div-add-mod',
+  div-one,
+  add-mod-right,
+  add-mul-div-left,
+  add-mul-mod-self-left,
+  div-eq-of-lt-le,
+}
 use lib.Dec.{eqb}
 use borrow.Author.Tests.{eq-eqb, ne-eqb}
 use Rattle.eikonal.specs.Axes.{place, sight, Spans, Next, Near}
-use Rattle.eikonal.specs.Board.{Board, never, size, column-axis, row-axis, earlier}
+use Rattle.eikonal.specs.Board.{Board, never, size, column-axis, row-axis, storey-axis, earlier}
 use Rattle.eikonal.specs.Tiles.{tile-of, up}
 use Rattle.eikonal.specs.Promise.{Neighbour}
 use Rattle.eikonal.specs.Inner.Good.{Good}
 use Rattle.eikonal.proofs.Up.{up-some}
 use Rattle.eikonal.proofs.Local.{earlier-min}
 use Rattle.eikonal.proofs.Grid.{place-low, place-on, place-back, back-on, not-last, next-first, next-back, near-which, none-near}
-use Rattle.eikonal.proofs.Rule.{columns-span, rows-span}
+use Rattle.eikonal.proofs.Rule.{columns-span, rows-span, storeys-span}
 use Rattle.front.specs.Front.{Out, ghosted}
 use Rattle.front.specs.Seams.{Cut, cut, cuts, seam-back, seam-on, edge, border, inside, seam, across, hearer, near-on, near}
 
@@ -105,15 +118,50 @@ module _ {b : Board} (good : Good b) (tw th : ℕ) (tw1 : 1 ≤ tw) (th1 : 1 ≤
     spans = rows-span good;
     own = λ c q e. tile c q ∙ ap (λ (u : ℕ). u * up (b .wide) tw + place (column-axis b) c / tw) (next-same th (place (row-axis b) c) th1 e);
     apart = λ c q e z.
-        omega (arith, up-some (b .wide) tw tw1 (good .wide-low), sym (tile c q) ∙ z, ap (λ (u : ℕ). u * up (b .wide) tw) (next-other th (place (row-axis b) c) th1 e));
+        omega (
+          arith,
+          up-some (b .wide) tw tw1 (good .wide-low),
+          sym (tile c q) ∙ z,
+          ap (λ (u : ℕ). u * up (b .wide) tw) (next-other th (place (row-axis b) c) th1 e),
+        );
   }
     where
       tile : (c : ℕ) → suc (place (row-axis b) c) ≢ b .high
           → tile-of b tw th (c + b .wide) ≡ suc (place (row-axis b) c) / th * up (b .wide) tw + place (column-axis b) c / tw
       tile c q = rw (place-on (rows-span good) c q, column-kept c)
 
+  -- a step over to the next storey keeps both
+  storey-kept : (c : ℕ) → tile-of b tw th (c + b .wide * b .high) ≡ tile-of b tw th c
+  unfolding tile-of place
+  storey-kept c = ap₂ (λ (x y : ℕ). x / th * up (b .wide) tw + y / tw) row column
+    where
+      rows : (k : ℕ) → (c + b .wide * k) / b .wide ≡ c / b .wide + k
+      rows k = add-mul-div-left c k (good .wide-low)
+
+      row : (c + b .wide * b .high) / b .wide % b .high ≡ c / b .wide % b .high
+      row = ap (λ (u : ℕ). u % b .high) (rows (b .high)) ∙ add-mod-right (c / b .wide) (b .high)
+
+      column : (c + b .wide * b .high) / 1 % b .wide ≡ c / 1 % b .wide
+      column =
+          ap (λ (u : ℕ). u % b .wide) (div-one (c + b .wide * b .high)) ∙ add-mul-mod-self-left c (b .wide) (b .high)
+          ∙ ap (λ (u : ℕ). u % b .wide) (sym (div-one c))
+
+  pub storeys-straight : Straight b tw th (cut (storey-axis b) (b .storeys))
+  storeys-straight = record {
+    spans = storeys-span good;
+    own = λ c q e. storey-kept c;
+    apart = λ c q e z. q (whole c q e);
+  }
+    where
+      -- a tile begins at the first storey alone
+      whole : (c : ℕ) → suc (place (storey-axis b) c) ≢ b .storeys → suc (place (storey-axis b) c) % b .storeys ≡ 0
+          → suc (place (storey-axis b) c) ≡ b .storeys
+      whole c q e =
+          let low : suc (place (storey-axis b) c) < b .storeys = omega (arith, place-low (storeys-span good) c, q) in
+          absurd (omega (arith, e, mod-eq-of-lt {n = suc (place (storey-axis b) c)} {m = b .storeys} low))
+
   pub all-straight : All-straight b tw th (cuts b tw th)
-  all-straight = also columns-straight (also rows-straight none)
+  all-straight = also columns-straight (also rows-straight (also storeys-straight none))
 
 -- ---- what lies between a cell and a neighbour
 data Kind (b : Board) (tw th : ℕ) (s c e : ℕ) : Type 0 where
@@ -126,8 +174,12 @@ module _ {b : Board} {tw th : ℕ} {x : Cut} (st : Straight b tw th x) (c : ℕ)
       let i = suc (place (x .axis) c) in
       let low : i % x .axis .count ≡ i = mod-eq-of-lt (omega (arith, place-low (st .spans) c, q)) in
       elim (ℕ-discrete (i % x .side) 0) [
-        | yes z ↦ apart (seam-border (x .axis .count) (x .side) i (λ r. omega (arith, low)) (ap (λ (u : ℕ). u % x .side) low ∙ z)) (λ r. st .apart c q z (sym r))
-        | no z ↦ own (seam-inside (x .axis .count) (x .side) i (λ r. omega (arith, low)) (λ r. z (ap (λ (u : ℕ). u % x .side) (sym low) ∙ r))) (sym (st .own c q z))
+        | yes z ↦ apart
+            (seam-border (x .axis .count) (x .side) i (λ r. omega (arith, low)) (ap (λ (u : ℕ). u % x .side) low ∙ z))
+            (λ r. st .apart c q z (sym r))
+        | no z ↦ own
+            (seam-inside (x .axis .count) (x .side) i (λ r. omega (arith, low)) (λ r. z (ap (λ (u : ℕ). u % x .side) (sym low) ∙ r)))
+            (sym (st .own c q z))
       ]
 
 module _ {b : Board} {tw th : ℕ} {x : Cut} (st : Straight b tw th x) (c : ℕ) where
@@ -159,7 +211,8 @@ module _ {b : Board} {tw th : ℕ} {x : Cut} (st : Straight b tw th x) (c : ℕ)
         ≡ cond (eqb (place (x .axis) c) 0) never (ghosted b tw th g f c (c - x .axis .unit))
     sees-back = elim (ℕ-discrete (place (x .axis) c) 0) [
       | yes q ↦ rw (eq-eqb (place (x .axis) c) 0 q)
-          (across-edge _ (c - x .axis .unit) (seam-edge (x .axis .count) (x .side) (place (x .axis) c) (ap (λ (u : ℕ). u % x .axis .count) q ∙ zero-mod (x .axis .count))))
+          (across-edge _ (c - x .axis .unit)
+          (seam-edge (x .axis .count) (x .side) (place (x .axis) c) (ap (λ (u : ℕ). u % x .axis .count) q ∙ zero-mod (x .axis .count))))
       | no q ↦ rw (ne-eqb (place (x .axis) c) 0 q) (across-kind _ (c - x .axis .unit) (back-kind q))
     ]
 
@@ -167,7 +220,8 @@ module _ {b : Board} {tw th : ℕ} {x : Cut} (st : Straight b tw th x) (c : ℕ)
         ≡ cond (eqb (suc (place (x .axis) c)) (x .axis .count)) never (ghosted b tw th g f c (c + x .axis .unit))
     sees-on = elim (ℕ-discrete (suc (place (x .axis) c)) (x .axis .count)) [
       | yes q ↦ rw (eq-eqb (suc (place (x .axis) c)) (x .axis .count) q)
-          (across-edge _ (c + x .axis .unit) (seam-edge (x .axis .count) (x .side) (suc (place (x .axis) c)) (ap (λ (u : ℕ). u % x .axis .count) q ∙ mod-self (x .axis .count))))
+          (across-edge _ (c + x .axis .unit)
+          (seam-edge (x .axis .count) (x .side) (suc (place (x .axis) c)) (ap (λ (u : ℕ). u % x .axis .count) q ∙ mod-self (x .axis .count))))
       | no q ↦ rw (ne-eqb (suc (place (x .axis) c)) (x .axis .count) q) (across-kind _ (c + x .axis .unit) (on-kind st c q))
     ]
 

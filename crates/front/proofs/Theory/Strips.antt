@@ -5,7 +5,7 @@ use mathlib.Core.List.{List, []}
 use Prim.Native.Nat.{ℕ, suc, _+_, _*_, _/_, _%_, _≤_, _<_, min}
 use native.Mathlib.Omega.{arith}
 use native.Mathlib.Decide.{ℕ-discrete}
-use native.Mathlib.Nat.{mul-le-mul-right, mul-comm, div-add-mod', div-one, mod-lt, mod-eq-of-lt, mod-self, zero-mod, add-mod-right}
+use native.Mathlib.Nat.{mul-le-mul-right, mul-one, div-add-mod', div-one, mod-lt, mod-eq-of-lt, mod-self, mod-one, zero-mod, add-mod-right}
 use borrow.Author.Tests.{eq-eqb, ne-eqb}
 use Rattle.eikonal.specs.Axes.{place}
 use Rattle.eikonal.specs.Board.{never, size, column-axis, row-axis}
@@ -17,13 +17,13 @@ use Rattle.one_tile.proofs.March.{same-tile}
 use Rattle.front.specs.Front.{Among, among, ghosted, heard, Out, Midway, Upheld}
 use Rattle.front.specs.Seams.{seam, seam-back, seam-on, cut, inside, hearer, near}
 use Rattle.front.specs.Board.{land, rule-at, tentative, Work, keys, Ground}
-use Rattle.front.specs.State.{Held, Told, all, Placed, Gathered, Ready, Apart, Ready-among, Drained, Inner, Woken, Parted, Worked}
+use Rattle.front.specs.State.{Held, Told, all, Placed, Gathered, Ready, Apart, Ready-among, Drained, Inner, Woken, Parted, Strip, Worked}
 use Rattle.front.specs.declared.Shape.{Shape}
 use Rattle.front.proofs.Theory.Front.{Lawful, ended}
 use Rattle.front.proofs.Theory.Among.{which, among-in, among-out, among-lawful, told-among, told-within}
 use Rattle.front.proofs.Theory.Sight.{gives-same, gives-late}
 use Rattle.front.proofs.Theory.Seams.{untold-inside, seam-edge, seam-border, seam-inside}
-use Rattle.front.proofs.Theory.Reading.{cells-size}
+use Rattle.front.proofs.Theory.Reading.{cells-size, rows-whole}
 use Rattle.front.proofs.Theory.Relaxing.{hearer-some, hearer-none}
 use Rattle.front.proofs.Theory.Telling.{told-held, told-long, told-rest, told-upheld, told-midway}
 use Rattle.front.proofs.Theory.Beginning.{gathered-held, gathered-silent, gathered-within, gathered-upheld, times-small, arrival-quiet}
@@ -165,7 +165,10 @@ module _ {s : Shape} {slow ts cols rows : List ℕ} (gr : Ground s slow ts cols 
           b .meets c (l, z)
           ∙ ap (λ x. clip bound (min x (L c (λ e. clip bound (tentative w n e))))) (a .others c (omega arith) (λ i. omega arith))
 
-  -- ---- rows with no inside seam before or behind them are apart
+  -- ---- rows of a flat board with no inside seam before or behind them are apart
+  pub flat-lines : s .storeys ≡ 1 → s .height * s .storeys ≡ s .height
+  flat-lines e = ap (λ (u : ℕ). s .height * u) e ∙ mul-one (s .height)
+
   module _ {from end : ℕ} (pa : Parted s from end) where
     abbrev w : ℕ
     w = s .width
@@ -196,7 +199,10 @@ module _ {s : Shape} {slow ts cols rows : List ℕ} (gr : Ground s slow ts cols 
         out _ _ (λ q. let p = inner-back w (s .across) _ q in (omega arith, omega (arith, row, right p, low-end))),
         (
           out _ _ (λ q. (omega (arith, parts, mul-le-mul-right w (above q)), omega arith)),
-          (out _ _ (λ q. (omega arith, omega (arith, parts, mod-lt c (gr .good .wide-low), mul-le-mul-right w (below q)))), tt),
+          (
+            out _ _ (λ q. (omega arith, omega (arith, parts, mod-lt c (gr .good .wide-low), mul-le-mul-right w (below q)))),
+            (out _ _ (λ q. absurd (flat _ q)), (out _ _ (λ q. absurd (flat _ q)), tt)),
+          ),
         ),
       ),
     )
@@ -212,6 +218,10 @@ module _ {s : Shape} {slow ts cols rows : List ℕ} (gr : Ground s slow ts cols 
 
         low-end : suc (c / w) * w ≤ end * w
         low-end = mul-le-mul-right w (at .1)
+
+        -- nobody is under or over it
+        flat : (i : ℕ) → seam (s .storeys) (s .storeys) i ≡ inside → ⊥
+        flat i q = omega (arith, sym q ∙ seam-edge (s .storeys) (s .storeys) i (ap (λ (u : ℕ). i % u) (pa .flat) ∙ mod-one i))
 
         -- the cell's places are its column and its row
         column-is : place (column-axis (land s slow)) c ≡ c % w
@@ -250,16 +260,27 @@ module _ {s : Shape} {slow ts cols rows : List ℕ} (gr : Ground s slow ts cols 
           | no q ↦ omega (arith, l, z, hearer-none (size (land s slow)) inside mark e q, cells-size gr)
         ]
 
-    pub parted-fits : (from * w ≤ end * w) × (end * w ≤ n)
-    parted-fits =
-        (mul-le-mul-right w (pa .up), omega (arith, mul-le-mul-right w (pa .fits), gr .cells, mul-comm (s .width) (s .height)))
+    pub parted-strip : Strip s slow from end
+    parted-strip = record { up = pa .up; fits = omega (arith, pa .fits, pa .flat, flat-lines (pa .flat)); apart = parted-apart }
+
+  -- all rows of a house
+  pub all-strip : Strip s slow 0 (s .height * s .storeys)
+  all-strip = record {
+    up = omega arith;
+    fits = omega arith;
+    apart = λ c d i l o. absurd (o (omega arith, omega (arith, l, rows-whole gr)));
+  }
+
+  -- rows have all of their cells on the board
+  pub strip-fits : {from end : ℕ} → Strip s slow from end → (from * s .width ≤ end * s .width) × (end * s .width ≤ n)
+  strip-fits st = (mul-le-mul-right (s .width) (st .up), omega (arith, mul-le-mul-right (s .width) (st .fits), rows-whole gr))
 
   -- ---- rows of tiles, from the top
   pub top-parted : seam (s .height) (s .down) 0 ≢ inside
   top-parted q = omega (arith, sym q ∙ seam-edge (s .height) (s .down) 0 (zero-mod (s .height)))
 
   -- the next of them
-  module _ {row : ℕ} (l : row < s .height) (first : seam (s .height) (s .down) row ≢ inside) where
+  module _ {row : ℕ} (flat : s .storeys ≡ 1) (l : row < s .height) (first : seam (s .height) (s .down) row ≢ inside) where
     abbrev end : ℕ
     end = min (row + s .down) (s .height)
 
@@ -275,6 +296,7 @@ module _ {s : Shape} {slow ts cols rows : List ℕ} (gr : Ground s slow ts cols 
 
     pub next-parted : Parted s row end
     next-parted = record {
+      flat = flat;
       up = omega arith;
       fits = omega arith;
       before = first;
@@ -294,7 +316,7 @@ module _ {s : Shape} {slow ts cols rows : List ℕ} (gr : Ground s slow ts cols 
 
     -- and the rows before it
     pub first-parted : Parted s 0 row
-    first-parted = record { up = omega arith; fits = omega arith; before = top-parted; behind = first }
+    first-parted = record { flat = flat; up = omega arith; fits = omega arith; before = top-parted; behind = first }
 
   -- ---- one tile covers the board: all cells are inner, and need not hear
   pub unwoken : s .width ≤ s .across → s .height ≤ s .down → (g : Work) → Woken s slow ts 0 n g g

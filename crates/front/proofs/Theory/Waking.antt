@@ -14,7 +14,7 @@ use Rattle.front.specs.Board.{land, rule-at, Work, Ground, Measures, Sit
 use Rattle.front.specs.State.{Touched, Told, all, next, Inner, Woken}
 use Rattle.front.specs.declared.Shape.{Shape}
 use Rattle.front.proofs.Theory.Seams.{untold-border}
-use Rattle.front.proofs.Theory.Reading.{cells-size, cells-most}
+use Rattle.front.proofs.Theory.Reading.{rows-whole}
 use Rattle.front.proofs.Theory.Relaxing.{near-out}
 
 -- ---- one cell more hears of it
@@ -77,5 +77,5 @@ module _ {s : Shape} {slow ts cols rows : List ℕ} (gr : Ground s slow ts cols 
   woken-none lo v = record { cells = []; told = all v; within = λ c o. tt; inner = λ c i o. absurd (omega arith) }
 
   -- ---- the cells of a row are on the board, with all rows before it
-  pub rows-fit : {row : ℕ} → row < s .height → suc row * s .width ≤ 65536
-  rows-fit {row} l = omega (arith, mul-le-mul-right (s .width) l, gr .cells, cells-most gr)
+  pub rows-fit : {row : ℕ} → row < s .height * s .storeys → suc row * s .width ≤ s .cells
+  rows-fit {row} l = omega (arith, mul-le-mul-right (s .width) l, rows-whole gr)

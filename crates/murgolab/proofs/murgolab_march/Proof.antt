@@ -30,15 +30,16 @@ use Rattle.murgolab.proofs.murgolab_march.Statement as stated
 use Rattle.murgolab.proofs.murgolab_march.Code as code
 
 abbrev params : List (Param 4)
-params = number-param w32 ∷ number-param w32 ∷ shared u32 0 tt ∷ shared Start-type.the-row 1 tt ∷ number-param w32 ∷ given-up u32 2 tt ∷ given-up u32 3 tt ∷ []
+params = number-param w32 ∷ number-param w32 ∷ number-param w32 ∷ shared u32 0 tt ∷ shared Start-type.the-row 1 tt ∷ number-param w32 ∷ given-up u32 2 tt ∷
+    given-up u32 3 tt ∷ []
 
 module _ {M : Type 1} (𝓤 : URA M) (H : Heap 𝓤) (A : Atoms 𝓤) (W : Given 𝓤 H A) (mem : Memory → SProp 𝓤) (run : Routine → Fun 𝓤) (𝓣 : Tables 𝓤 H)
     (known-mj : Triple 𝓤 (𝓣 .C mj-def.name) (contract-of 𝓤 H A mj.ended (mj.clauses 𝓤 H A mem run)))
     (known-pr : Triple 𝓤 (𝓣 .C pr-def.name) (contract-of 𝓤 H A pr.ended (pr.clauses 𝓤 H A mem run))) where
-  module _ (κ0 κ1 κ2 κ3 : Lft) (q0 q1 q2 q3 : Share) (width : ℕ) (height : ℕ) (r-slow : RefT (List ℕ)) (r-starts : RefT (List Start)) (horizon : ℕ)
-      (r-times : RefT (List ℕ)) (r-work : RefT (List ℕ)) (g-width : width < 2 ^ 32) (g-height : height < 2 ^ 32) (g-slow : Room u32 (length (r-slow .now)))
-      (g-starts : Room Start-type.the-row (length (r-starts .now))) (g-horizon : horizon < 2 ^ 32) (g-times : Room u32 (length (r-times .now)))
-      (g-work : Room u32 (length (r-work .now))) where
+  module _ (κ0 κ1 κ2 κ3 : Lft) (q0 q1 q2 q3 : Share) (width : ℕ) (height : ℕ) (storeys : ℕ) (r-slow : RefT (List ℕ)) (r-starts : RefT (List Start))
+      (horizon : ℕ) (r-times : RefT (List ℕ)) (r-work : RefT (List ℕ)) (g-width : width < 2 ^ 32) (g-height : height < 2 ^ 32) (g-storeys : storeys < 2 ^ 32)
+      (g-slow : Room u32 (length (r-slow .now))) (g-starts : Room Start-type.the-row (length (r-starts .now))) (g-horizon : horizon < 2 ^ 32)
+      (g-times : Room u32 (length (r-times .now))) (g-work : Room u32 (length (r-work .now))) where
     abbrev slow : List ℕ
     slow = r-slow .now
 
@@ -52,17 +53,18 @@ module _ {M : Type 1} (𝓤 : URA M) (H : Heap 𝓤) (A : Atoms 𝓤) (W : Given
     work = r-work .now
 
     abbrev point : walkOf 𝓤 H A f.ended (stays params) (f.clauses 𝓤 H A mem run) .Ghost
-    point = entered-at 𝓤 H A W f.ended (stays params) (f.clauses 𝓤 H A mem run) (κ0 & κ1 & κ2 & κ3 & tt) (q0 & q1 & q2 & q3 & tt) tt (width & height & r-slow &
-        r-starts & horizon & r-times & r-work & tt) ((vint w32 width) ∷ [] & (vint w32 height) ∷ [] & slice-vals r-slow & slice-vals r-starts &
-        (vint w32 horizon) ∷ [] & slice-vals r-times & slice-vals r-work & tt) tt
+    point = entered-at 𝓤 H A W f.ended (stays params) (f.clauses 𝓤 H A mem run) (κ0 & κ1 & κ2 & κ3 & tt) (q0 & q1 & q2 & q3 & tt) tt (width & height & storeys &
+        r-slow & r-starts & horizon & r-times & r-work & tt) ((vint w32 width) ∷ [] & (vint w32 height) ∷ [] & (vint w32 storeys) ∷ [] & slice-vals r-slow &
+        slice-vals r-starts & (vint w32 horizon) ∷ [] & slice-vals r-times & slice-vals r-work & tt) tt
 
     walk : Walk 𝓤 H A W f.ended (stays params) (f.clauses 𝓤 H A mem run) 𝓣 code.function point
     walk =
         begins 𝓤 H A W f.ended (stays params) (f.clauses 𝓤 H A mem run) 𝓣 code.function point
-        (λ l0 l1 l2 l3 l4 l5 l6 l7 l8 l9 l10 l11 l12. params1 ! $ takes ! 22 refl (tt, record { fits = g-width }) $
-        takes ! 20 refl (tt, record { fits = g-height }) $ takes ! 18 refl (tt, (tt, (record { fits = g-slow .0 }, tt))) $
-        takes ! 16 refl (tt, (tt, (record { fits = g-starts .0 }, tt))) $ takes ! 14 refl (tt, record { fits = g-horizon }) $
-        takes ! 12 refl (tt, (tt, (record { fits = g-times .0 }, tt))) $ takes ! 10 refl (tt, (tt, (record { fits = g-work .0 }, tt))) $ pass0 ! $
+        (λ l0 l1 l2 l3 l4 l5 l6 l7 l8 l9 l10 l11 l12 l13. params1 ! $ takes ! 24 refl (tt, record { fits = g-width }) $
+        takes ! 22 refl (tt, record { fits = g-height }) $ takes ! 20 refl (tt, record { fits = g-storeys }) $
+        takes ! 18 refl (tt, (tt, (record { fits = g-slow .0 }, tt))) $ takes ! 16 refl (tt, (tt, (record { fits = g-starts .0 }, tt))) $
+        takes ! 14 refl (tt, record { fits = g-horizon }) $ takes ! 12 refl (tt, (tt, (record { fits = g-times .0 }, tt))) $
+        takes ! 10 refl (tt, (tt, (record { fits = g-work .0 }, tt))) $ pass0 ! $
         number W w32 horizon (vint w32 horizon) (refl, g-horizon) $
         calls W 𝓣 mj.ended (mj.clauses 𝓤 H A mem run) tt tt tt (horizon & tt) ((vint w32 horizon) ∷ [] & tt) tt ! known-mj (id⊢ 𝓤 (emp 𝓤))
         (and-reads ! 15 refl (no-more !)) (λ u-job job _.
@@ -72,32 +74,36 @@ module _ {M : Type 1} (𝓤 : URA M) (H : Heap 𝓤) (A : Atoms 𝓤) (W : Given
         sets ! (slice-of ! 7 refl 13 refl refl) 5 refl (tt, (tt, (record { fits = g-times .0 }, tt))) $
         sets ! (pointer-of ! 11 refl refl) 3 refl (tt, tt) $
         sets ! (slice-of ! 3 refl 11 refl refl) 1 refl (tt, (tt, (record { fits = g-work .0 }, tt))) $
-        move ! (27 ∷ []) $ halves ! $
-        number W w32 width (vint w32 width) (refl, g-width) $ number W w32 height (vint w32 height) (refl, g-height) $ shares W u32 κ0 r-slow 36 refl $
-        shares W Start-type.the-row κ1 r-starts 38 refl $ shares W u32 κ0 r-slow 38 refl $
-        move ! (5 ∷ 34 ∷ 6 ∷ 35 ∷ 36 ∷ 4 ∷ 3 ∷ 2 ∷ 1 ∷ 7 ∷ 0 ∷ 42 ∷ 43 ∷ []) $
+        move ! (29 ∷ []) $ halves ! $
+        number W w32 width (vint w32 width) (refl, g-width) $ number W w32 height (vint w32 height) (refl, g-height) $
+        number W w32 storeys (vint w32 storeys) (refl, g-storeys) $ shares W u32 κ0 r-slow 40 refl $ shares W Start-type.the-row κ1 r-starts 42 refl $
+        shares W u32 κ0 r-slow 42 refl $
+        move ! (6 ∷ 37 ∷ 7 ∷ 38 ∷ 39 ∷ 5 ∷ 4 ∷ 3 ∷ 2 ∷ 1 ∷ 8 ∷ 0 ∷ 46 ∷ 47 ∷ []) $
         calls W 𝓣 pr.ended (pr.clauses 𝓤 H A mem run) (κ0 & κ1 & κ0 & κ2 & κ3 & tt) ((PosShare·left q0) & q1 & (PosShare·right q0) & q2 & q3 & tt) tt (width &
-        height & r-slow & r-starts & job & r-slow & named-so r-times (r-times .name) times & named-so r-work (r-work .name) work & tt) ((vint w32 width) ∷ [] &
-        (vint w32 height) ∷ [] & slice-vals r-slow & slice-vals r-starts & u-job ∷ [] & slice-vals r-slow & slice-vals r-times & slice-vals r-work & tt) tt !
-        known-pr (id⊢ 𝓤 (emp 𝓤)) (and-reads ! 23 refl (and-reads ! 21 refl (and-reads ! 19 refl (and-reads ! 17 refl (and-reads ! 9 refl (and-reads ! 19 refl
-        (and-reads ! 5 refl (and-reads ! 1 refl (no-more !))))))))) (λ u-r r z-pr.
-        heard ! _ (λ e-r. lands-value ! Reply-type.the-row (structs.lawful Reply-type.the-type Reply-laws.the-laws 𝓤 H A W) r refl 30 refl (λ g-r.
-        move ! (1 ∷ []) $ no-last ! $ no-last ! $ no-last ! $ no-last ! $ no-last ! $ no-last ! $ last-of ! (λ l-times′. last-of ! (λ l-work′. toss ! $
+        height & storeys & r-slow & r-starts & job & r-slow & named-so r-times (r-times .name) times & named-so r-work (r-work .name) work & tt)
+        ((vint w32 width) ∷ [] & (vint w32 height) ∷ [] & (vint w32 storeys) ∷ [] & slice-vals r-slow & slice-vals r-starts & u-job ∷ [] & slice-vals r-slow &
+        slice-vals r-times & slice-vals r-work & tt) tt ! known-pr (id⊢ 𝓤 (emp 𝓤)) (and-reads ! 25 refl (and-reads ! 23 refl (and-reads ! 21 refl (and-reads !
+        19 refl (and-reads ! 17 refl (and-reads ! 9 refl (and-reads ! 19 refl (and-reads ! 5 refl (and-reads ! 1 refl (no-more !)))))))))) (λ u-r r z-pr.
+        heard ! _ (λ e-r. lands-value ! Reply-type.the-row (structs.lawful Reply-type.the-type Reply-laws.the-laws 𝓤 H A W) r refl 32 refl (λ g-r.
+        move ! (1 ∷ []) $ no-last ! $ no-last ! $ no-last ! $ no-last ! $ no-last ! $ no-last ! $ no-last ! $ last-of ! (λ l-times′. last-of ! (λ l-work′.
+        toss ! $
         move ! (3 ∷ 5 ∷ []) $ rejoins ! κ0 q0 $
-        returns ! (look ! 31 refl) $ frees-at ! 31 refl refl $ frees-at ! 29 refl refl $ frees-at ! 27 refl refl $ frees-at ! 25 refl refl $
-        frees-at ! 23 refl refl $ frees-at ! 21 refl refl $ frees-at ! 19 refl refl $ frees-at ! 17 refl refl $ frees-at ! 15 refl refl $
-        frees-at ! 13 refl refl $ frees-at ! 11 refl refl $ frees-at ! 9 refl refl $ frees-at ! 7 refl refl $ free0 ! $ nothing ! $ nothing ! $ nothing ! $
-        nothing ! $ nothing ! $
-        keep ! (8 ∷ 5 ∷ 9 ∷ 10 ∷ 11 ∷ 4 ∷ 3 ∷ 2 ∷ 1 ∷ 0 ∷ 7 ∷ 6 ∷ []) $
-        by ! (ends 𝓤 H A W f.ended (stays params) (f.clauses 𝓤 H A mem run) point u-r r (tt & tt & tt & tt & tt & (z-pr .1 .1 .1 .1 .1 .1 .0) &
-        (z-pr .1 .1 .1 .1 .1 .1 .1 .0) & tt) (tt & tt & tt & tt & tt & l-times′ & l-work′ & tt) (asked 𝓤 (no-order (by-records width height slow starts) job
-        horizon e-job slow (length work) r (lent times work) (lent (z-pr .1 .1 .1 .1 .1 .1 .0) (z-pr .1 .1 .1 .1 .1 .1 .1 .0)) e-r))))))))))))
+        returns ! (look ! 33 refl) $ frees-at ! 33 refl refl $ frees-at ! 31 refl refl $ frees-at ! 29 refl refl $ frees-at ! 27 refl refl $
+        frees-at ! 25 refl refl $ frees-at ! 23 refl refl $ frees-at ! 21 refl refl $ frees-at ! 19 refl refl $ frees-at ! 17 refl refl $
+        frees-at ! 15 refl refl $ frees-at ! 13 refl refl $ frees-at ! 11 refl refl $ frees-at ! 9 refl refl $ frees-at ! 7 refl refl $ free0 ! $ nothing ! $
+        nothing ! $ nothing ! $ nothing ! $ nothing ! $ nothing ! $
+        keep ! (9 ∷ 6 ∷ 10 ∷ 11 ∷ 12 ∷ 5 ∷ 4 ∷ 3 ∷ 2 ∷ 1 ∷ 0 ∷ 8 ∷ 7 ∷ []) $
+        by ! (ends 𝓤 H A W f.ended (stays params) (f.clauses 𝓤 H A mem run) point u-r r (tt & tt & tt & tt & tt & tt & (z-pr .1 .1 .1 .1 .1 .1 .1 .0) &
+        (z-pr .1 .1 .1 .1 .1 .1 .1 .1 .0) & tt) (tt & tt & tt & tt & tt & tt & l-times′ & l-work′ & tt) (asked 𝓤 (no-order
+        (by-records width height storeys slow starts) job horizon e-job slow (length work) r (lent times work) (lent (z-pr .1 .1 .1 .1 .1 .1 .1 .0)
+        (z-pr .1 .1 .1 .1 .1 .1 .1 .1 .0)) e-r))))))))))))
 
   holds : Meets 𝓤 H A f.signature (WpFn 𝓤 H (𝓣 .C) (𝓣 .Λ) code.function) (f.spec 𝓤 H A mem run)
   holds = meets 𝓤 H A W f.ended (stays params) (f.clauses 𝓤 H A mem run) 𝓣 code.function (go 𝓤 H A W params) (spells params) (tell params)
       (λ κs qs bounds a g are. via 𝓤 _ (fst∗ 𝓤 _ (emp 𝓤)) (walk (κs .0) (κs .1 .0) (κs .1 .1 .0) (κs .1 .1 .1 .0) (qs .0) (qs .1 .0) (qs .1 .1 .0)
-      (qs .1 .1 .1 .0) (a .0) (a .1 .0) (a .1 .1 .0) (a .1 .1 .1 .0) (a .1 .1 .1 .1 .0) (a .1 .1 .1 .1 .1 .0) (a .1 .1 .1 .1 .1 .1 .0) (are .0 .1)
-      (are .1 .0 .1) (are .1 .1 .0 .0 .1) (are .1 .1 .1 .0 .0 .1) (are .1 .1 .1 .1 .0 .1) (are .1 .1 .1 .1 .1 .0 .0 .1) (are .1 .1 .1 .1 .1 .1 .0 .0 .1)))
+      (qs .1 .1 .1 .0) (a .0) (a .1 .0) (a .1 .1 .0) (a .1 .1 .1 .0) (a .1 .1 .1 .1 .0) (a .1 .1 .1 .1 .1 .0) (a .1 .1 .1 .1 .1 .1 .0)
+      (a .1 .1 .1 .1 .1 .1 .1 .0) (are .0 .1) (are .1 .0 .1) (are .1 .1 .0 .1) (are .1 .1 .1 .0 .0 .1) (are .1 .1 .1 .1 .0 .0 .1) (are .1 .1 .1 .1 .1 .0 .1)
+      (are .1 .1 .1 .1 .1 .1 .0 .0 .1) (are .1 .1 .1 .1 .1 .1 .1 .0 .0 .1)))
 
 pub murgolab-march-spec : {M : Type 1} → stated.statement M
 unfolding code.routine tablesOf

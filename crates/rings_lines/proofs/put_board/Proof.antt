@@ -8,7 +8,7 @@ use borrow.Author.Needs.{needs}
 use Rattle.eikonal.specs.Board.{size}
 use Rattle.eikonal.specs.Refusals.{side-good, sides-good}
 use Rattle.scenario.specs.File.{held}
-use Rattle.scenario.proofs.Reading.{cells-read}
+use Rattle.scenario.proofs.Reading.{cells-read, sides-read}
 use Rattle.tablet.specs.Small.{Tiled}
 use Rattle.tablet.proofs.Parts.{Back, back}
 use Rattle.tablet.proofs.SmallFiles.{Small, small, cells-few}
@@ -25,6 +25,9 @@ eights = record { least = omega arith; most = omega arith; sides = refl }
 
 head-of-requires : tie.Need-head-of-requires
 head-of-requires c κs = few (c .before .before) .taken .front .head
+
+board-size-requires : tie.Need-board-size-requires
+board-size-requires c κs = sides-read _ _ (c .head-of .ensures) (few (c .before .before .before) .taken .front)
 
 -- there is an entry for each cell
 cells : (c : tie.After-board-size) → c .board-size .result ≡ size (held (c .before .before .before .before .args .file .now))
@@ -76,5 +79,5 @@ pub put-board-spec : {M : Type 1} → statement M
 put-board-spec =
     tie.close
     (tie.spec
-    head-of-requires (λ c κs. tt) (λ c κs. tt) array-borrow-prefix-times slice-aggregate-run-file run-file-requires array-share-prefix-times
+    head-of-requires board-size-requires (λ c κs. tt) array-borrow-prefix-times slice-aggregate-run-file run-file-requires array-share-prefix-times
     slice-aggregate-put-lines put-lines-requires (λ c. search needs) returns)

@@ -6,7 +6,8 @@ use mathlib.Core.List.{List, [], _∷_}
 use Prim.Native.Nat.{ℕ, zero, suc, _+_, _*_, _-_, _/_, _%_, _≤_, _<_, min}
 use native.Mathlib.Omega.{arith}
 use native.Mathlib.Decide.{ℕ-discrete}
-use native.Mathlib.Nat.{mod-lt, div-add-mod', div-one, div-le-self, mul-comm, mul-le-mul, mul-le-mul-right, div-eq-of-lt-le, mul-add-mod-self-right, mod-eq-of-lt}
+use native.Mathlib.Nat.{mod-lt, div-add-mod', div-one, div-le-self, mul-comm, mul-le-mul, mul-le-mul-right}
+use native.Mathlib.Nat.{div-eq-of-lt-le, mul-add-mod-self-right, add-mod-right, mod-eq-of-lt}
 use native.Mathlib.Numerals.{add-one}
 use lib.Dec.{eqb}
 use lib.ListN.{length, getD, take, drop}
@@ -24,21 +25,24 @@ use Rattle.eikonal.proofs.Good.{and-true}
 use Rattle.eikonal.proofs.Grid.{quotient-low}
 use Rattle.front.specs.Board.{land}
 use Rattle.rows.specs.Lists.{due}
-use Rattle.rows.specs.Rows.{Entered, Block, tile-in, Fitting, Wrote}
+use Rattle.rows.specs.Rows.{Entered, Block, Pillar, Pillar-before, tile-in, Fitting, Wrote}
 use Rattle.front.specs.declared.Shape.{Shape}
 use Rattle.front.proofs.Theory.Reading.{time-at}
 
 -- ---- room for the cells
 module _ {s : Shape} {times work : List ℕ} (r : Fitting s times work) where
-  pub fitting-most : s .cells ≤ 65536
-  fitting-most = omega (arith, r .cells, mul-le-mul (r .wide-high) (r .high-high))
+  pub lines-most : s .height * s .storeys ≤ 2048
+  lines-most = mul-le-mul (r .high-high) (r .storeys-high)
 
   pub room-kept : {now : List ℕ} → length now ≡ length times → Fitting s now work
   room-kept e = record {
     cells = r .cells;
+    few = r .few;
     wide-low = r .wide-low;
     wide-high = r .wide-high;
+    high-low = r .high-low;
     high-high = r .high-high;
+    storeys-high = r .storeys-high;
     across-low = r .across-low;
     across-high = r .across-high;
     down-low = r .down-low;
@@ -47,9 +51,9 @@ module _ {s : Shape} {times work : List ℕ} (r : Fitting s times work) where
     space = r .space;
   }
 
-  pub row-end : {row right : ℕ} → row < s .height → right ≤ s .width → row * s .width + right ≤ s .cells
+  pub row-end : {row right : ℕ} → row < s .height * s .storeys → right ≤ s .width → row * s .width + right ≤ s .cells
   row-end {row} l h =
-      let i : suc row ≤ s .height = l in
+      let i : suc row ≤ s .height * s .storeys = l in
       omega (arith, r .cells, mul-le-mul-right (s .width) i)
 
 -- ---- blocks of rows and columns
@@ -71,6 +75,42 @@ one-row-more {w} {top} {row} {left} {right} {c} b = go (order (c / w) row)
 
 pub fewer-rows : {w top bottom row left right c : ℕ} → bottom ≤ row → Block w top bottom left right c → Block w top row left right c
 fewer-rows l b = record { top-most = b .top-most; bottom-most = omega (arith, b .bottom-most); left-most = b .left-most; right-most = b .right-most }
+
+-- ---- the same rows of each storey
+module _ {w h top bottom left right : ℕ} where
+  pub no-storeys : {c : ℕ} → Pillar-before w h top bottom left right 0 c → ⊥
+  no-storeys p = omega (arith, p .before)
+
+  -- a storey more
+  pub one-storey-more : (h1 : 1 ≤ h) {first c : ℕ} → first % h ≡ 0 → Pillar-before w h top bottom left right (first + h) c
+      → Pillar-before w h top bottom left right first c ⊎ Block w (first + top) (first + bottom) left right c
+  one-storey-more h1 {first} {c} e p = go (order (c / w) first)
+    where
+      go : (c / w < first) ⊎ (first ≤ c / w) → Pillar-before w h top bottom left right first c ⊎ Block w (first + top) (first + bottom) left right c
+      go (inl l) = inl record { is = p .is; before = l }
+      go (inr l) = inr record {
+        top-most = omega (arith, row, p .is .top-most);
+        bottom-most = omega (arith, row, p .is .bottom-most);
+        left-most = p .is .left-most;
+        right-most = p .is .right-most;
+      }
+        where
+          row : first + c / w % h ≡ c / w
+          row =
+              let r = c / w - first in
+              let whole : c / w ≡ first / h * h + r = omega (arith, div-add-mod' first h, e) in
+              let rest : c / w % h ≡ r =
+              ap (λ (u : ℕ). u % h) whole ∙ mul-add-mod-self-right (first / h) h r ∙ mod-eq-of-lt (omega (arith, p .before)) in
+              omega (arith, rest)
+
+-- the first row of a storey is followed by that of the next, and the rows of a storey are on the board
+pub next-storey : (first h : ℕ) → first % h ≡ 0 → (first + h) % h ≡ 0
+next-storey first h e = add-mod-right first h ∙ e
+
+pub storey-fits : (first h k : ℕ) → first % h ≡ 0 → first < h * k → first + h ≤ h * k
+storey-fits first h k e l =
+    let low : first / h < k = quotient-low first h k (omega (arith, mul-comm h k)) in
+    omega (arith, div-add-mod' first h, mul-le-mul-right h low, mul-comm h k)
 
 -- ---- a part of the times and the same part of the tentative times: as long, and what the latter holds
 abbrev tentatives : (n a e : ℕ) → (work : List ℕ) → List ℕ
@@ -116,7 +156,7 @@ corner {s} r tile =
     }
 
 -- ---- tiles of a board
-module _ (b : Board) (tw th : ℕ) (wide : 1 ≤ b .wide) (tw1 : 1 ≤ tw) (th1 : 1 ≤ th) (c : ℕ) where
+module _ (b : Board) (tw th : ℕ) (wide : 1 ≤ b .wide) (high : 1 ≤ b .high) (tw1 : 1 ≤ tw) (th1 : 1 ≤ th) (c : ℕ) where
   abbrev row : ℕ
   row = place (row-axis b) c
 
@@ -127,6 +167,10 @@ module _ (b : Board) (tw th : ℕ) (wide : 1 ≤ b .wide) (tw1 : 1 ≤ tw) (th1 
   unfolding place
   column-low = up-past (b .wide) tw tw1 column (mod-lt (c / 1) wide)
 
+  row-low : row < b .high
+  unfolding place
+  row-low = mod-lt (c / b .wide) high
+
   tile-across : tile-of b tw th c % up (b .wide) tw ≡ column / tw
   unfolding tile-of
   tile-across = mul-add-mod-self-right (row / th) (up (b .wide) tw) (column / tw) ∙ mod-eq-of-lt column-low
@@ -136,39 +180,31 @@ module _ (b : Board) (tw th : ℕ) (wide : 1 ≤ b .wide) (tw1 : 1 ≤ tw) (th1 
   tile-down = div-eq-of-lt-le (up (b .wide) tw) (omega arith) (omega (arith, column-low))
 
   -- a cell lies in the rows and columns of its tile, up to the board's edge
-  module _ (on : c < b .wide * b .high) where
-    row-is : row ≡ c / b .wide
-    unfolding place
-    row-is = mod-eq-of-lt (quotient-low c (b .wide) (b .high) (omega (arith, mul-comm (b .wide) (b .high))))
+  pub in-tile : {tile bottom right : ℕ} → bottom ≡ min (tile / up (b .wide) tw * th + th) (b .high)
+      → right ≡ min (tile % up (b .wide) tw * tw + tw) (b .wide)
+      → tile-of b tw th c ≡ tile → Pillar (b .wide) (b .high) (tile / up (b .wide) tw * th) bottom (tile % up (b .wide) tw * tw) right c
+  unfolding place
+  in-tile {tile} {bottom} {right} eb er e = record {
+    top-most = omega (arith, top, quotient-from row th);
+    bottom-most = omega (arith, top, quotient-to row th th1, row-low);
+    left-most = omega (arith, column-is, left, quotient-from column tw);
+    right-most = omega (arith, column-is, left, quotient-to column tw tw1, mod-lt c wide);
+  }
+    where
+      column-is : column ≡ c % b .wide
+      column-is = ap (λ (u : ℕ). u % b .wide) (div-one c)
 
-    column-is : column ≡ c % b .wide
-    unfolding place
-    column-is = ap (λ (u : ℕ). u % b .wide) (div-one c)
+      top : tile / up (b .wide) tw * th ≡ row / th * th
+      top = ap (λ (u : ℕ). u * th) (ap (λ (u : ℕ). u / up (b .wide) tw) (sym e) ∙ tile-down)
 
-    row-low : row < b .high
-    row-low = omega (arith, row-is, quotient-low c (b .wide) (b .high) (omega (arith, mul-comm (b .wide) (b .high))))
+      left : tile % up (b .wide) tw * tw ≡ column / tw * tw
+      left = ap (λ (u : ℕ). u * tw) (ap (λ (u : ℕ). u % up (b .wide) tw) (sym e) ∙ tile-across)
 
-    pub in-tile : {tile bottom right : ℕ} → bottom ≡ min (tile / up (b .wide) tw * th + th) (b .high)
-        → right ≡ min (tile % up (b .wide) tw * tw + tw) (b .wide)
-        → tile-of b tw th c ≡ tile → Block (b .wide) (tile / up (b .wide) tw * th) bottom (tile % up (b .wide) tw * tw) right c
-    in-tile {tile} {bottom} {right} eb er e = record {
-      top-most = omega (arith, row-is, top, quotient-from row th);
-      bottom-most = omega (arith, row-is, top, quotient-to row th th1, row-low);
-      left-most = omega (arith, column-is, left, quotient-from column tw);
-      right-most = omega (arith, column-is, left, quotient-to column tw tw1, mod-lt c wide);
-    }
-      where
-        top : tile / up (b .wide) tw * th ≡ row / th * th
-        top = ap (λ (u : ℕ). u * th) (ap (λ (u : ℕ). u / up (b .wide) tw) (sym e) ∙ tile-down)
-
-        left : tile % up (b .wide) tw * tw ≡ column / tw * tw
-        left = ap (λ (u : ℕ). u * tw) (ap (λ (u : ℕ). u % up (b .wide) tw) (sym e) ∙ tile-across)
-
-    tile-low : tile-of b tw th c < tile-count b tw th
-    unfolding tile-of tile-count
-    tile-low =
-        let last : suc (row / th) ≤ up (b .high) th = up-past (b .high) th th1 row row-low in
-        omega (arith, column-low, mul-le-mul-right (up (b .wide) tw) last)
+  tile-low : tile-of b tw th c < tile-count b tw th
+  unfolding tile-of tile-count
+  tile-low =
+      let last : suc (row / th) ≤ up (b .high) th = up-past (b .high) th th1 row row-low in
+      omega (arith, column-low, mul-le-mul-right (up (b .wide) tw) last)
 
 -- ---- orders
 or-true : (p q : Bool) → p || q ≡ true → (p ≡ true) ⊎ (q ≡ true)
@@ -208,19 +244,19 @@ all-members (suc n) xs v e l = elim (ℕ-discrete v n) [
 
 -- THE ROUND: a good order has every cell's tile, so when all are written all is final
 module _ {s : Shape} {old work : List ℕ} (r : Fitting s old work) (xs : List ℕ) (good : order-good (land s []) (s .across) (s .down) xs ≡ true) where
-  every-tile : (c : ℕ) → c < s .cells → member (tile-in s c) xs ≡ true
+  every-tile : (c : ℕ) → member (tile-in s c) xs ≡ true
   unfolding order-good
-  every-tile c l =
+  every-tile c =
       all-members (tile-count (land s []) (s .across) (s .down)) xs (tile-in s c)
       (and-true (eqb (length xs) (tile-count (land s []) (s .across) (s .down))) (all-there (tile-count (land s []) (s .across) (s .down)) xs) good .1)
-      (tile-low (land s []) (s .across) (s .down) (r .wide-low) (r .across-low) (r .down-low) c (omega (arith, r .cells)))
+      (tile-low (land s []) (s .across) (s .down) (r .wide-low) (r .high-low) (r .across-low) (r .down-low) c)
 
   pub wrote : {bound : ℕ} {new : List ℕ} {count i : ℕ} → i ≡ length xs
       → Entered (λ c. member (tile-in s c) (take i xs) ≡ true) (due bound work (s .cells)) old new count → Wrote s bound work old new count
   wrote {bound} {new} e a = record {
     long = a .long;
     each = λ c l.
-        let all = ap (λ (u : ℕ). member (tile-in s c) (take u xs)) e ∙ ap (member (tile-in s c)) (take-length xs) ∙ every-tile c l in
+        let all = ap (λ (u : ℕ). member (tile-in s c) (take u xs)) e ∙ ap (member (tile-in s c)) (take-length xs) ∙ every-tile c in
         time-at new c (omega (arith, a .long, r .many)) ∙ a .done c (omega (arith, r .many)) all;
     counted = a .counted;
   }

@@ -16,8 +16,8 @@ use Rattle.scenario.specs.File.{head-of, front}
 use Rattle.scenario.specs.Calls.{filled, written, writer-refusal}
 
 -- a board as it is handed in, with so many cells and times of starts
-abbrev pub given-by : (w h : ℕ) → (slow : List ℕ) → (cells begins : ℕ) → List Start → Handed
-given-by w h ss c b xs = handed (board-of w h ss xs) (eqb c b)
+abbrev pub given-by : (w h storeys : ℕ) → (slow : List ℕ) → (cells begins : ℕ) → List Start → Handed
+given-by w h s ss c b xs = handed (board-of w h s ss xs) (eqb c b)
 
 -- its starts, judged
 pub record Judges (slow : List ℕ) (cells begins : ℕ) (judged : Judged) (xs : List Start) : Type 0 where
@@ -30,7 +30,7 @@ pub record Judging (slow : List ℕ) (cells begins : ℕ) (judged : Judged) : Ty
   pub judges : Judges slow cells begins judged starts
 
 -- whatever the starts are that were judged: the writer's answer
-pub record Begins (w h ticks ground : ℕ) (slow : List ℕ) (cells begins : ℕ) (judged : Judged) (out out-now : List ℕ) (x : Reply) : Type 0 where
-  pub answers : (xs : List Start) → Judges slow cells begins judged xs → let p = given-by w h slow cells begins xs in
+pub record Begins (w h storeys ticks ground : ℕ) (slow : List ℕ) (cells begins : ℕ) (judged : Judged) (out out-now : List ℕ) (x : Reply) : Type 0 where
+  pub answers : (xs : List Start) → Judges slow cells begins judged xs → let p = given-by w h storeys slow cells begins xs in
       x ≡ answered (writer-refusal p ticks ground (length out)) (length (written p ticks ground))
-  pub leaves : out-now ≡ filled (x .number) (front (head-of w h ticks ground slow cells) slow) out
+  pub leaves : out-now ≡ filled (x .number) (front (head-of w h storeys ticks ground slow cells) slow) out

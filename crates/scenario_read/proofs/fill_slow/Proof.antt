@@ -9,12 +9,15 @@ use Rattle.scenario.specs.Runs.{painted}
 use Rattle.scenario.specs.File.{runs-in, held}
 use Rattle.scenario.proofs.Causes.{accepted}
 use Rattle.scenario.proofs.Answers.{part-entered}
-use Rattle.scenario.proofs.Reading.{slow-length, file-long, cells-read}
+use Rattle.scenario.proofs.Reading.{slow-length, file-long, sides-read, cells-read}
 use Rattle.scenario_read.proofs.fill_slow.Statement.{statement}
 use Rattle.scenario_read.proofs.fill_slow.Tie as tie
 
 head-of-requires : tie.Need-head-of-requires
 head-of-requires c κs = accepted _ (c .before .before .pre .0) .front .head
+
+board-size-requires : tie.Need-board-size-requires
+board-size-requires c κs = sides-read _ _ (c .head-of .ensures) (accepted _ (c .before .before .before .pre .0) .front)
 
 -- the part is as long as the board has cells
 cells : (c : tie.After-board-size) → c .board-size .result ≡ size (held (c .before .before .before .before .args .file .now))
@@ -52,4 +55,4 @@ pub fill-slow-spec : {M : Type 1} → statement M
 fill-slow-spec =
     tie.close
     (tie.spec
-    head-of-requires (λ c κs. tt) slice-relend-prefix-read-slow slice-aggregate-read-slow read-slow-requires (λ c. search needs) returns)
+    head-of-requires board-size-requires slice-relend-prefix-read-slow slice-aggregate-read-slow read-slow-requires (λ c. search needs) returns)

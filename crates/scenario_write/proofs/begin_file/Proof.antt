@@ -26,11 +26,11 @@ returns : tie.Need-returns
 returns c =
     let g = c .before .before .before .given-refusal in
     let n = c .before .if1 .taken in
-    begins-refused _ _ _ _ _ _ _ _ _ _ (g .result) n (c .refused .ensures) (λ xs js. refuses-given _ _ _ _ (g .result) (g .ensures xs) n)
+    begins-refused _ _ _ _ _ _ _ _ _ _ _ (g .result) n (c .refused .ensures) (λ xs js. refuses-given _ _ _ _ (g .result) (g .ensures xs) n)
 
--- none of 2, 3, 4, 5, 21
+-- none of 2, 3, 4, 5, 21, 23
 given : (c : tie.Else1) → let a = c .before .before .before .before .before .args in
-    (xs : List Start) → given-refusal (given-by (a .width) (a .height) (a .slow .now) (a .cells) (a .begins) xs) (a .ticks) (a .ground) .number ≡ 0
+    (xs : List Start) → given-refusal (given-by (a .width) (a .height) (a .storeys) (a .slow .now) (a .cells) (a .begins) xs) (a .ticks) (a .ground) .number ≡ 0
 given c xs = ap (λ u. u .number) (sym (c .before .before .given-refusal .ensures xs)) ∙ c .if1 .left
 
 returns-2 : tie.Need-returns-2
@@ -38,8 +38,8 @@ returns-2 c =
     let j = c .before .before .before in
     let n = c .before .if2 .taken in
     let z = given (j .before) in
-    begins-refused _ _ _ _ _ _ _ _ _ _ (j .judged-refusal .result) n (c .refused2 .ensures)
-    (λ xs js. refuses-starts _ _ _ _ (z xs) _ (j .judged-refusal .ensures ∙ judges-starts js _ _ _ _ (z xs)) n)
+    begins-refused _ _ _ _ _ _ _ _ _ _ _ (j .judged-refusal .result) n (c .refused2 .ensures)
+    (λ xs js. refuses-starts _ _ _ _ (z xs) _ (j .judged-refusal .ensures ∙ judges-starts js _ _ _ _ _ (z xs)) n)
 
 -- none of 7, 18, 8, 9
 judged : (c : tie.Else2) → judged-refusal (c .before .before .before .before .before .before .before .before .args .judged) .number ≡ 0
@@ -52,8 +52,8 @@ small c =
     let g = c .before .before .before in
     let s = g .before .before .before .before .before in
     let z = given g (s .pre .starts) in
-    let k = judges-taken (s .pre .judges) _ _ _ _ z (judged c) in
-    (slow-most k, omega (arith, starts-most k, judges-many (s .pre .judges) _ _ _ _ z))
+    let k = judges-taken (s .pre .judges) _ _ _ _ _ z (judged c) in
+    (slow-most k, omega (arith, starts-most k, judges-many (s .pre .judges) _ _ _ _ _ z))
 
 head-for-requires : tie.Need-head-for-requires
 head-for-requires c κs = small c
@@ -68,8 +68,8 @@ need c = c .file-length .ensures ∙ ap (λ u. file-size (u .runs) (u .starts)) 
 long : (c : tie.After-file-length) (xs : List Start) → let j = c .before .before .before in
     let a = j .before .before .before .before .before .before .before .before .args in
     Judges (a .slow .now) (a .cells) (a .begins) (a .judged) xs
-    → length (written (given-by (a .width) (a .height) (a .slow .now) (a .cells) (a .begins) xs) (a .ticks) (a .ground)) ≡ c .file-length .result
-long c xs js = judges-length js _ _ _ _ (given (c .before .before .before .before .before .before) xs) ∙ sym (need c)
+    → length (written (given-by (a .width) (a .height) (a .storeys) (a .slow .now) (a .cells) (a .begins) xs) (a .ticks) (a .ground)) ≡ c .file-length .result
+long c xs js = judges-length js _ _ _ _ _ (given (c .before .before .before .before .before .before) xs) ∙ sym (need c)
 
 returns-3 : tie.Need-returns-3
 returns-3 c =
@@ -77,8 +77,8 @@ returns-3 c =
     let j = l .before .before .before in
     let z = given (j .before .before .before) in
     let short = c .before .before .if3 .taken in
-    begins-refused _ _ _ _ _ _ _ _ _ _ (cause 14) (λ q. omega arith) (c .refused3 .ensures ∙ ap (λ u. answer u 0) (c .before .cause .ensures))
-    (λ xs js. refuses-short _ _ _ _ (z xs) (judges-taken js _ _ _ _ (z xs) (judged j) .starts) (omega (arith, short, long l xs js)))
+    begins-refused _ _ _ _ _ _ _ _ _ _ _ (cause 14) (λ q. omega arith) (c .refused3 .ensures ∙ ap (λ u. answer u 0) (c .before .cause .ensures))
+    (λ xs js. refuses-short _ _ _ _ (z xs) (judges-taken js _ _ _ _ _ (z xs) (judged j) .starts) (omega (arith, short, long l xs js)))
 
 -- the part that is lent on
 fits : (c : tie.Else3) → c .before .before .starts-base .result
@@ -114,12 +114,12 @@ returns-4 c =
     let j = h .before in
     let z = given (j .before .before .before) in
     let a = j .before .before .before .before .before .before .before .before .args in
-    let x = head-of (a .width) (a .height) (a .ticks) (a .ground) (a .slow .now) (a .cells) in
+    let x = head-of (a .width) (a .height) (a .storeys) (a .ticks) (a .ground) (a .slow .now) (a .cells) in
     let size : length (front x (a .slow .now)) ≡ b .starts-base .result =
     front-length x (a .slow .now) ∙ sym (b .starts-base .ensures ∙ ap (λ u. runs-end (u .runs)) (h .head-for .ensures)) in
-    begins-done _ _ _ _ _ _ _ _ _ _ (l .file-length .result) (c .counted .ensures)
+    begins-done _ _ _ _ _ _ _ _ _ _ _ (l .file-length .result) (c .counted .ensures)
     (λ xs js. (
-      refuses-none _ _ _ _ (z xs) (judges-taken js _ _ _ _ (z xs) (judged j) .starts) (omega (arith, i .if3 .left, long l xs js)),
+      refuses-none _ _ _ _ (z xs) (judges-taken js _ _ _ _ _ (z xs) (judged j) .starts) (omega (arith, i .if3 .left, long l xs js)),
       long l xs js,
     ))
     _ (part-entered _ _ _ (a .out .now) (f .write-front .ensures ∙ ap (λ u. front u (a .slow .now)) (h .head-for .ensures)) size)

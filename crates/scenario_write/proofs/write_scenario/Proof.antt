@@ -42,7 +42,7 @@ returns c =
 waits : (c : tie.Else1) → let b = c .before .before .before .before in
     let a = b .before .before .before .before .before .before .before .before .args in let cs = a .cells .now in let ts = a .begins .now in
     Awaits (a .ground) (a .slow .now) (length cs) (length ts) (starts-of cs ts) (a .out .now)
-    (b .begin-file .last .1 .1 .1 .1 .1 .1 .1 .1 .0) (b .begin-file .result)
+    (b .begin-file .last .1 .1 .1 .1 .1 .1 .1 .1 .1 .0) (b .begin-file .result)
 waits c = let b = c .before .before .before .before in awaits (b .begin-file .ensures) (judges (b .before .before)) (c .if1 .left)
 
 mul-at : tie.Need-mul-at

@@ -7,7 +7,7 @@ use Rattle.eikonal.specs.Board.{size}
 use Rattle.eikonal.specs.Refusals.{cause, none}
 use Rattle.eikonal.proofs.Causes.{caused, spared, first, next}
 use Rattle.scenario.specs.File.{held}
-use Rattle.scenario.proofs.Reading.{cells-read}
+use Rattle.scenario.proofs.Reading.{cells-read, sides-read}
 use Rattle.tablet.specs.Small.{small-refusal}
 use Rattle.tablet.specs.Tablet.{tiling-refusal, tablet-refusal}
 use Rattle.tablet.proofs.SmallFiles.{small, cells-few}
@@ -36,6 +36,9 @@ tiles c = ap (λ u. u .number) (sym (c .before .before .tiling-refusal .ensures)
 
 head-of-requires : tie.Need-head-of-requires
 head-of-requires c κs = small _ (few (c .before .before .before)) .taken .front .head
+
+board-size-requires : tie.Need-board-size-requires
+board-size-requires c κs = sides-read _ _ (c .head-of .ensures) (small _ (few (c .before .before .before .before)) .taken .front)
 
 -- so many cells
 cells : (c : tie.After-board-size) → let f = c .before .before .before .before .before .before .before .before .before .args .file .now in
@@ -67,4 +70,4 @@ pub tablet-refusal-spec : {M : Type 1} → statement M
 tablet-refusal-spec =
     tie.close
     (tie.spec
-    (λ c κs. tt) returns (λ c κs. tt) returns-2 head-of-requires (λ c κs. tt) mul-if3 (λ c κs. tt) returns-3 (λ c κs. tt) returns-4)
+    (λ c κs. tt) returns (λ c κs. tt) returns-2 head-of-requires board-size-requires mul-if3 (λ c κs. tt) returns-3 (λ c κs. tt) returns-4)

@@ -8,7 +8,7 @@ use borrow.Author.Needs.{needs}
 use Rattle.eikonal.specs.Board.{size}
 use Rattle.scenario.specs.Bytes.{four-bytes, bytes-of}
 use Rattle.scenario.specs.File.{held}
-use Rattle.scenario.proofs.Reading.{cells-read}
+use Rattle.scenario.proofs.Reading.{cells-read, sides-read}
 use Rattle.tablet.specs.Tablet.{times-bytes}
 use Rattle.tablet.proofs.Parts.{Back, back}
 use Rattle.tablet.proofs.SmallFiles.{Small, small, cells-few}
@@ -32,6 +32,9 @@ few c = small _ (good c .accepted)
 
 head-of-requires : tie.Need-head-of-requires
 head-of-requires c κs = few c .taken .front .head
+
+board-size-requires : tie.Need-board-size-requires
+board-size-requires c κs = sides-read _ _ (c .head-of .ensures) (few (c .before) .taken .front)
 
 -- there is an entry for each cell, and 4 bytes of output
 cells : (c : tie.After-board-size) → c .board-size .result ≡ size (held (c .before .before .before .before .before .before .before .args .file .now))
@@ -105,6 +108,6 @@ pub tablet-run-spec : {M : Type 1} → statement M
 tablet-run-spec =
     tie.close
     (tie.spec
-    (λ c κs. tt) (λ c. search needs) returns head-of-requires (λ c κs. tt) (λ c κs. tt) array-borrow-prefix-times slice-aggregate-run-file
+    (λ c κs. tt) (λ c. search needs) returns head-of-requires board-size-requires (λ c κs. tt) array-borrow-prefix-times slice-aggregate-run-file
     run-file-requires mul-bytes slice-relend-prefix-put-times slice-aggregate-put-times array-share-prefix-times slice-aggregate-put-times-2
     put-times-requires (λ c. search needs) (λ c. search needs) (λ c. search needs) returns-2)

@@ -1,18 +1,18 @@
 -- `eikonal::arrival::least_past_of` meets its contract, as `least_past` does: the ticks at hand are enough.
-use mathlib.Core.Path.{_≡_, refl}
+use mathlib.Core.Path.{_≡_}
 use Prim.Native.Nat.{ℕ, _+_, _*_, _-_, _/_, _≤_, _<_}
 use native.Mathlib.Omega.{arith}
 use native.Mathlib.Decide.{decLe}
 use native.Mathlib.Nat.{mul-le-mul, mul-le-mul-left}
 use borrow.Author.Needs.{needs}
 use Rattle.eikonal.specs.Inner.Weighed.{weighed}
-use Rattle.eikonal.proofs.Root.{Enough, square-most, slope, some-past, some-slope, Nearer, step, no-step}
+use Rattle.eikonal.proofs.Root.{square-most, at, weighed-at, slope, some-past, some-slope, Nearer, step, no-step}
 use Rattle.eikonal.proofs.arrival.least_past_of.Statement.{statement}
 use Rattle.eikonal.proofs.arrival.least_past_of.Tie as tie
 
 abbrev Inv-loop : tie.InvT-loop
 Inv-loop x y apart v w past₀ past =
-    (past ≤ 4095) × Enough (x * x * (y * y)) (y * y) (x * x) apart past
+    (past ≤ 4095) × (x * x * (y * y) ≤ at (y * y * (apart * apart)) (y * y * apart) (y * y + x * x) past)
 
 abbrev μ-loop : tie.MeasureT-loop
 μ-loop x y apart v w past₀ past = past
@@ -23,24 +23,18 @@ weighed-most x y d e hx hy hd he =
     let whole : d + e ≤ 8190 = omega arith in
     omega (arith, mul-le-mul (square-most hy) (mul-le-mul whole whole), mul-le-mul (square-most hx) (mul-le-mul he he))
 
-slope-most : (x y d e : ℕ) → x ≤ 4095 → y ≤ 4095 → d ≤ 4095 → e ≤ 4095 → slope (y * y) (x * x) d e ≤ 412014944250
+slope-most : (x y d e : ℕ) → x ≤ 4095 → y ≤ 4095 → d ≤ 4095 → e ≤ 4095 → slope (y * y * d) (y * y + x * x) e ≤ 412014944250
 slope-most x y d e hx hy hd he =
     let whole : d + e ≤ 8190 = omega arith in
     omega (arith, mul-le-mul (square-most hy) whole, mul-le-mul (square-most hx) he)
 
 -- ---- what is known all along
 module _ (c : tie.Start Inv-loop μ-loop) where
-  x-some : 1 ≤ c .args .x
-  x-some = omega (arith, c .pre .0)
-
-  w-some : 1 ≤ c .args .x * c .args .x
-  w-some = mul-le-mul x-some x-some
-
-  v-some : 1 ≤ c .args .y * c .args .y
-  v-some = mul-le-mul (c .pre .2) (c .pre .2)
+  curved : 1 ≤ c .args .y * c .args .y + c .args .x * c .args .x
+  curved = omega (arith, mul-le-mul (c .pre .2) (c .pre .2))
 
   near : c .args .y * c .args .y * (c .args .apart * c .args .apart) < c .args .x * c .args .x * (c .args .y * c .args .y)
-  near = omega (arith, mul-le-mul-left (c .args .y * c .args .y) (mul-le-mul (c .pre .0) (c .pre .0)), v-some)
+  near = omega (arith, mul-le-mul-left (c .args .y * c .args .y) (mul-le-mul (c .pre .0) (c .pre .0)), mul-le-mul (c .pre .2) (c .pre .2))
 
 mul-v : tie.Need-mul-v Inv-loop μ-loop
 mul-v c = omega (arith, square-most (c .pre .3))
@@ -60,7 +54,7 @@ loop-holds c =
     let s = c .before in
     let a = s .args in (
       omega (arith, c .lesser .ensures, s .pre .3),
-      elim (decLe (a .x - a .apart) (a .y)) [
+      rw (← weighed-at (a .y * a .y) (a .x * a .x) (a .apart) (c .lesser .result)) elim (decLe (a .x - a .apart) (a .y)) [
         | yes l ↦ (let e : a .apart + c .lesser .result ≡ a .x = omega (arith, c .lesser .ensures, s .pre .0) in
             rw e (omega arith))
         | no l ↦ (let e : c .lesser .result ≡ a .y = omega (arith, c .lesser .ensures) in rw e (omega arith))
@@ -94,7 +88,7 @@ add-over-2 c =
 
 -- the slope, and each of its parts
 slope-fits : (c : tie.After-due Inv-loop μ-loop) → let l = c .before .before in let a = l .before .before .args in
-    slope (a .y * a .y) (a .x * a .x) (a .apart) (l .loop .past) ≤ 412014944250
+    slope (a .y * a .y * a .apart) (a .y * a .y + a .x * a .x) (l .loop .past) ≤ 412014944250
 slope-fits c =
     let l = c .before .before in
     let s = l .before .before in
@@ -106,27 +100,28 @@ returns c =
     let l = d .before .before in
     let s = l .before .before in
     let e = l .loop .inv .1 in (
-      some-past _ _ _ _ (v-some s) (w-some s) (near s) _ e,
-      e,
-      no-step _ _ _ _ (v-some s) (w-some s) (near s) _ e (omega (arith, d .before .weigh .ensures, d .due .ensures, c .if1 .taken)),
+      some-past _ _ _ _ (curved s) (near s) _ e,
+      rw (weighed-at (s .args .y * s .args .y) (s .args .x * s .args .x) (s .args .apart) (l .loop .past)) e,
+      rw (weighed-at (s .args .y * s .args .y) (s .args .x * s .args .x) (s .args .apart) (l .loop .past - 1))
+          (no-step _ _ _ _ (curved s) (near s) _ e (omega (arith, d .before .weigh .ensures, d .due .ensures, c .if1 .taken))),
     )
 
 next : (c : tie.Else1 Inv-loop μ-loop) → let l = c .before .before .before in let a = l .before .before .args in
-    Nearer (a .x * a .x * (a .y * a .y)) (a .y * a .y) (a .x * a .x) (a .apart) (l .loop .past)
+    Nearer (a .x * a .x * (a .y * a .y)) (a .y * a .y * (a .apart * a .apart)) (a .y * a .y * a .apart) (a .y * a .y + a .x * a .x) (l .loop .past)
     ((c .before .before .weigh .result - c .before .due .result + (a .y * a .y + a .x * a .x))
     / (2 * (a .y * a .y * (a .apart + l .loop .past) + a .x * a .x * l .loop .past)))
 next c =
     let d = c .before in
     let l = d .before .before in
     let s = l .before .before in
-    step _ _ _ _ (v-some s) (w-some s) (near s) _ (l .loop .inv .1) _ _
-    (omega (arith, d .before .weigh .ensures, d .due .ensures)) refl (c .if1 .left)
+    step _ _ _ _ (curved s) (near s) _ (l .loop .inv .1) _ _
+    (omega (arith, d .before .weigh .ensures, d .due .ensures)) (omega arith) (c .if1 .left)
 
 div-past : tie.Need-div-past Inv-loop μ-loop
 div-past c =
     let l = c .before .before .before in
     let s = l .before .before in
-    omega (arith, some-slope _ _ _ _ (v-some s) (w-some s) (near s) _ (l .loop .inv .1))
+    omega (arith, some-slope _ _ _ _ (curved s) (near s) _ (l .loop .inv .1))
 
 cast-past : tie.Need-cast-past Inv-loop μ-loop
 cast-past c = omega (arith, next c .within, c .before .before .before .loop .inv .0)

@@ -1,20 +1,21 @@
 -- `eikonal::arrival::local_rule` meets its contract: of the times that count, none comes near never, so that the limit never cuts nothing.
 use mathlib.Core.Path.{_≡_, refl, sym, ap, _∙_}
 use mathlib.Core.Logic.{inl, inr}
-use mathlib.Core.Bool.{Bool, true, false, cond}
+use mathlib.Core.Bool.{Bool, true, false, _&&_, not, cond}
 use Prim.Native.Nat.{ℕ, _+_, min}
 use native.Mathlib.Omega.{arith}
-use lib.Dec.{ltb}
-use borrow.Author.Tests.{ltb-false}
+use lib.Dec.{ltb, eqb}
+use borrow.Author.Tests.{ltb-false, eqb-true, ne-eqb, not-false}
 use Rattle.eikonal.specs.Board.{never, largest, earlier, local-of, local}
 use Rattle.eikonal.specs.Refusals.{none, steep, half-wall}
 use Rattle.eikonal.specs.Ledger.{answer}
-use Rattle.eikonal.specs.Entry.{seen, pair-refusal, Local-says}
+use Rattle.eikonal.specs.Entry.{seen, pair-refusal, local-refusal, Local-says}
 use Rattle.eikonal.specs.Inner.Good.{Known, Pair}
 use Rattle.eikonal.specs.declared.Refusal.{Refusal}
 use Rattle.eikonal.proofs.Answers.{answered-zero, answered-refused}
+use Rattle.eikonal.proofs.Causes.{neither, passed}
 use Rattle.eikonal.proofs.Good.{unflawed, to-pair}
-use Rattle.eikonal.proofs.Local.{earlier-min, local-is}
+use Rattle.eikonal.proofs.Local.{local-is}
 use Rattle.eikonal.proofs.Solution.{earlier-known, local-known}
 use Rattle.eikonal.proofs.Walls.{unequal}
 use Rattle.eikonal.proofs.FirstPass.{alike}
@@ -22,9 +23,17 @@ use Rattle.eikonal.proofs.arrival.local_rule.Statement.{statement}
 use Rattle.eikonal.proofs.arrival.local_rule.Tie as tie
 
 -- a pair that is not refused
-spared : (g h : ℕ) → pair-refusal g h .number ≡ 0 → Pair g h
-unfolding pair-refusal
-spared g h e = let f = unflawed (steep g h) (half-wall g h) e in to-pair g h (f .0) (f .1)
+spared : (g h o n : ℕ) → local-refusal g h o n .number ≡ 0 → Pair g h
+unfolding local-refusal pair-refusal
+spared g h o n e = let f = unflawed (steep g h) (half-wall g h) (neither _ _ e .0) in to-pair g h (f .0) (f .1)
+
+-- and has no time over or under if its numbers differ
+flat : (g h o n : ℕ) → local-refusal g h o n .number ≡ 0 → (g ≡ h → ⊥) → earlier (seen o) (seen n) ≡ never
+unfolding local-refusal
+flat g h o n e d =
+    let z = earlier (seen o) (seen n) in
+    let p : not (eqb g h) && not (eqb z never) ≡ false = passed _ 22 none (neither (pair-refusal g h) _ e .1) .0 in
+    eqb-true z never (not-false _ (rw (ne-eqb g h d) at p))
 
 seen-known : (t : ℕ) → Known largest (seen t)
 unfolding seen
@@ -37,71 +46,69 @@ seen-known t = go (ltb largest t) refl
 axis-known : (x y : ℕ) → Known largest (earlier (seen x) (seen y))
 axis-known x y = earlier-known largest _ _ (seen-known x) (seen-known y)
 
-uncut : (g h l r u d : ℕ) → Pair g h → min never (local g h (seen l) (seen r) (seen u) (seen d)) ≡ local g h (seen l) (seen r) (seen u) (seen d)
-uncut g h l r u d p = rw (local-is g h (seen l) (seen r) (seen u) (seen d)) (go (local-known largest g h _ _ p (axis-known l r) (axis-known u d)))
+uncut : (g h l r u d o n : ℕ) → Pair g h → let t = local g h (seen l) (seen r) (seen u) (seen d) (seen o) (seen n) in min never t ≡ t
+uncut g h l r u d o n p =
+    rw (local-is g h (seen l) (seen r) (seen u) (seen d) (seen o) (seen n))
+    (go (local-known largest g h _ _ _ p (axis-known l r) (axis-known u d) (axis-known o n)))
   where
     go : {t : ℕ} → Known (largest + 4095) t → min never t ≡ t
     go (inl e) = omega arith
     go (inr k) = omega arith
 
--- an axis's time, of what two count as
-axis : (x y a b v : ℕ) → a ≡ seen x → b ≡ seen y → v ≡ min a b → v ≡ earlier (seen x) (seen y)
-axis x y a b v p q m = rw (earlier-min (seen x) (seen y), ← p, ← q) m
-
--- the time of two axes
-says : (g h l r u d a b x : ℕ) → pair-refusal g h .number ≡ 0 → a ≡ earlier (seen l) (seen r) → b ≡ earlier (seen u) (seen d)
-    → x ≡ min never (local-of g h a b) → Local-says g h l r u d (answer none x)
+-- the time of three axes
+says : (g h l r u d o n a b z x : ℕ) → local-refusal g h o n .number ≡ 0
+    → a ≡ earlier (seen l) (seen r) → b ≡ earlier (seen u) (seen d) → z ≡ earlier (seen o) (seen n)
+    → x ≡ min never (local-of g h a b z) → Local-says g h l r u d o n (answer none x)
 unfolding Local-says
-says g h l r u d a b x z p q t =
-    ap (answer none) (t ∙ rw (p, q, ← local-is g h (seen l) (seen r) (seen u) (seen d)) (uncut g h l r u d (spared g h z)))
-    ∙ sym (answered-zero (pair-refusal g h) _ z)
-
-unrefused : (c : tie.Else1) → pair-refusal (c .before .before .before .args .g) (c .before .before .before .args .h) .number ≡ 0
-unrefused c = sym (ap (λ (k : Refusal). k .number) (c .before .before .pair-refusal .ensures)) ∙ c .if1 .left
+says g h l r u d o n a b z x e p q s t =
+    ap (answer none)
+    (t ∙ rw (p, q, s, ← local-is g h (seen l) (seen r) (seen u) (seen d) (seen o) (seen n)) (uncut g h l r u d o n (spared g h o n e)))
+    ∙ sym (answered-zero (local-refusal g h o n) _ e)
 
 returns : tie.Need-returns
 unfolding Local-says
 returns c =
-    let e = c .before .before .before .pair-refusal .ensures in
+    let e = c .before .before .before .local-refusal .ensures in
     c .refused .ensures
     ∙ ap (λ (k : Refusal). answer k 0) e
     ∙ sym (answered-refused _ _ (λ z. c .before .if1 .taken (ap (λ (k : Refusal). k .number) e ∙ z)))
 
-pair-of : (c : tie.After-lesser2) → let a = c .before .before .before .before .before .before .before .before .before .args in Pair (a .g) (a .h)
-pair-of c = spared _ _ (unrefused (c .before .before .before .before .before .before))
+-- the axes of row and column are at hand
+abbrev start : tie.After-axis2 → tie.Start
+start c = c .before .before .before .before .before
 
--- what is answered for the axes' times
-at : (c : tie.After-lesser2) (x : ℕ) → let a = c .before .before .before .before .before .before .before .before .before .args in
-    x ≡ min never (local-of (a .g) (a .h) (c .before .before .before .lesser .result) (c .lesser2 .result))
-    → Local-says (a .g) (a .h) (a .left) (a .right) (a .above) (a .below) (answer none x)
-at c x e =
-    let across = c .before .before .before in
-    says _ _ _ _ _ _ _ _ _
-    (unrefused (across .before .before .before))
-    (axis _ _ _ _ _ (across .before .before .known .ensures) (across .before .known2 .ensures) (across .lesser .ensures))
-    (axis _ _ _ _ _ (c .before .before .known3 .ensures) (c .before .known4 .ensures) (c .lesser2 .ensures)) e
+unrefused : (c : tie.After-axis2) → let a = start c .args in local-refusal (a .g) (a .h) (a .over) (a .under) .number ≡ 0
+unrefused c =
+    let l = c .before .before in
+    sym (ap (λ (k : Refusal). k .number) (l .before .before .local-refusal .ensures)) ∙ l .if1 .left
 
-of-equal-requires : tie.Need-of-equal-requires
-of-equal-requires c κs = pair-of (c .before) .along-most
+of-unequal-requires : tie.Need-of-unequal-requires
+of-unequal-requires c κs = unequal (spared _ _ _ _ (unrefused (c .before))) (c .if2 .taken)
 
 returns-2 : tie.Need-returns-2
 unfolding Local-says
 returns-2 c =
     let o = c .before in
-    c .counted .ensures ∙ at (o .before .before) _ (alike _ _ _ _ _ _ (o .before .if2 .taken) (o .of-equal .ensures))
+    let k = o .before .before in
+    let e = unrefused k in
+    c .counted .ensures
+    ∙ says _ _ _ _ _ _ _ _ _ _ _ _ e (k .before .axis .ensures) (k .axis2 .ensures) (sym (flat _ _ _ _ e (o .before .if2 .taken))) (o .of-unequal .ensures)
 
-of-unequal-requires : tie.Need-of-unequal-requires
-of-unequal-requires c κs = unequal (pair-of (c .before)) (c .if2 .left)
+of-three-requires : tie.Need-of-three-requires
+of-three-requires c κs = spared _ _ _ _ (unrefused (c .before .before)) .along-most
 
 returns-3 : tie.Need-returns-3
 unfolding Local-says
 returns-3 c =
     let o = c .before in
-    c .counted2 .ensures ∙ at (o .before .before) _ (o .of-unequal .ensures)
+    let k = o .before .before .before in
+    c .counted2 .ensures
+    ∙ says _ _ _ _ _ _ _ _ _ _ _ _ (unrefused k) (k .before .axis .ensures) (k .axis2 .ensures) (o .before .axis3 .ensures)
+    (alike _ _ _ _ _ _ _ (o .before .before .if2 .left) (o .of-three .ensures))
 
 pub local-rule-spec : {M : Type 1} → statement M
 local-rule-spec =
     tie.close
     (tie.spec
-    (λ c κs. tt) (λ c κs. tt) returns (λ c κs. tt) (λ c κs. tt) (λ c κs. tt) (λ c κs. tt) (λ c κs. tt) (λ c κs. tt)
-    of-equal-requires (λ c κs. tt) returns-2 of-unequal-requires (λ c κs. tt) returns-3)
+    (λ c κs. tt) (λ c κs. tt) returns (λ c κs. tt) (λ c κs. tt) of-unequal-requires (λ c κs. tt) returns-2 (λ c κs. tt) of-three-requires
+    (λ c κs. tt) returns-3)

@@ -17,7 +17,7 @@ returns : tie.Need-returns
 returns c =
     let s = c .before .args .slowness in
     let none : s * s ≡ 0 = ap (λ (x : ℕ). x * s) (c .if1 .taken) ∙ omega arith in
-    limit-stays _ _ _ _ _ (by-never (c .before)) (λ o. absurd (omega arith))
+    limit-stays _ _ _ _ _ _ (by-never (c .before)) (c .before .args .limit) (omega arith) (λ o. absurd (omega arith))
 
 -- the cell is open, and the axes are sorted
 abbrev start : tie.After-greater → tie.Start
@@ -33,7 +33,7 @@ returns-2 : tie.Need-returns-2
 returns-2 c =
     let g = c .before .before .before in
     let o = open-cell g in
-    in-order _ _ _ _ _ _ _ (g .before .lesser .ensures) (g .greater .ensures)
+    in-order _ _ _ _ _ _ _ _ (by-never (start g)) (g .before .lesser .ensures) (g .greater .ensures)
     (cut-twice _ _ _ _ (by-never (start g)) (c .before .after .ensures) (c .lesser2 .ensures)
     ∙ straight _ _ _ _ o o (ordered g) _ (by-never (start g)) (c .before .before .if2 .taken))
 
@@ -41,7 +41,7 @@ returns-3 : tie.Need-returns-3
 returns-3 c =
     let g = c .before .before in
     let o = open-cell g in
-    in-order _ _ _ _ _ _ _ (g .before .lesser .ensures) (g .greater .ensures)
+    in-order _ _ _ _ _ _ _ _ (by-never (start g)) (g .before .lesser .ensures) (g .greater .ensures)
     (no-later _ _ _ _ o o (ordered g) _ (by-never (start g)) (c .before .if2 .left) (c .if3 .taken))
 
 returns-4 : tie.Need-returns-4
@@ -49,7 +49,7 @@ returns-4 c =
     let k = c .before .before in
     let g = k .before .before in
     let o = open-cell g in
-    in-order _ _ _ _ _ _ _ (g .before .lesser .ensures) (g .greater .ensures)
+    in-order _ _ _ _ _ _ _ _ (by-never (start g)) (g .before .lesser .ensures) (g .greater .ensures)
     (too-early _ _ _ _ o o (ordered g) _ (by-never (start g)) (k .if3 .left)
     (weighed-short _ _ _ o (ltb-true _ _ (rw (c .before .too-few .ensures) at (c .if4 .taken)))))
 
@@ -69,7 +69,7 @@ returns-5 c =
     let g = c .before .before .before .before .before in
     let o = open-cell g in
     let e = c .least-past .ensures in
-    in-order _ _ _ _ _ _ _ (g .before .lesser .ensures) (g .greater .ensures)
+    in-order _ _ _ _ _ _ _ _ (by-never (start g)) (g .before .lesser .ensures) (g .greater .ensures)
     (slanted _ _ _ _ o o (ordered g) _ (by-never (start g)) _ (in-time c) (e .0) (weighed-scaled _ _ _ (e .1)) (weighed-short _ _ _ o (e .2)))
 
 pub of-equal-spec : {M : Type 1} → statement M

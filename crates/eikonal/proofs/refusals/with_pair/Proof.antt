@@ -7,7 +7,9 @@ use Rattle.eikonal.proofs.refusals.with_pair.Tie as tie
 
 returns : tie.Need-returns
 unfolding with-pair along-row down-column
-returns c = rw (c .before .is-half-wall .ensures, c .before .before .before .is-steep .ensures) refl
+returns c =
+    let half = c .before .before .before in
+    rw (c .before .is-uneven .ensures, half .is-half-wall .ensures, half .before .before .is-steep .ensures) refl
 
 pub with-pair-spec : {M : Type 1} → statement M
-with-pair-spec = tie.close (tie.spec (λ c κs. tt) (λ c κs. tt) returns)
+with-pair-spec = tie.close (tie.spec (λ c κs. tt) (λ c κs. tt) (λ c κs. tt) returns)

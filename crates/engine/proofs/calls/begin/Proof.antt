@@ -31,7 +31,7 @@ shape-of-requires c κs =
     let j = p .pre in
     let refused = at .call-refusal .ensures (a .slow .now) (j .starts) (eqb (a .cells) (a .begins)) (at .before .handed-refusal .ensures (j .starts) (j .is)) in
     let sides = board-sides _ _ _ refused (c .if1 .left) in
-    (omega (arith, sides .0), omega (arith, sides .1))
+    (omega (arith, sides .0), omega (arith, sides .1), omega (arith, sides .2))
 
 empty-requires : tie.Need-empty-requires
 empty-requires c κs =

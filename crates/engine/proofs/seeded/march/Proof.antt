@@ -1,5 +1,6 @@
 -- `engine::seeded::march` meets its contract.
 use native.Mathlib.Omega.{arith}
+use borrow.Author.Needs.{needs}
 use mathlib.Core.Path.{sym, _∙_}
 use Rattle.eikonal.specs.Ledger.{counted, entered}
 use Rattle.engine.proofs.Theory.Calls.{ground, cells-few, march-through}
@@ -8,7 +9,7 @@ use Rattle.engine.proofs.seeded.march.Tie as tie
 
 -- back from one step to the one before it
 abbrev start : tie.After-lay2 → tie.Start
-start c = c .before .before .before .before .before
+start c = c .before .before .before .before .before .before .before .before .before
 
 abbrev laid : tie.After-drain-tile → tie.After-lay2
 laid c = c .before .before .before .before .before
@@ -20,17 +21,19 @@ abbrev finished : tie.After-fill-arg → tie.After-finish
 finished c = c .before .before .before
 
 lay-requires : tie.Need-lay-requires
-lay-requires c κs = let f = c .before .before .before .pre .0 .fit in (f .across-low, f .good .wide-low, f .good .wide-high)
+lay-requires c κs = let f = c .before .before .before .before .pre .0 .fit in (f .across-low, f .good .wide-low, f .good .wide-high, omega arith)
 
 lay-requires-2 : tie.Need-lay-requires-2
-lay-requires-2 c κs = let f = c .before .before .before .before .pre .0 .fit in (f .down-low, f .good .high-low, f .good .high-high)
+lay-requires-2 c κs =
+    let f = c .before .before .before .before .before .before .before .before .pre .0 .fit in
+    (f .down-low, f .good .high-low, f .good .high-high, f .good .storeys-high)
 
 drain-tile-requires : tie.Need-drain-tile-requires
 drain-tile-requires c κs =
     let l = c .before .before .before .before in
     let p = start l in
     let o = p .pre .0 in (
-      ground (o .fit) (p .args .times .now) _ _ (o .fit .many) (l .before .lay .ensures) (l .lay2 .ensures),
+      ground (o .fit) (p .args .times .now) _ _ (o .fit .many) (l .before .before .before .before .lay .ensures) (l .lay2 .ensures),
       o .stands .placed,
       p .pre .1,
       p .pre .2,
@@ -73,4 +76,5 @@ returns c xs fit stands =
 
 pub march-spec : {M : Type 1} → statement M
 march-spec =
-    tie.close (tie.spec lay-requires lay-requires-2 drain-tile-requires finish-requires mul-fill fill-requires same-length same-length-2 returns)
+    tie.close (tie.spec (λ c. search needs) lay-requires (λ c. search needs) (λ c. search needs) (λ c. search needs) lay-requires-2 drain-tile-requires
+    finish-requires mul-fill fill-requires same-length same-length-2 returns)

@@ -1,5 +1,6 @@
 -- `engine::seeded::tile_run` meets its contract.
 use native.Mathlib.Omega.{arith}
+use borrow.Author.Needs.{needs}
 use mathlib.Core.Path.{_∙_}
 use Rattle.eikonal.specs.Ledger.{counted, entered}
 use Rattle.engine.specs.Run.{Ran}
@@ -12,7 +13,7 @@ abbrev start : tie.After-fill → tie.Start
 start c = c .before .before .before .before .before
 
 abbrev filled : tie.After-lay2 → tie.After-fill
-filled c = c .before .before .before .before
+filled c = c .before .before .before .before .before .before .before .before
 
 abbrev laid : tie.After-gather → tie.After-lay2
 laid c = c .before .before
@@ -27,10 +28,12 @@ fill-requires : tie.Need-fill-requires
 fill-requires c κs = (omega arith, omega (arith, c .before .before .before .before .pre .0 .fit .many))
 
 lay-requires : tie.Need-lay-requires
-lay-requires c κs = let f = start (c .before .before) .pre .0 .fit in (f .across-low, f .good .wide-low, f .good .wide-high)
+lay-requires c κs = let f = start (c .before .before .before) .pre .0 .fit in (f .across-low, f .good .wide-low, f .good .wide-high, omega arith)
 
 lay-requires-2 : tie.Need-lay-requires-2
-lay-requires-2 c κs = let f = start (c .before .before .before) .pre .0 .fit in (f .down-low, f .good .high-low, f .good .high-high)
+lay-requires-2 c κs =
+    let f = start (c .before .before .before .before .before .before .before) .pre .0 .fit in
+    (f .down-low, f .good .high-low, f .good .high-high, f .good .storeys-high)
 
 gather-requires : tie.Need-gather-requires
 gather-requires c κs =
@@ -44,7 +47,7 @@ run-requires c κs =
     let e = filled l .fill .ensures in
     let p = start (filled l) in
     let o = p .pre .0 in (
-      ground (o .fit) _ _ _ (e .long ∙ o .fit .many) (l .before .lay .ensures) (l .lay2 .ensures),
+      ground (o .fit) _ _ _ (e .long ∙ o .fit .many) (l .before .before .before .before .lay .ensures) (l .lay2 .ensures),
       record { starts = o .starts; good = o .fit .good; at = run-start (o .fit) (o .stands) (g .gather .ensures) _ (never-times (o .fit) _ e) _ _ },
       p .pre .1,
       p .pre .2,
@@ -90,4 +93,5 @@ returns c xs fit stands =
 
 pub tile-run-spec : {M : Type 1} → statement M
 tile-run-spec =
-    tie.close (tie.spec fill-requires lay-requires lay-requires-2 gather-requires run-requires mul-fill fill-requires-2 same-length same-length-2 returns)
+    tie.close (tie.spec fill-requires (λ c. search needs) lay-requires (λ c. search needs) (λ c. search needs) (λ c. search needs) lay-requires-2
+    gather-requires run-requires mul-fill fill-requires-2 same-length same-length-2 returns)

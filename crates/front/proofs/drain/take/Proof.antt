@@ -1,12 +1,14 @@
 -- `front::drain::take` meets its contract.
-use mathlib.Core.Path.{_≡_, _∙_}
+use mathlib.Core.Path.{_≡_, sym, _∙_}
 use Prim.Native.Nat.{_+_, _-_, _*_, _≤_, _<_}
 use native.Mathlib.Omega.{arith}
 use lib.ListN.{length, set}
+use Rattle.front.specs.Seams.{inside}
 use Rattle.front.specs.Board.{keys, at, Site}
-use Rattle.front.specs.State.{Popped}
-use Rattle.front.proofs.Theory.Reading.{cells-most, measured, width-low, width-high, site}
-use Rattle.front.proofs.Theory.Telling.{told-long}
+use Rattle.front.specs.State.{Popped, Held}
+use Rattle.front.proofs.Theory.Reading.{cells-most, measured, width-low, width-high, flat, site}
+use Rattle.front.proofs.Theory.Telling.{told-held, told-long, told-rest}
+use Rattle.front.proofs.Theory.Relaxing.{near-told, flat-told}
 use Rattle.front.proofs.Theory.Draining.{is-popped, popped-held}
 use Rattle.front.proofs.drain.take.Statement.{statement}
 use Rattle.front.proofs.drain.take.Tie as tie
@@ -77,23 +79,89 @@ mul-col c = omega (arith, on (c .before), here c .cell)
 sub-col : tie.Need-sub-col
 sub-col c = omega (arith, here c .cell)
 
-tell-requires : tie.Need-tell-requires
-tell-requires c κs =
+-- from where its storey has heard
+abbrev row : tie.After-tell-storey → tie.After-row-of
+row c = c .before .before
+
+tell-storey-requires : tie.Need-tell-storey-requires
+tell-storey-requires c κs =
     let o = c .before in
     let p = start (picked (o .before)) in
     (p .pre .0, measured, popped-held (p .pre .1) (taken (o .before)), here o, λ z. omega arith)
 
-same-length : tie.Need-same-length
-same-length c = told-long (c .before .before .tell .ensures) ∙ taken (c .before .before .before .before .before) .long
+held : (c : tie.After-tell-storey) → Held (start (picked (row c .before)) .args .shape .cells) (at (c .tell-storey .last .1 .1 .0) (c .tell-storey .result))
+held c = let o = row c in told-held (popped-held (start (picked (o .before)) .pre .1) (taken (o .before))) (c .tell-storey .ensures)
+
+-- a house: the cell is read again from its note
+abbrev storey : tie.After-wide → tie.After-tell-storey
+storey c = c .before .before .before .before .before .before
+
+again : (c : tie.After-wide) → c .wide .result ≡ picked (row (storey c) .before) .first .result
+again c =
+    let t = storey c in
+    let o = row t .before in
+    c .wide .ensures ∙ told-rest (t .tell-storey .ensures) _ (omega arith) ∙ taken o .note
+
+mul-wide : tie.Need-mul-wide
+mul-wide c = omega (arith, on (row (c .before .before .before .before) .before))
+
+slice-read-wide : tie.Need-slice-read-wide
+slice-read-wide c =
+    let t = c .before .before .before .before .before in
+    omega (arith, on (row t .before), held t .room)
+
+tell-stack-requires : tie.Need-tell-stack-requires
+tell-stack-requires c κs =
+    let d = c .before in
+    let t = storey d in
+    let p = start (picked (row t .before)) in
+    (p .pre .0, measured, held t, omega (arith, again d, on (row t .before)))
 
 returns : tie.Need-returns
 returns c =
-    let o = c .before .before .before .before .before in
-    record { cell = _; middle = _; popped = taken o; told = rw (← due (picked o)) (c .before .before .tell .ensures) }
+    let s = c .before .before in
+    let d = s .before .before in
+    let t = storey d in
+    let o = row t in
+    let p = start (picked (o .before)) in
+    record {
+      cell = _;
+      middle = _;
+      popped = taken (o .before);
+      told = rw (← due (picked (o .before)))
+          (near-told (p .pre .0) measured (here o) inside (t .tell-storey .ensures) (rw (again d) at (s .tell-stack .ensures)));
+    }
+
+same-length : tie.Need-same-length
+same-length c =
+    let s = c .before .before in
+    let t = storey (s .before .before) in
+    told-long (s .tell-stack .ensures) ∙ told-long (t .tell-storey .ensures) ∙ taken (row t .before) .long
+
+-- a flat board: nobody is under or over the cell
+returns-2 : tie.Need-returns-2
+returns-2 c =
+    let i = c .before in
+    let t = i .before .before .before in
+    let o = row t in
+    let p = start (picked (o .before)) in
+    let level = flat (p .pre .0) (sym (i .is-house .ensures) ∙ c .if1 .left) in
+    record {
+      cell = _;
+      middle = _;
+      popped = taken (o .before);
+      told = rw (← due (picked (o .before)))
+          (near-told (p .pre .0) measured (here o) inside (t .tell-storey .ensures) (flat-told (p .pre .0) measured (here o) _ level));
+    }
+
+same-length-2 : tie.Need-same-length-2
+same-length-2 c =
+    let t = c .before .before .before .before in
+    told-long (t .tell-storey .ensures) ∙ taken (row t .before) .long
 
 pub take-spec : {M : Type 1} → statement M
 take-spec =
     tie.close
     (tie.spec
     least-key-requires first-requires remove-first-requires mul-at add-at cast-work mul-work slice-write-work row-of-requires mul-col
-    sub-col tell-requires same-length returns)
+    sub-col tell-storey-requires (λ c κs. tt) mul-wide slice-read-wide (λ c κs. tt) tell-stack-requires same-length returns same-length-2 returns-2)

@@ -1,133 +1,124 @@
 -- `front::sight::rule` meets its contract.
-use mathlib.Core.Path.{_≡_}
+use mathlib.Core.Path.{_≡_, sym, _∙_}
 use Prim.Native.Nat.{ℕ, _<_, min}
 use native.Mathlib.Omega.{arith}
 use lib.ListN.{getD}
-use Rattle.eikonal.specs.Board.{slowness, along-row, down-column, local-of}
+use Rattle.eikonal.specs.Board.{never, slowness, along-row, down-column, local-of}
 use Rattle.eikonal.specs.Inner.Good.{Pair}
 use Rattle.eikonal.proofs.FirstPass.{alike}
 use Rattle.eikonal.proofs.Walls.{unequal}
 use Rattle.front.proofs.Theory.Reading.{
-  left-some,
-  right-some,
-  above-some,
-  below-some,
-  fits-back,
-  fits-on,
   cells-most,
   slow-long,
-  column,
-  line,
+  within,
+  house,
+  flat,
+  sees-columns,
+  sees-rows,
+  columns-read,
+  rows-read,
+  flat-read,
   rule-read,
 }
 use Rattle.front.specs.Board.{rule-at, tentative}
 use Rattle.front.proofs.sight.rule.Statement.{statement}
 use Rattle.front.proofs.sight.rule.Tie as tie
 
--- the entry from where the left neighbour is seen, and that from where all are
-abbrev start : tie.After-see → tie.Start
+-- the entry, from where the board is seen to be flat, and that from where both axes are seen
+abbrev start : tie.Else1 → tie.Start
 start c = c .before .before .before .before .before
 
-abbrev first : tie.After-see4 → tie.After-see
-first c = c .before .before .before .before .before .before
+abbrev first : tie.After-along2 → tie.After-along
+first c = c .before .before .before
 
--- the seams around the cell are laid
-laid : (p : tie.Start) → (p .args .col < 256) × (p .args .row < 256)
-laid p =
-    let g = p .pre .0 in
-    let si = p .pre .2 in
-    (omega (arith, column g (p .pre .1) si, g .good .wide-high), omega (arith, line g (p .pre .1) si, g .good .high-high))
+abbrev level : tie.After-along → tie.Else1
+level c = c .before .before .before
 
-element-copy-out-see : tie.Need-element-copy-out-see
-element-copy-out-see c = omega (arith, laid (c .before .before .before))
+house-rule-requires : tie.Need-house-rule-requires
+house-rule-requires c κs =
+    let i = c .before in
+    let p = i .before .before .before .before in
+    (p .pre .0, p .pre .1, p .pre .2, p .pre .3, house (p .pre .0) (sym (i .is-house .ensures) ∙ c .if1 .taken))
 
-see-requires : tie.Need-see-requires
-see-requires c κs =
-    let p = c .before .before .before .before in
-    fits-back (p .pre .0) (p .pre .1) (p .pre .2) (p .pre .3) 1 (left-some (p .pre .0) (p .pre .1) (p .pre .2))
+laid : (c : tie.Else1) → (start c .args .col < 256) × (start c .args .row < 2048)
+laid c = let p = start c in within (p .pre .0) (p .pre .1) (p .pre .2)
 
-add-see : tie.Need-add-see
-add-see c = omega (arith, laid (start c))
+element-copy-out-along : tie.Need-element-copy-out-along
+element-copy-out-along c = omega (arith, laid c)
 
-element-copy-out-see-2 : tie.Need-element-copy-out-see-2
-element-copy-out-see-2 c = omega (arith, laid (start c))
+add-along : tie.Need-add-along
+add-along c = omega (arith, laid (c .before))
 
-see-requires-2 : tie.Need-see-requires-2
-see-requires-2 c κs =
-    let p = start (c .before) in
-    fits-on (p .pre .0) (p .pre .1) (p .pre .2) (p .pre .3) 1 (right-some (p .pre .0) (p .pre .1) (p .pre .2))
+element-copy-out-along-2 : tie.Need-element-copy-out-along-2
+element-copy-out-along-2 c = omega (arith, laid (c .before))
 
-element-copy-out-see-3 : tie.Need-element-copy-out-see-3
-element-copy-out-see-3 c = omega (arith, laid (start (c .before .before)))
+along-requires : tie.Need-along-requires
+along-requires c κs = let p = start (c .before .before) in sees-columns (p .pre .0) (p .pre .1) (p .pre .2) (p .pre .3)
 
-see-requires-3 : tie.Need-see-requires-3
-see-requires-3 c κs =
-    let p = start (c .before .before .before) in
-    fits-back (p .pre .0) (p .pre .1) (p .pre .2) (p .pre .3) (p .args .w) (above-some (p .pre .0) (p .pre .1) (p .pre .2))
+element-copy-out-along-3 : tie.Need-element-copy-out-along-3
+element-copy-out-along-3 c = omega (arith, laid (level c))
 
-add-see-2 : tie.Need-add-see-2
-add-see-2 c = omega (arith, laid (start (c .before .before .before .before)))
+add-along-2 : tie.Need-add-along-2
+add-along-2 c = omega (arith, laid (level (c .before)))
 
-element-copy-out-see-4 : tie.Need-element-copy-out-see-4
-element-copy-out-see-4 c = omega (arith, laid (start (c .before .before .before .before)))
+element-copy-out-along-4 : tie.Need-element-copy-out-along-4
+element-copy-out-along-4 c = omega (arith, laid (level (c .before)))
 
-see-requires-4 : tie.Need-see-requires-4
-see-requires-4 c κs =
-    let p = start (c .before .before .before .before .before) in
-    fits-on (p .pre .0) (p .pre .1) (p .pre .2) (p .pre .3) (p .args .w) (below-some (p .pre .0) (p .pre .1) (p .pre .2))
-
--- what the four are seen as, from where the axes' times are known
-abbrev last : tie.After-lesser2 → tie.After-see4
-last c = c .before .before
+along-requires-2 : tie.Need-along-requires-2
+along-requires-2 c κs = let p = start (level (c .before .before)) in sees-rows (p .pre .0) (p .pre .1) (p .pre .2) (p .pre .3)
 
 mul-s : tie.Need-mul-s
 mul-s c =
-    let p = start (first (last c)) in
+    let p = start (level (first c)) in
     omega (arith, p .pre .1 .cells, p .pre .2 .on, cells-most (p .pre .0))
 
 shared-slice-read-s : tie.Need-shared-slice-read-s
 shared-slice-read-s c =
-    let p = start (first (last (c .before))) in
+    let p = start (level (first (c .before))) in
     omega (arith, p .pre .1 .cells, p .pre .2 .on, slow-long (p .pre .0))
 
 -- the cell's pair, and what the rule gives by it
-pair-of : (c : tie.After-lesser2) → let a = start (first (last c)) .args in Pair (along-row (getD (a .slow .now) (a .c) 0)) (down-column (getD (a .slow .now) (a .c) 0))
+pair-of : (c : tie.After-along2) → let a = start (level (first c)) .args in
+    Pair (along-row (getD (a .slow .now) (a .c) 0)) (down-column (getD (a .slow .now) (a .c) 0))
 unfolding slowness
-pair-of c = let p = start (first (last c)) in p .pre .0 .good .pairs (p .args .c)
+pair-of c = let p = start (level (first c)) in p .pre .0 .good .pairs (p .args .c)
 
-returns-by : (c : tie.After-lesser2) (x : ℕ) → let a = start (first (last c)) .args in let s = getD (a .slow .now) (a .c) 0 in
-    x ≡ min (a .limit) (local-of (along-row s) (down-column s) (c .before .lesser .result) (c .lesser2 .result))
+returns-by : (c : tie.After-along2) (x : ℕ) → let a = start (level (first c)) .args in let s = getD (a .slow .now) (a .c) 0 in
+    x ≡ min (a .limit) (local-of (along-row s) (down-column s) (first c .along .result) (c .along2 .result) never)
     → x ≡ min (a .limit) (rule-at (a .shape) (a .slow .now) (a .times .now) (a .c) (tentative (a .work .now) (a .n)))
 returns-by c x e =
-    let d = last c in
-    let p = start (first d) in
-    let read = rule-read (p .pre .0) (p .pre .1) (p .pre .2) (tentative (p .args .work .now) (p .args .n))
-    (first d .see .ensures) (d .before .before .before .before .see2 .ensures) (d .before .before .see3 .ensures) (d .see4 .ensures)
-    (c .before .lesser .ensures) (c .lesser2 .ensures) in
+    let o = level (first c) in
+    let p = start o in
+    let g = p .pre .0 in
+    let me = p .pre .1 in
+    let si = p .pre .2 in
+    let f = tentative (p .args .work .now) (p .args .n) in
+    let none = flat-read g me si f (flat g (sym (o .before .is-house .ensures) ∙ o .if1 .left)) in
+    let read = rule-read g me si f (columns-read g me si f (first c .along .ensures)) (rows-read g me si f (c .along2 .ensures)) none in
     omega (arith, e, read, p .fits .limit)
 
 of-equal-requires : tie.Need-of-equal-requires
 unfolding along-row down-column
 of-equal-requires c κs = pair-of (c .before .before) .along-most
 
-returns : tie.Need-returns
+returns-2 : tie.Need-returns-2
 unfolding along-row down-column
-returns c =
+returns-2 c =
     let t = c .before in
-    returns-by (t .before .before) _ (alike _ _ _ _ _ _ (t .if1 .taken) (c .of-equal .ensures))
+    returns-by (t .before .before) _ (alike _ _ _ _ _ _ _ (t .if2 .taken) (c .of-equal .ensures))
 
 of-unequal-requires : tie.Need-of-unequal-requires
 unfolding along-row down-column
-of-unequal-requires c κs = unequal (pair-of (c .before .before)) (c .if1 .left)
+of-unequal-requires c κs = unequal (pair-of (c .before .before)) (c .if2 .left)
 
-returns-2 : tie.Need-returns-2
+returns-3 : tie.Need-returns-3
 unfolding along-row down-column
-returns-2 c = returns-by (c .before .before .before) _ (c .of-unequal .ensures)
+returns-3 c = returns-by (c .before .before .before) _ (c .of-unequal .ensures)
 
 pub rule-spec : {M : Type 1} → statement M
 rule-spec =
     tie.close
     (tie.spec
-    element-copy-out-see see-requires add-see element-copy-out-see-2 see-requires-2 element-copy-out-see-3 see-requires-3
-    add-see-2 element-copy-out-see-4 see-requires-4 (λ c κs. tt) (λ c κs. tt) mul-s shared-slice-read-s of-equal-requires returns
-    of-unequal-requires returns-2)
+    (λ c κs. tt) house-rule-requires (λ c. c .house-rule .ensures) element-copy-out-along add-along element-copy-out-along-2 along-requires
+    element-copy-out-along-3 add-along-2 element-copy-out-along-4 along-requires-2 mul-s shared-slice-read-s of-equal-requires returns-2
+    of-unequal-requires returns-3)

@@ -3,11 +3,11 @@ use Prim.Native.Nat.{_-_, _*_}
 use native.Mathlib.Omega.{arith}
 use mathlib.Core.Path.{sym, _∙_}
 use borrow.Author.Tests.{eqb-true}
+use Rattle.front.specs.Seams.{border}
 use Rattle.front.specs.Board.{Site}
-use Rattle.front.proofs.Theory.Reading.{cells-most, width-low, width-high, site, line, column}
-use Rattle.front.proofs.Theory.Relaxing.{near-none}
+use Rattle.front.proofs.Theory.Reading.{cells-most, lines-most, width-low, width-high, site, line, column}
+use Rattle.front.proofs.Theory.Relaxing.{near-none, near-told, border-told}
 use Rattle.front.proofs.Theory.Telling.{told-long}
-use borrow.Author.Needs.{needs}
 use Rattle.front.proofs.spread.tell_others.Statement.{statement}
 use Rattle.front.proofs.spread.tell_others.Tie as tie
 
@@ -35,7 +35,7 @@ inner-requires : tie.Need-inner-requires
 inner-requires c κs =
     let p = start c in
     let g = p .pre .0 in
-    (omega (arith, line g (p .pre .1) (here c), g .good .high-high), omega (arith, column g (p .pre .1) (here c), g .good .wide-high))
+    (omega (arith, line g (p .pre .1) (here c), lines-most g), omega (arith, column g (p .pre .1) (here c), g .good .wide-high))
 
 returns : tie.Need-returns
 returns c =
@@ -43,14 +43,21 @@ returns c =
     let p = start o in
     near-none (p .pre .0) (p .pre .1) (here o) (eqb-true _ _ (sym (c .before .inner .ensures) ∙ c .if1 .taken)) _
 
-tell-requires : tie.Need-tell-requires
-tell-requires c κs =
+tell-storey-requires : tie.Need-tell-storey-requires
+tell-storey-requires c κs =
     let o = c .before .before .before in
     let p = start o in
     (p .pre .0, p .pre .1, p .pre .2, here o, λ z. omega arith)
 
+returns-2 : tie.Need-returns-2
+returns-2 c =
+    let t = c .before .before in
+    let o = t .before .before .before .before in
+    let p = start o in
+    near-told (p .pre .0) (p .pre .1) (here o) border (t .tell-storey .ensures) (border-told (p .pre .0) (p .pre .1) (here o) _)
+
 same-length : tie.Need-same-length
-same-length c = told-long (c .before .before .tell .ensures)
+same-length c = told-long (returns-2 c)
 
 pub tell-others-spec : {M : Type 1} → statement M
-tell-others-spec = tie.close (tie.spec row-of-requires mul-col sub-col inner-requires returns tell-requires same-length (λ c. search needs))
+tell-others-spec = tie.close (tie.spec row-of-requires mul-col sub-col inner-requires returns tell-storey-requires same-length returns-2)

@@ -5,7 +5,7 @@ use Rattle.front.specs.Board.{at}
 use Rattle.front.specs.State.{Ready-among}
 use Rattle.front.proofs.Theory.Reading.{cells-most}
 use Rattle.front.proofs.Theory.Beginning.{gathered-held}
-use Rattle.front.proofs.Theory.Strips.{parted-apart, parted-fits, strip-ready, strip-done}
+use Rattle.front.proofs.Theory.Strips.{strip-fits, strip-ready, strip-done}
 use Rattle.front.proofs.strip.drain_strip.Statement.{statement}
 use Rattle.front.proofs.strip.drain_strip.Tie as tie
 
@@ -20,15 +20,15 @@ abbrev woken : tie.After-drain → tie.After-wake
 woken c = c .before .before .before .before
 
 mul-gather : tie.Need-mul-gather
-mul-gather c = let p = c .before .before .before .before in omega (arith, parted-fits (p .pre .0) (p .pre .1), cells-most (p .pre .0))
+mul-gather c = let p = c .before .before .before .before in omega (arith, strip-fits (p .pre .0) (p .pre .1), cells-most (p .pre .0))
 
 mul-gather-2 : tie.Need-mul-gather-2
-mul-gather-2 c = let p = c .before .before .before .before in omega (arith, parted-fits (p .pre .0) (p .pre .1), cells-most (p .pre .0))
+mul-gather-2 c = let p = c .before .before .before .before in omega (arith, strip-fits (p .pre .0) (p .pre .1), cells-most (p .pre .0))
 
 gather-requires : tie.Need-gather-requires
 gather-requires c κs =
     let p = c .before .before .before .before in
-    let fits = parted-fits (p .pre .0) (p .pre .1) in
+    let fits = strip-fits (p .pre .0) (p .pre .1) in
     (cells-most (p .pre .0), fits .0, fits .1, p .pre .2)
 
 wake-requires : tie.Need-wake-requires
@@ -43,7 +43,7 @@ ready w =
     let g = gathered w in
     let p = start g in
     let gr = p .pre .0 in
-    strip-ready gr (parted-apart gr (p .pre .1)) (parted-fits gr (p .pre .1) .1) (p .pre .2) (g .gather .ensures) (w .wake .ensures)
+    strip-ready gr (p .pre .1 .apart) (strip-fits gr (p .pre .1) .1) (p .pre .2) (g .gather .ensures) (w .wake .ensures)
 
 drain-requires : tie.Need-drain-requires
 drain-requires c κs =
@@ -57,7 +57,7 @@ returns c =
     let g = gathered w in
     let p = start g in
     let gr = p .pre .0 in
-    strip-done gr (parted-apart gr (p .pre .1)) (parted-fits gr (p .pre .1) .1) (p .pre .2) (g .gather .ensures) (w .wake .ensures) (p .pre .3)
+    strip-done gr (p .pre .1 .apart) (strip-fits gr (p .pre .1) .1) (p .pre .2) (g .gather .ensures) (w .wake .ensures) (p .pre .3)
     (c .before .before .drain .ensures _ _ (ready w))
 
 same-length : tie.Need-same-length

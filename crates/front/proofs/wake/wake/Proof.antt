@@ -6,6 +6,7 @@ use native.Mathlib.Numerals.{add-one}
 use native.Mathlib.Nat.{mul-le-mul-right}
 use Rattle.front.specs.Board.{at}
 use Rattle.front.specs.State.{Woken}
+use Rattle.front.proofs.Theory.Reading.{lines-most}
 use Rattle.front.proofs.Theory.Telling.{told-held, told-long}
 use Rattle.front.proofs.Theory.Waking.{woken-none}
 use Rattle.front.proofs.wake.wake.Statement.{statement}
@@ -33,7 +34,7 @@ wake-row-requires c κs =
     (p .pre .0, told-held (p .pre .1) (o .before .loop .inv .2 .told), omega (arith, o .loop-test .taken, p .pre .3))
 
 add-row : tie.Need-add-row Inv-loop μ-loop
-add-row c = let o = c .before .before .before .before in omega (arith, start o .pre .0 .good .high-high, start o .pre .3, o .loop-test .taken)
+add-row c = let o = c .before .before .before .before in omega (arith, lines-most (start o .pre .0), start o .pre .3, o .loop-test .taken)
 
 loop-less : tie.Need-loop-less Inv-loop μ-loop
 loop-less c = omega (arith, c .before .before .before .before .loop-test .taken)

@@ -3,12 +3,11 @@ use mathlib.Core.Path.{_≡_, refl, sym, _∙_}
 use mathlib.Core.Logic.{inl, ⊎-elim}
 use Prim.Native.Nat.{ℕ, suc, _+_, _-_, _*_, _≤_}
 use native.Mathlib.Omega.{arith}
-use native.Mathlib.Nat.{mul-le-mul-right, mul-comm}
 use lib.ListN.{length}
 use borrow.Author.Tests.{eqb-true, not-false}
 use Rattle.front.specs.Board.{Work, at, Site}
 use Rattle.front.specs.State.{Held, Woken}
-use Rattle.front.proofs.Theory.Reading.{measured}
+use Rattle.front.proofs.Theory.Reading.{cells-most, lines-most, measured}
 use Rattle.front.proofs.Theory.Telling.{touched-held, touched-long}
 use Rattle.front.proofs.Theory.Waking.{woken-touched, woken-inner, seams-inside, rows-fit}
 use Rattle.front.proofs.wake.wake_row.Statement.{statement}
@@ -35,13 +34,13 @@ here o =
     let p = start o in
     let s = p .args .shape in
     record {
-      on = omega (arith, o .loop-test .taken, p .pre .0 .cells, mul-comm (s .width) (s .height), mul-le-mul-right (s .width) (p .pre .2));
+      on = omega (arith, o .loop-test .taken, rows-fit (p .pre .0) (p .pre .2));
       cell = refl;
       column = o .loop-test .taken;
     }
 
 mul-first : tie.Need-mul-first Inv-loop μ-loop
-mul-first c = let p = c .before .before .before in omega (arith, rows-fit (p .pre .0) (p .pre .2))
+mul-first c = let p = c .before .before .before in omega (arith, rows-fit (p .pre .0) (p .pre .2), cells-most (p .pre .0))
 
 loop-holds : tie.Need-loop-holds Inv-loop μ-loop
 loop-holds c =
@@ -52,13 +51,13 @@ loop-holds c =
 inner-requires : tie.Need-inner-requires Inv-loop μ-loop
 inner-requires c κs =
     let p = start c in
-    (omega (arith, p .pre .2, p .pre .0 .good .high-high), omega (arith, c .loop-test .taken, p .pre .0 .good .wide-high))
+    (omega (arith, p .pre .2, lines-most (p .pre .0)), omega (arith, c .loop-test .taken, p .pre .0 .good .wide-high))
 
 add-relax : tie.Need-add-relax Inv-loop μ-loop
 add-relax c =
     let o = c .before .before .before in
     let p = start o in
-    omega (arith, rows-fit (p .pre .0) (p .pre .2), o .loop-test .taken)
+    omega (arith, rows-fit (p .pre .0) (p .pre .2), cells-most (p .pre .0), o .loop-test .taken)
 
 relax-requires : tie.Need-relax-requires Inv-loop μ-loop
 relax-requires c κs =

@@ -39,7 +39,7 @@ use Rattle.record_calls.proofs.calls.play_records.Statement as stated
 use Rattle.record_calls.proofs.calls.play_records.Code as code
 
 abbrev params : List (Param 5)
-params = number-param w32 ∷ number-param w32 ∷ shared u32 0 tt ∷ shared Start-type.the-row 1 tt ∷ by-value Job-type.the-row
+params = number-param w32 ∷ number-param w32 ∷ number-param w32 ∷ shared u32 0 tt ∷ shared Start-type.the-row 1 tt ∷ by-value Job-type.the-row
     (enums.vals Job-type.the-type Job-laws.the-laws) (enums.tells Job-type.the-type Job-laws.the-laws) (λ x f. refl) ∷ shared u32 2 tt ∷ given-up u32 3 tt ∷
     given-up u32 4 tt ∷ []
 
@@ -48,11 +48,11 @@ module _ {M : Type 1} (𝓤 : URA M) (H : Heap 𝓤) (A : Atoms 𝓤) (W : Given
     (known-be : Triple 𝓤 (𝓣 .C be-def.name) (contract-of 𝓤 H A be.ended (be.clauses 𝓤 H A mem run)))
     (known-sr : Triple 𝓤 (𝓣 .C sr-def.name) (contract-of 𝓤 H A sr.ended (sr.clauses 𝓤 H A mem run)))
     (known-en : Triple 𝓤 (𝓣 .C en-def.name) (contract-of 𝓤 H A en.ended (en.clauses 𝓤 H A mem run))) where
-  module _ (κ0 κ1 κ2 κ3 κ4 : Lft) (q0 q1 q2 q3 q4 : Share) (width : ℕ) (height : ℕ) (r-slow : RefT (List ℕ)) (r-starts : RefT (List Start)) (job : Job)
-      (r-order : RefT (List ℕ)) (r-times : RefT (List ℕ)) (r-work : RefT (List ℕ)) (g-width : width < 2 ^ 32) (g-height : height < 2 ^ 32)
-      (g-slow : Room u32 (length (r-slow .now))) (g-starts : Room Start-type.the-row (length (r-starts .now))) (g-job : Is Job-type.the-row job
-      (enums.vals Job-type.the-type Job-laws.the-laws job)) (g-order : Room u32 (length (r-order .now))) (g-times : Room u32 (length (r-times .now)))
-      (g-work : Room u32 (length (r-work .now))) where
+  module _ (κ0 κ1 κ2 κ3 κ4 : Lft) (q0 q1 q2 q3 q4 : Share) (width : ℕ) (height : ℕ) (storeys : ℕ) (r-slow : RefT (List ℕ)) (r-starts : RefT (List Start))
+      (job : Job) (r-order : RefT (List ℕ)) (r-times : RefT (List ℕ)) (r-work : RefT (List ℕ)) (g-width : width < 2 ^ 32) (g-height : height < 2 ^ 32)
+      (g-storeys : storeys < 2 ^ 32) (g-slow : Room u32 (length (r-slow .now))) (g-starts : Room Start-type.the-row (length (r-starts .now))) (g-job : Is
+      Job-type.the-row job (enums.vals Job-type.the-type Job-laws.the-laws job)) (g-order : Room u32 (length (r-order .now)))
+      (g-times : Room u32 (length (r-times .now))) (g-work : Room u32 (length (r-work .now))) where
     abbrev slow : List ℕ
     slow = r-slow .now
 
@@ -70,20 +70,21 @@ module _ {M : Type 1} (𝓤 : URA M) (H : Heap 𝓤) (A : Atoms 𝓤) (W : Given
 
     abbrev point : walkOf 𝓤 H A f.ended (stays params) (f.clauses 𝓤 H A mem run) .Ghost
     point = entered-at 𝓤 H A W f.ended (stays params) (f.clauses 𝓤 H A mem run) (κ0 & κ1 & κ2 & κ3 & κ4 & tt) (q0 & q1 & q2 & q3 & q4 & tt) tt (width & height &
-        r-slow & r-starts & job & r-order & r-times & r-work & tt) ((vint w32 width) ∷ [] & (vint w32 height) ∷ [] & slice-vals r-slow & slice-vals r-starts &
-        (enums.val Job-type.the-type Job-laws.the-laws job) ∷ [] & slice-vals r-order & slice-vals r-times & slice-vals r-work & tt) tt
+        storeys & r-slow & r-starts & job & r-order & r-times & r-work & tt) ((vint w32 width) ∷ [] & (vint w32 height) ∷ [] & (vint w32 storeys) ∷ [] &
+        slice-vals r-slow & slice-vals r-starts & (enums.val Job-type.the-type Job-laws.the-laws job) ∷ [] & slice-vals r-order & slice-vals r-times &
+        slice-vals r-work & tt) tt
 
     walk : Walk 𝓤 H A W f.ended (stays params) (f.clauses 𝓤 H A mem run) 𝓣 code.function point
     walk =
         begins 𝓤 H A W f.ended (stays params) (f.clauses 𝓤 H A mem run) 𝓣 code.function point
-        (λ l0 l1 l2 l3 l4 l5 l6 l7 l8 l9 l10 l11 l12 l13 l14 l15 l16 l17 l18 l19 l20 l21 l22. params1 ! $ takes ! 42 refl (tt, record { fits = g-width }) $
-        takes ! 40 refl (tt, record { fits = g-height }) $ takes ! 38 refl (tt, (tt, (record { fits = g-slow .0 }, tt))) $
-        takes ! 36 refl (tt, (tt, (record { fits = g-starts .0 }, tt))) $
+        (λ l0 l1 l2 l3 l4 l5 l6 l7 l8 l9 l10 l11 l12 l13 l14 l15 l16 l17 l18 l19 l20 l21 l22 l23. params1 ! $ takes ! 44 refl (tt, record { fits = g-width }) $
+        takes ! 42 refl (tt, record { fits = g-height }) $ takes ! 40 refl (tt, record { fits = g-storeys }) $
+        takes ! 38 refl (tt, (tt, (record { fits = g-slow .0 }, tt))) $ takes ! 36 refl (tt, (tt, (record { fits = g-starts .0 }, tt))) $
         takes ! 34 refl ((enums.lawful Job-type.the-type Job-laws.the-laws 𝓤 H A W tt) .typed job _ g-job .0) $
         takes ! 32 refl (tt, (tt, (record { fits = g-order .0 }, tt))) $ takes ! 30 refl (tt, (tt, (record { fits = g-times .0 }, tt))) $
         takes ! 28 refl (tt, (tt, (record { fits = g-work .0 }, tt))) $ pass0 ! $
-        shares W u32 κ0 r-slow 53 refl $ shares W Start-type.the-row κ1 r-starts 55 refl $
-        move ! (48 ∷ 49 ∷ 1 ∷ 0 ∷ []) $
+        shares W u32 κ0 r-slow 56 refl $ shares W Start-type.the-row κ1 r-starts 58 refl $
+        move ! (50 ∷ 51 ∷ 1 ∷ 0 ∷ []) $
         calls W 𝓣 jr.ended (jr.clauses 𝓤 H A mem run) (κ0 & κ1 & tt) (q0 & q1 & tt) tt (r-slow & r-starts & tt) (slice-vals r-slow & slice-vals r-starts & tt)
         tt ! known-jr (id⊢ 𝓤 (emp 𝓤)) (and-reads ! 39 refl (and-reads ! 37 refl (no-more !))) (λ u-j j _.
         heard ! _ (λ e-j. lands-value ! Judged-type.the-row (structs.lawful Judged-type.the-type Judged-laws.the-laws 𝓤 H A W) j refl 29 refl (λ g-j.
@@ -93,69 +94,72 @@ module _ {M : Type 1} (𝓤 : URA M) (H : Heap 𝓤) (A : Atoms 𝓤) (W : Given
         sets ! (of-opd ! (length-of ! 33 refl refl)) 21 refl (tt, record { fits = g-times .0 }) $
         sets ! (pointer-of ! 31 refl refl) 19 refl (tt, tt) $
         sets ! (slice-of ! 19 refl 31 refl refl) 17 refl (tt, (tt, (record { fits = g-work .0 }, tt))) $
-        move ! (59 ∷ 51 ∷ []) $ lends ! tt u32 κ4 q4 r-work (length work) work (λ ν-be-work ε-be-work.
-        number W w32 width (vint w32 width) (refl, g-width) $ number W w32 height (vint w32 height) (refl, g-height) $ shares W u32 κ0 r-slow 58 refl $
+        move ! (62 ∷ 53 ∷ []) $ lends ! tt u32 κ4 q4 r-work (length work) work (λ ν-be-work ε-be-work.
+        number W w32 width (vint w32 width) (refl, g-width) $ number W w32 height (vint w32 height) (refl, g-height) $
+        number W w32 storeys (vint w32 storeys) (refl, g-storeys) $ shares W u32 κ0 r-slow 62 refl $
         number W w64 (length starts) (vint w64 (length starts)) (refl, g-starts .0) $
         number W w64 (length starts) (vint w64 (length starts)) (refl, g-starts .0) $
-        copies W Job-type.the-row (enums.copy Job-type.the-type Job-laws.the-copy 𝓤 H A W) job ((enums.val Job-type.the-type Job-laws.the-laws job) ∷ []) 63
-        refl $ shares W u32 κ2 r-order 65 refl $ number W w64 (length times) (vint w64 (length times)) (refl, g-times .0) $
-        move ! (12 ∷ 60 ∷ 8 ∷ 7 ∷ 6 ∷ 5 ∷ 4 ∷ 3 ∷ 11 ∷ 2 ∷ 1 ∷ 0 ∷ 9 ∷ []) $
-        calls W 𝓣 be.ended (be.clauses 𝓤 H A mem run) (κ0 & κ2 & (ν-be-work ∷ []) & tt) (q0 & q2 & fullShare & tt) tt (width & height & r-slow & (length starts)
-        & (length starts) & j & job & r-order & (length times) & named-so r-work ε-be-work work & tt) ((vint w32 width) ∷ [] & (vint w32 height) ∷ [] &
-        slice-vals r-slow & (vint w64 (length starts)) ∷ [] & (vint w64 (length starts)) ∷ [] & u-j ∷ [] & (enums.val Job-type.the-type Job-laws.the-laws job) ∷
-        [] & slice-vals r-order & (vint w64 (length times)) ∷ [] & slice-vals r-work & tt) tt ! known-be (asked 𝓤 (record { starts = starts; is = e-j }))
-        (and-reads ! 45 refl (and-reads ! 43 refl (and-reads ! 41 refl (and-reads ! 25 refl (and-reads ! 23 refl (and-reads ! 29 refl (and-reads ! 37 refl
-        (and-reads ! 35 refl (and-reads ! 21 refl (and-reads ! 17 refl (no-more !))))))))))) (λ u-task task z-be.
+        copies W Job-type.the-row (enums.copy Job-type.the-type Job-laws.the-copy 𝓤 H A W) job ((enums.val Job-type.the-type Job-laws.the-laws job) ∷ []) 67
+        refl $ shares W u32 κ2 r-order 69 refl $ number W w64 (length times) (vint w64 (length times)) (refl, g-times .0) $
+        move ! (13 ∷ 63 ∷ 9 ∷ 8 ∷ 7 ∷ 6 ∷ 5 ∷ 4 ∷ 3 ∷ 12 ∷ 2 ∷ 1 ∷ 0 ∷ 10 ∷ []) $
+        calls W 𝓣 be.ended (be.clauses 𝓤 H A mem run) (κ0 & κ2 & (ν-be-work ∷ []) & tt) (q0 & q2 & fullShare & tt) tt (width & height & storeys & r-slow &
+        (length starts) & (length starts) & j & job & r-order & (length times) & named-so r-work ε-be-work work & tt) ((vint w32 width) ∷ [] & (vint w32 height)
+        ∷ [] & (vint w32 storeys) ∷ [] & slice-vals r-slow & (vint w64 (length starts)) ∷ [] & (vint w64 (length starts)) ∷ [] & u-j ∷ [] &
+        (enums.val Job-type.the-type Job-laws.the-laws job) ∷ [] & slice-vals r-order & (vint w64 (length times)) ∷ [] & slice-vals r-work & tt) tt ! known-be
+        (asked 𝓤 (record { starts = starts; is = e-j })) (and-reads ! 47 refl (and-reads ! 45 refl (and-reads ! 43 refl (and-reads ! 41 refl (and-reads ! 25
+        refl (and-reads ! 23 refl (and-reads ! 29 refl (and-reads ! 37 refl (and-reads ! 35 refl
+        (and-reads ! 21 refl (and-reads ! 17 refl (no-more !)))))))))))) (λ u-task task z-be.
         heard ! _ (λ e-task. lands-value ! Task-type.the-row (structs.lawful Task-type.the-type Task-laws.the-laws 𝓤 H A W) task refl 30 refl (λ g-task.
-        move ! (1 ∷ []) $ no-last ! $ no-last ! $ no-last ! $ no-last ! $ no-last ! $ no-last ! $ no-last ! $ no-last ! $ no-last ! $ last-of ! (λ l-emptied.
-        toss ! $
+        move ! (1 ∷ []) $ no-last ! $ no-last ! $ no-last ! $ no-last ! $ no-last ! $ no-last ! $ no-last ! $ no-last ! $ no-last ! $ no-last ! $
+        last-of ! (λ l-emptied. toss ! $
         move ! (4 ∷ 5 ∷ 0 ∷ []) $
-        takes-back ! tt u32 κ4 q4 r-work (length work) ν-be-work ε-be-work work (z-be .1 .1 .1 .1 .1 .1 .1 .1 .1 .0) g-work l-emptied l-emptied $
+        takes-back ! tt u32 κ4 q4 r-work (length work) ν-be-work ε-be-work work (z-be .1 .1 .1 .1 .1 .1 .1 .1 .1 .1 .0) g-work l-emptied l-emptied $
         sets ! (pointer-of ! 34 refl refl) 16 refl (tt, tt) $
         sets ! (slice-of ! 16 refl 34 refl refl) 14 refl (tt, (tt, (record { fits = g-work .0 }, tt))) $
-        lends ! tt u32 κ4 q4 r-work (length work) (z-be .1 .1 .1 .1 .1 .1 .1 .1 .1 .0) (λ ν-sr-work ε-sr-work.
+        lends ! tt u32 κ4 q4 r-work (length work) (z-be .1 .1 .1 .1 .1 .1 .1 .1 .1 .1 .0) (λ ν-sr-work ε-sr-work.
         copies W Task-type.the-row (structs.copy Task-type.the-type Task-laws.the-copy 𝓤 H A W) task (u-task ∷ []) 3 refl $
-        shares W Start-type.the-row κ1 r-starts 58 refl $
+        shares W Start-type.the-row κ1 r-starts 61 refl $
         move ! (8 ∷ 2 ∷ 1 ∷ 0 ∷ 3 ∷ []) $
         calls W 𝓣 sr.ended (sr.clauses 𝓤 H A mem run) (κ1 & (ν-sr-work ∷ []) & tt) (q1 & fullShare & tt) tt (task & r-starts & named-so r-work ε-sr-work
-        (z-be .1 .1 .1 .1 .1 .1 .1 .1 .1 .0) & tt) (u-task ∷ [] & slice-vals r-starts & slice-vals r-work & tt) tt ! known-sr (asked 𝓤 (records-sow width height
-        slow starts job order times work j e-j task (z-be .1 .1 .1 .1 .1 .1 .1 .1 .1 .0) e-task)) (and-reads ! 29 refl
+        (z-be .1 .1 .1 .1 .1 .1 .1 .1 .1 .1 .0) & tt) (u-task ∷ [] & slice-vals r-starts & slice-vals r-work & tt) tt ! known-sr (asked 𝓤 (records-sow width
+        height storeys slow starts job order times work j e-j task (z-be .1 .1 .1 .1 .1 .1 .1 .1 .1 .1 .0) e-task)) (and-reads ! 29 refl
         (and-reads ! 41 refl (and-reads ! 13 refl (no-more !)))) (λ u-sr _ z-sr.
         heard ! _ (λ e-sr. lands-unit ! refl 19 refl $ no-last ! $ no-last ! $ last-of ! (λ l-sown. toss ! $
         move ! (2 ∷ 3 ∷ 0 ∷ []) $
-        takes-back ! tt u32 κ4 q4 r-work (length work) ν-sr-work ε-sr-work (z-be .1 .1 .1 .1 .1 .1 .1 .1 .1 .0) (z-sr .1 .1 .0) g-work l-sown
+        takes-back ! tt u32 κ4 q4 r-work (length work) ν-sr-work ε-sr-work (z-be .1 .1 .1 .1 .1 .1 .1 .1 .1 .1 .0) (z-sr .1 .1 .0) g-work l-sown
         (l-sown ∙ l-emptied) $
         sets ! (pointer-of ! 36 refl refl) 12 refl (tt, tt) $
         sets ! (slice-of ! 12 refl 36 refl refl) 10 refl (tt, (tt, (record { fits = g-times .0 }, tt))) $
         sets ! (pointer-of ! 34 refl refl) 8 refl (tt, tt) $
         sets ! (slice-of ! 8 refl 34 refl refl) 6 refl (tt, (tt, (record { fits = g-work .0 }, tt))) $
-        shares W u32 κ0 r-slow 55 refl $ shares W u32 κ2 r-order 59 refl $
-        move ! (6 ∷ 7 ∷ 54 ∷ 3 ∷ 5 ∷ 59 ∷ 1 ∷ 0 ∷ 61 ∷ 2 ∷ []) $
+        shares W u32 κ0 r-slow 58 refl $ shares W u32 κ2 r-order 62 refl $
+        move ! (6 ∷ 7 ∷ 56 ∷ 3 ∷ 5 ∷ 62 ∷ 1 ∷ 0 ∷ 64 ∷ 2 ∷ []) $
         calls W 𝓣 en.ended (en.clauses 𝓤 H A mem run) (κ0 & κ2 & κ3 & κ4 & tt) (q0 & q2 & q3 & q4 & tt) tt (task & job & r-slow & r-order & named-so r-times
         (r-times .name) times & named-so r-work (r-work .name) (z-sr .1 .1 .0) & tt) (u-task ∷ [] & (enums.val Job-type.the-type Job-laws.the-laws job) ∷ [] &
-        slice-vals r-slow & slice-vals r-order & slice-vals r-times & slice-vals r-work & tt) tt ! known-en (asked 𝓤 (records-end width height slow starts job
-        order times work j e-j task (z-be .1 .1 .1 .1 .1 .1 .1 .1 .1 .0) e-task (z-sr .1 .1 .0) e-sr)) (and-reads ! 26 refl (and-reads ! 36 refl (and-reads ! 40
-        refl (and-reads ! 34 refl (and-reads ! 6 refl (and-reads ! 2 refl (no-more !))))))) (λ u-r r z-en.
-        heard ! _ (λ e-r. lands-value ! Reply-type.the-row (structs.lawful Reply-type.the-type Reply-laws.the-laws 𝓤 H A W) r refl 50 refl (λ g-r.
+        slice-vals r-slow & slice-vals r-order & slice-vals r-times & slice-vals r-work & tt) tt ! known-en (asked 𝓤 (records-end width height storeys slow
+        starts job order times work j e-j task (z-be .1 .1 .1 .1 .1 .1 .1 .1 .1 .1 .0) e-task (z-sr .1 .1 .0) e-sr)) (and-reads ! 26 refl (and-reads ! 36 refl
+        (and-reads ! 40 refl (and-reads ! 34 refl (and-reads ! 6 refl (and-reads ! 2 refl (no-more !))))))) (λ u-r r z-en.
+        heard ! _ (λ e-r. lands-value ! Reply-type.the-row (structs.lawful Reply-type.the-type Reply-laws.the-laws 𝓤 H A W) r refl 52 refl (λ g-r.
         move ! (1 ∷ []) $ no-last ! $ no-last ! $ no-last ! $ no-last ! $ last-of ! (λ l-times′. last-of ! (λ l-work′. toss ! $
-        returns ! (look ! 52 refl) $ frees-at ! 52 refl refl $ frees-at ! 50 refl refl $ frees-at ! 48 refl refl $ frees-at ! 46 refl refl $
-        frees-at ! 44 refl refl $ frees-at ! 42 refl refl $ frees-at ! 40 refl refl $ frees-at ! 38 refl refl $ frees-at ! 36 refl refl $
-        frees-at ! 34 refl refl $ frees-at ! 32 refl refl $ frees-at ! 30 refl refl $ frees-at ! 28 refl refl $ frees-at ! 26 refl refl $
-        frees-at ! 24 refl refl $ frees-at ! 22 refl refl $ frees-at ! 20 refl refl $ frees-at ! 18 refl refl $ frees-at ! 16 refl refl $
-        frees-at ! 14 refl refl $ frees-at ! 12 refl refl $ frees-at ! 10 refl refl $ frees-at ! 8 refl refl $ free0 ! $ nothing ! $ nothing ! $ nothing ! $
-        nothing ! $ nothing ! $ nothing ! $
-        keep ! (8 ∷ 9 ∷ 13 ∷ 10 ∷ 11 ∷ 12 ∷ 5 ∷ 4 ∷ 3 ∷ 2 ∷ 1 ∷ 0 ∷ 7 ∷ 6 ∷ []) $
-        by ! (ends 𝓤 H A W f.ended (stays params) (f.clauses 𝓤 H A mem run) point u-r r (tt & tt & tt & tt & tt & tt & (z-en .1 .1 .1 .1 .0) &
-        (z-en .1 .1 .1 .1 .1 .0) & tt) (tt & tt & tt & tt & tt & tt & l-times′ & (l-work′ ∙ (l-sown ∙ l-emptied)) & tt) (asked 𝓤 (records-say width height slow
-        starts job order times work j e-j task (z-be .1 .1 .1 .1 .1 .1 .1 .1 .1 .0) e-task (z-sr .1 .1 .0) e-sr r (z-en .1 .1 .1 .1 .0) (z-en .1 .1 .1 .1 .1 .0)
-        e-r)))))))))))))))))))))
+        returns ! (look ! 54 refl) $ frees-at ! 54 refl refl $ frees-at ! 52 refl refl $ frees-at ! 50 refl refl $ frees-at ! 48 refl refl $
+        frees-at ! 46 refl refl $ frees-at ! 44 refl refl $ frees-at ! 42 refl refl $ frees-at ! 40 refl refl $ frees-at ! 38 refl refl $
+        frees-at ! 36 refl refl $ frees-at ! 34 refl refl $ frees-at ! 32 refl refl $ frees-at ! 30 refl refl $ frees-at ! 28 refl refl $
+        frees-at ! 26 refl refl $ frees-at ! 24 refl refl $ frees-at ! 22 refl refl $ frees-at ! 20 refl refl $ frees-at ! 18 refl refl $
+        frees-at ! 16 refl refl $ frees-at ! 14 refl refl $ frees-at ! 12 refl refl $ frees-at ! 10 refl refl $ frees-at ! 8 refl refl $ free0 ! $ nothing ! $
+        nothing ! $ nothing ! $ nothing ! $ nothing ! $ nothing ! $ nothing ! $
+        keep ! (9 ∷ 10 ∷ 14 ∷ 11 ∷ 12 ∷ 13 ∷ 6 ∷ 5 ∷ 4 ∷ 3 ∷ 2 ∷ 1 ∷ 0 ∷ 8 ∷ 7 ∷ []) $
+        by ! (ends 𝓤 H A W f.ended (stays params) (f.clauses 𝓤 H A mem run) point u-r r (tt & tt & tt & tt & tt & tt & tt & (z-en .1 .1 .1 .1 .0) &
+        (z-en .1 .1 .1 .1 .1 .0) & tt) (tt & tt & tt & tt & tt & tt & tt & l-times′ & (l-work′ ∙ (l-sown ∙ l-emptied)) & tt) (asked 𝓤 (records-say width height
+        storeys slow starts job order times work j e-j task (z-be .1 .1 .1 .1 .1 .1 .1 .1 .1 .1 .0) e-task (z-sr .1 .1 .0) e-sr r (z-en .1 .1 .1 .1 .0)
+        (z-en .1 .1 .1 .1 .1 .0) e-r)))))))))))))))))))))
 
   holds : Meets 𝓤 H A f.signature (WpFn 𝓤 H (𝓣 .C) (𝓣 .Λ) code.function) (f.spec 𝓤 H A mem run)
   holds = meets 𝓤 H A W f.ended (stays params) (f.clauses 𝓤 H A mem run) 𝓣 code.function (go 𝓤 H A W params) (spells params) (tell params)
       (λ κs qs bounds a g are. via 𝓤 _ (fst∗ 𝓤 _ (emp 𝓤)) (walk (κs .0) (κs .1 .0) (κs .1 .1 .0) (κs .1 .1 .1 .0) (κs .1 .1 .1 .1 .0) (qs .0) (qs .1 .0)
       (qs .1 .1 .0) (qs .1 .1 .1 .0) (qs .1 .1 .1 .1 .0) (a .0) (a .1 .0) (a .1 .1 .0) (a .1 .1 .1 .0) (a .1 .1 .1 .1 .0) (a .1 .1 .1 .1 .1 .0)
-      (a .1 .1 .1 .1 .1 .1 .0) (a .1 .1 .1 .1 .1 .1 .1 .0) (are .0 .1) (are .1 .0 .1) (are .1 .1 .0 .0 .1) (are .1 .1 .1 .0 .0 .1) (are .1 .1 .1 .1 .0)
-      (are .1 .1 .1 .1 .1 .0 .0 .1) (are .1 .1 .1 .1 .1 .1 .0 .0 .1) (are .1 .1 .1 .1 .1 .1 .1 .0 .0 .1)))
+      (a .1 .1 .1 .1 .1 .1 .0) (a .1 .1 .1 .1 .1 .1 .1 .0) (a .1 .1 .1 .1 .1 .1 .1 .1 .0) (are .0 .1) (are .1 .0 .1) (are .1 .1 .0 .1) (are .1 .1 .1 .0 .0 .1)
+      (are .1 .1 .1 .1 .0 .0 .1) (are .1 .1 .1 .1 .1 .0) (are .1 .1 .1 .1 .1 .1 .0 .0 .1) (are .1 .1 .1 .1 .1 .1 .1 .0 .0 .1)
+      (are .1 .1 .1 .1 .1 .1 .1 .1 .0 .0 .1)))
 
 pub play-records-spec : {M : Type 1} → stated.statement M
 unfolding code.routine tablesOf

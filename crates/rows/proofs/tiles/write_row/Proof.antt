@@ -3,7 +3,7 @@ use Prim.Native.Nat.{ℕ, _+_, _*_, _≤_}
 use native.Mathlib.Omega.{arith}
 use borrow.Author.Needs.{needs}
 use Rattle.rows.proofs.Theory.Entered.{entered-part, entered-of}
-use Rattle.rows.proofs.Theory.TileRows.{fitting-most, row-end, row-cells, parts-long, part-read}
+use Rattle.rows.proofs.Theory.TileRows.{row-end, row-cells, parts-long, part-read}
 use Rattle.rows.proofs.tiles.write_row.Statement.{statement}
 use Rattle.rows.proofs.tiles.write_row.Tie as tie
 
@@ -15,7 +15,7 @@ abbrev to : tie.Start → ℕ
 to s = s .args .row * s .args .shape .width + s .args .right
 
 ends : (s : tie.Start) → (to s ≤ s .args .shape .cells) × (s .args .shape .cells ≤ 65536)
-ends s = (row-end (s .pre .0) (s .pre .1) (s .pre .3), fitting-most (s .pre .0))
+ends s = (row-end (s .pre .0) (s .pre .1) (s .pre .3), s .pre .0 .few)
 
 mul-a : tie.Need-mul-a
 mul-a c = omega (arith, ends (c .before .before))

@@ -4,7 +4,7 @@ use native.Mathlib.Omega.{arith}
 use Rattle.rows.specs.Lists.{due}
 use Rattle.rows.specs.Rows.{Entered, Block}
 use Rattle.rows.proofs.Theory.Entered.{altered-most, entered-most, entered-none, entered-then, entered-of}
-use Rattle.rows.proofs.Theory.TileRows.{fitting-most, room-kept, no-rows, one-row-more, fewer-rows}
+use Rattle.rows.proofs.Theory.TileRows.{lines-most, room-kept, no-rows, one-row-more, fewer-rows}
 use Rattle.rows.proofs.tiles.write_rows.Statement.{statement}
 use Rattle.rows.proofs.tiles.write_rows.Tie as tie
 
@@ -28,10 +28,12 @@ add-count c =
     let p = c .before .before .before .before .before .before .before .before .pre .0 in
     let l = c .before .before .before .before .before .loop in
     let w = c .before .before .write-row in
-    omega (arith, fitting-most p, p .many, l .inv .long, entered-most (l .inv), w .ensures .counted, altered-most (l .times) (w .last .0))
+    omega (arith, p .few, p .many, l .inv .long, entered-most (l .inv), w .ensures .counted, altered-most (l .times) (w .last .0))
 
 add-row : tie.Need-add-row Inv-loop μ-loop
-add-row c = omega (arith, c .before .before .before .before .loop-test .taken, c .before .before .before .before .before .before .before .before .pre)
+add-row c =
+    let p = c .before .before .before .before .before .before .before .before .pre in
+    omega (arith, c .before .before .before .before .loop-test .taken, p, lines-most (p .0))
 
 loop-less : tie.Need-loop-less Inv-loop μ-loop
 loop-less c = omega (arith, c .before .before .before .before .loop-test .taken)

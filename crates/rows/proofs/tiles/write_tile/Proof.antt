@@ -11,51 +11,55 @@ use Rattle.rows.proofs.Theory.TileRows.{corner, in-tile}
 use Rattle.rows.proofs.tiles.write_tile.Statement.{statement}
 use Rattle.rows.proofs.tiles.write_tile.Tie as tie
 
+abbrev start : tie.After-struct-known2 → tie.Start
+start c = c .before .before .before .before
+
 div-top : tie.Need-div-top
 unfolding up
-div-top c = omega (arith, corner (c .before .before .pre) (c .before .before .args .tile))
+div-top c = omega (arith, corner (start c .pre) (start c .args .tile))
 
 mul-top : tie.Need-mul-top
 unfolding up
-mul-top c = omega (arith, corner (c .before .before .pre) (c .before .before .args .tile))
+mul-top c = omega (arith, corner (start c .pre) (start c .args .tile))
 
 rem-left : tie.Need-rem-left
 unfolding up
-rem-left c = omega (arith, corner (c .before .before .pre) (c .before .before .args .tile))
+rem-left c = omega (arith, corner (start c .pre) (start c .args .tile))
 
 mul-left : tie.Need-mul-left
 unfolding up
-mul-left c = omega (arith, corner (c .before .before .pre) (c .before .before .args .tile))
+mul-left c = omega (arith, corner (start c .pre) (start c .args .tile))
 
 add-shorter : tie.Need-add-shorter
 unfolding up
-add-shorter c = omega (arith, corner (c .before .before .pre) (c .before .before .args .tile))
+add-shorter c = omega (arith, corner (start c .pre) (start c .args .tile))
 
 add-shorter-2 : tie.Need-add-shorter-2
 unfolding up
-add-shorter-2 c = omega (arith, corner (c .before .before .before .pre) (c .before .before .before .args .tile))
+add-shorter-2 c = omega (arith, corner (start (c .before .before) .pre) (start (c .before .before) .args .tile))
 
-write-rows-requires : tie.Need-write-rows-requires
+write-storeys-requires : tie.Need-write-storeys-requires
 unfolding up
-write-rows-requires c κs =
-    let s = c .before .before .before .before .before in
+write-storeys-requires c κs =
+    let s = start (c .before .before .before .before) in
     let k = corner (s .pre) (s .args .tile) in
-    (s .pre, omega (arith, c .before .before .shorter .ensures), omega (arith, c .before .shorter2 .ensures), omega (arith, c .before .shorter2 .ensures))
+    let e = c .before .shorter2 .ensures in
+    (s .pre, omega (arith, k), omega (arith, c .before .before .shorter .ensures), omega (arith, e), omega (arith, e))
 
 returns : tie.Need-returns
 unfolding up
 returns c =
-    let s = c .before .before .before .before .before .before .before .before in
+    let s = start (c .before .before .before .before .before .before .before) in
     let x = s .args in
     let r = s .pre in
     entered-of (λ d. tile-in (x .shape) d ≡ x .tile)
-    (λ d l e. in-tile (land (x .shape) []) (x .shape .across) (x .shape .down) (r .wide-low) (r .across-low) (r .down-low) d (omega (arith, r .cells, r .many))
+    (λ d l e. in-tile (land (x .shape) []) (x .shape .across) (x .shape .down) (r .wide-low) (r .high-low) (r .across-low) (r .down-low) d
     (c .before .before .before .before .before .shorter .ensures) (c .before .before .before .before .shorter2 .ensures) e)
-    (c .before .before .write-rows .ensures)
+    (c .before .before .write-storeys .ensures)
 
 pub write-tile-spec : {M : Type 1} → statement M
 write-tile-spec =
     tie.close
     (tie.spec
-    (λ c. search needs) (λ c. search needs) (λ c. search needs) div-top mul-top rem-left mul-left add-shorter (λ c κs. search needs)
-    add-shorter-2 (λ c κs. search needs) write-rows-requires (λ c. search needs) returns)
+    (λ c. search needs) (λ c. search needs) (λ c. search needs) (λ c. search needs) (λ c. search needs) div-top mul-top rem-left
+    mul-left add-shorter (λ c. search needs) (λ c κs. search needs) add-shorter-2 (λ c κs. search needs) write-storeys-requires (λ c. search needs) returns)

@@ -9,7 +9,7 @@ use Rattle.eikonal.specs.Refusals.{member}
 use Rattle.rows.specs.Lists.{due}
 use Rattle.rows.specs.Rows.{Entered, tile-in}
 use Rattle.rows.proofs.Theory.Entered.{entered-most, entered-none, entered-then}
-use Rattle.rows.proofs.Theory.TileRows.{fitting-most, room-kept, no-tile, one-tile-more, wrote}
+use Rattle.rows.proofs.Theory.TileRows.{room-kept, no-tile, one-tile-more, wrote}
 use Rattle.rows.proofs.tiles.write_tiles.Statement.{statement}
 use Rattle.rows.proofs.tiles.write_tiles.Tie as tie
 
@@ -37,7 +37,7 @@ add-count c =
     let l = c .before .before .before .before .before .before in
     let p = start l .pre .0 in
     let i = l .loop .inv .1 in
-    omega (arith, fitting-most p, p .many, i .long, entered-most i, entered-most (c .before .before .write-tile .ensures))
+    omega (arith, p .few, p .many, i .long, entered-most i, entered-most (c .before .before .write-tile .ensures))
 
 add-i : tie.Need-add-i Inv-loop μ-loop
 add-i c = let o = c .before .before .before .before .before in omega (arith, o .loop-test .taken, start (o .before) .good)

@@ -10,11 +10,13 @@ returns c =
     let runs = c .before in
     let ground = runs .before in
     let ticks = ground .before in
-    let height = ticks .before in
+    let storeys = ticks .before in
+    let height = storeys .before in
     λ i. record {
       width = height .before .two-at .ensures .0 i;
       height = height .two-at2 .ensures .0 i;
-      ticks = ticks .two-at3 .ensures .0 i;
+      storeys = storeys .two-at3 .ensures .0 i;
+      ticks = ticks .two-at4 .ensures .0 i;
       ground = ground .four-at .ensures i;
       runs = runs .four-at2 .ensures i;
       starts = c .four-at3 .ensures i;
@@ -25,4 +27,4 @@ head-of-spec =
     tie.close
     (tie.spec
     (λ c κs. search needs) (λ c κs. search needs) (λ c κs. search needs) (λ c κs. search needs) (λ c κs. search needs)
-    (λ c κs. search needs) returns)
+    (λ c κs. search needs) (λ c κs. search needs) returns)

@@ -14,14 +14,23 @@ returns c =
     let runs = starts .before .before .before .before in
     let ground = runs .before .before .before .before in
     let ticks = ground .before .before .before .before in
-    let height = ticks .before .before .before .before in
+    let storeys = ticks .before .before .before .before in
+    let height = storeys .before .before .before .before in
     let width = height .before .before .before .before in
     starts .put-four3 .ensures
-    ∙ rw (runs .put-four2 .ensures, ground .put-four .ensures, ticks .put-two3 .ensures, height .put-two2 .ensures, width .put-two .ensures) (simp append-assoc)
+    ∙ rw (
+      runs .put-four2 .ensures,
+      ground .put-four .ensures,
+      ticks .put-two4 .ensures,
+      storeys .put-two3 .ensures,
+      height .put-two2 .ensures,
+      width .put-two .ensures,
+    )
+    (simp append-assoc)
 
 pub put-head-spec : {M : Type 1} → statement M
 put-head-spec =
     tie.close
     (tie.spec
     (λ c κs. search needs) (λ c κs. search needs) (λ c κs. search needs) (λ c κs. search needs) (λ c κs. search needs)
-    (λ c κs. search needs) (λ c. search needs) returns)
+    (λ c κs. search needs) (λ c κs. search needs) (λ c. search needs) returns)

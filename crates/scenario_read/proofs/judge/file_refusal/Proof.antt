@@ -27,7 +27,7 @@ returns-2 c =
     let e = r .runs-refusal .ensures in
     next _ _ _ (fronted (r .before .before)) (first _ _ _ e (λ q. c .if2 .taken (ap (λ u. u .number) e ∙ q)))
 
--- none of 5, 21, 6
+-- none of 5, 21, 23, 6
 laid : (c : tie.Else2) → runs-refusal (c .before .before .before .before .before .before .before .before .args .file .now) .number ≡ 0
 laid c = ap (λ u. u .number) (sym (c .before .before .runs-refusal .ensures)) ∙ c .if2 .left
 

@@ -13,7 +13,7 @@ use Rattle.scenario.specs.Bytes.{records}
 use Rattle.scenario.specs.File.{start-size, file-size, start-in, head-in, runs-in, starts-in, held}
 use Rattle.scenario.specs.Inner.Walk.{wall-among}
 use Rattle.scenario.proofs.Causes.{headed, laid}
-use Rattle.scenario.proofs.Reading.{file-long, cells-read, runs-read, starts-read}
+use Rattle.scenario.proofs.Reading.{file-long, sides-read, cells-read, runs-read, starts-read}
 use Rattle.scenario_read.proofs.StartWalk.{walls-found}
 use Rattle.scenario_read.proofs.judge.starts_refusal.Statement.{statement}
 use Rattle.scenario_read.proofs.judge.starts_refusal.Tie as tie
@@ -30,6 +30,9 @@ room c = omega (arith, long (c .before .before .before), c .before .starts-base 
 all : (c : tie.After-wide) → let f = c .before .before .before .args .file .now in
     records start-size start-in (c .wide .result) (drop (c .before .starts-base .result) f) ≡ starts-in f
 all c = starts-read _ _ (c .before .before .before .pre .2) _ _ (c .wide .ensures) (c .before .starts-base .ensures)
+
+board-size-requires : tie.Need-board-size-requires
+board-size-requires c κs = let s = c .before .before .before in sides-read _ _ (s .pre .2) (headed _ (s .pre .0))
 
 judge-unwalled-requires : tie.Need-judge-unwalled-requires
 judge-unwalled-requires c κs = room (c .before)
@@ -85,5 +88,5 @@ pub starts-refusal-spec : {M : Type 1} → statement M
 starts-refusal-spec =
     tie.close
     (tie.spec
-    (λ c κs. tt) (λ c κs. tt) (λ c κs. tt) judge-unwalled-requires (λ c κs. tt) returns (λ c κs. tt) starts-on-wall-requires (λ c κs. tt) returns-2
+    (λ c κs. tt) (λ c κs. tt) board-size-requires judge-unwalled-requires (λ c κs. tt) returns (λ c κs. tt) starts-on-wall-requires (λ c κs. tt) returns-2
     (λ c κs. tt) returns-3)

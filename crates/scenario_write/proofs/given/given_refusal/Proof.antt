@@ -1,16 +1,15 @@
 -- `scenario_write::given::given_refusal` meets its contract.
-use mathlib.Core.Path.{_≡_, sym, ap, ap₂, _∙_}
+use mathlib.Core.Path.{_≡_, sym, ap, _∙_}
 use mathlib.Core.Bool.{true, _&&_}
 use Prim.Native.Nat.{_*_, _≤_}
-use native.Mathlib.Omega.{arith}
-use native.Mathlib.Nat.{mul-le-mul}
 use lib.Dec.{eqb}
 use lib.ListN.{length}
 use borrow.Author.Tests.{eq-eqb, ne-eqb}
 use Rattle.eikonal.specs.Board.{size}
 use Rattle.eikonal.specs.Refusals.{sides-good}
 use Rattle.eikonal.specs.Inner.Flaws.{flawless, with-pair, with-pairs}
-use Rattle.eikonal.proofs.Pairs.{with-first, pairs-refuse}
+use Rattle.eikonal.proofs.Good.{sides-within}
+use Rattle.eikonal.proofs.Pairs.{with-first, flaws-refuse}
 use Rattle.scenario.specs.File.{ticks-good}
 use Rattle.scenario.specs.Calls.{given-refusal}
 use Rattle.scenario.proofs.Causes.{holds, fails}
@@ -41,49 +40,50 @@ returns-3 c xs =
     let a = t .before .before .before .before .before .args in
     c .cause3 .ensures ∙ rw (timed t .0, timed t .1, ne-eqb (a .cells) (a .begins) (c .before .if3 .taken))
 
-mul-if4 : tie.Need-mul-if4
-mul-if4 c =
-    let w : c .before .wide .result ≤ 4294967295 = omega (arith, c .before .wide .ensures) in
-    let h : c .wide2 .result ≤ 4294967295 = omega (arith, c .wide2 .ensures) in
-    record { fits = omega (arith, mul-le-mul w h) }
+within : (c : tie.Else2) → let a = c .before .before .before .before .before .args in (a .width ≤ 256) × (a .height ≤ 256)
+within c = let s = sides-within _ _ (timed c .0) in (s .1, s .3)
 
--- the product is the number of cells
-product : (c : tie.After-wide2) → let a = c .before .before .before .before .before .before .before .before .args in
-    c .before .wide .result * c .wide2 .result ≡ a .width * a .height
-product c = ap₂ _*_ (c .before .wide .ensures) (c .wide2 .ensures)
+house-size-requires : tie.Need-house-size-requires
+house-size-requires c κs = within (c .before)
 
 returns-4 : tie.Need-returns-4
 unfolding given-refusal size
 returns-4 c xs =
-    let w = c .before .before in
-    let p = w .before .before in
+    let n = c .before .before in
+    let p = n .before in
     let t = p .before in
     let a = t .before .before .before .before .before .args in
-    let wrong = ne-eqb (length (a .slow .now)) (a .width * a .height) (λ e. c .before .if4 .taken (e ∙ sym (product w))) in
+    let wrong = ne-eqb (length (a .slow .now)) (a .width * a .height * a .storeys) (λ e. c .before .if4 .taken (e ∙ sym (n .house-size .ensures))) in
     c .cause4 .ensures ∙ rw (timed t .0, timed t .1, eq-eqb (a .cells) (a .begins) (p .if3 .left), wrong)
 
-even : (c : tie.Else4) → let a = c .before .before .before .before .before .before .before .before .before .args in
-    eqb (a .cells) (a .begins) && eqb (length (a .slow .now)) (a .width * a .height) ≡ true
+even : (c : tie.Else4) → let a = c .before .before .before .before .before .before .before .before .args in
+    eqb (a .cells) (a .begins) && eqb (length (a .slow .now)) (a .width * a .height * a .storeys) ≡ true
 even c =
-    let p = c .before .before .before in
+    let p = c .before .before in
     let a = p .before .before .before .before .before .before .args in
-    rw (eq-eqb (a .cells) (a .begins) (p .if3 .left), eq-eqb (length (a .slow .now)) (a .width * a .height) (c .if4 .left ∙ product (c .before)))
+    rw (
+      eq-eqb (a .cells) (a .begins) (p .if3 .left),
+      eq-eqb (length (a .slow .now)) (a .width * a .height * a .storeys) (c .if4 .left ∙ c .before .house-size .ensures),
+    )
 
--- 5 and 21, by what the ground's slowness and the board's leave
+flaws-refusal-requires : tie.Need-flaws-refusal-requires
+flaws-refusal-requires c κs = within (c .before .before .before .before .before .before)
+
+-- 5, 21 and 23, by what the ground's slowness and the board's leave
 returns-5 : tie.Need-returns-5
 unfolding given-refusal size
 returns-5 c xs =
     let p = c .before .before in
     let e = p .before .before in
-    let t = e .before .before .before .before in
+    let t = e .before .before .before in
     let a = t .before .before .before .before .before .args in
     let ground : p .with-pair .result ≡ with-pair (a .ground) flawless = p .with-pair .ensures ∙ ap (with-pair _) (p .before .flawless .ensures) in
     let flaws = c .before .with-pairs .ensures ∙ ap (with-pairs (a .slow .now)) ground ∙ with-first (a .ground) (a .slow .now) in
-    c .pairs-refusal .ensures ∙ pairs-refuse _ _ flaws ∙ rw (timed t .0, timed t .1, even e)
+    c .flaws-refusal .ensures ∙ flaws-refuse _ _ _ _ _ flaws ∙ rw (timed t .0, timed t .1, even e)
 
 pub given-refusal-spec : {M : Type 1} → statement M
 given-refusal-spec =
     tie.close
     (tie.spec
-    (λ c κs. tt) (λ c κs. tt) returns (λ c κs. tt) (λ c κs. tt) returns-2 (λ c κs. tt) returns-3 (λ c κs. tt) (λ c κs. tt) mul-if4
-    (λ c κs. tt) returns-4 (λ c κs. tt) (λ c κs. tt) (λ c κs. tt) (λ c κs. tt) returns-5)
+    (λ c κs. tt) (λ c κs. tt) returns (λ c κs. tt) (λ c κs. tt) returns-2 (λ c κs. tt) returns-3 house-size-requires (λ c κs. tt) returns-4
+    (λ c κs. tt) (λ c κs. tt) (λ c κs. tt) flaws-refusal-requires returns-5)

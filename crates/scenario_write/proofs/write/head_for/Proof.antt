@@ -6,8 +6,8 @@ use Rattle.scenario.proofs.GoodRuns.{runs-of-count}
 use Rattle.scenario_write.proofs.write.head_for.Statement.{statement}
 use Rattle.scenario_write.proofs.write.head_for.Tie as tie
 
-cast-t8 : tie.Need-cast-t8
-cast-t8 c =
+cast-t9 : tie.Need-cast-t9
+cast-t9 c =
     let s = c .before .before in
     omega (arith, c .count-runs .ensures, runs-of-count (s .args .ground) (s .args .slow .now), s .pre .0)
 
@@ -18,6 +18,7 @@ returns c =
     λ i. record {
       width = a .width;
       height = a .height;
+      storeys = a .storeys;
       ticks = a .ticks;
       ground = a .ground;
       runs = c .count-runs .ensures i;
@@ -25,4 +26,4 @@ returns c =
     }
 
 pub head-for-spec : {M : Type 1} → statement M
-head-for-spec = tie.close (tie.spec (λ c κs. tt) cast-t8 (λ c. search needs) returns)
+head-for-spec = tie.close (tie.spec (λ c κs. tt) cast-t9 (λ c. search needs) returns)

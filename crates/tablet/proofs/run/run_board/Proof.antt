@@ -81,7 +81,7 @@ slice-aggregate-tile-run-2 c = sym (c .before .before .before .work-entries .ens
 -- the rising order is good
 ordered : (c : tie.After-rise) → let t = c .before .before in let n = t .before .tiles-along .result * t .tiles-along2 .result in
     let a = t .before .before .before .before .before .before .before .args in
-    order-good (by-lists (a .width) (a .height) (a .slow .now) (a .cells .now) (a .begins .now) .board) (a .across) (a .down)
+    order-good (by-lists (a .width) (a .height) (a .storeys) (a .slow .now) (a .cells .now) (a .begins .now) .board) (a .across) (a .down)
     (take n (c .rise .last .0 ++ drop n (t .before .before .entries .result))) ≡ true
 unfolding tile-count by-lists
 ordered c =
@@ -97,7 +97,7 @@ returns c =
     let r = w .before .before in
     let s = r .before .before .before .before .before .before .before .before .before in
     let a = s .args in
-    let p = by-lists (a .width) (a .height) (a .slow .now) (a .cells .now) (a .begins .now) in
+    let p = by-lists (a .width) (a .height) (a .storeys) (a .slow .now) (a .cells .now) (a .begins .now) in
     let e = n .tile-run .ensures in (
       run-rounds p _ _ _ (s .pre .0) (s .pre .1 .0) (s .pre .1 .1) (ordered r) (w .work-entries .ensures) _ _ _ _ e (omega arith),
       run-times p _ _ _ (s .pre .0) (s .pre .1 .0) (s .pre .1 .1) (ordered r) (w .work-entries .ensures) _ _ _ _ e (omega arith),

@@ -97,13 +97,14 @@ all c =
 whole : (c : tie.After-read-starts) → let e = c .before .before .before in let w = e .before .before .before in
     let x = w .before .head-of .result in let a = w .before .before .before .before .before .args in let q = w .wide .result in
     let cells = take q (c .read-starts .last .1 .1 .0 ++ drop q (e .before .entries .result)) in
-    by-lists (x .width) (x .height) (a .slow .now) cells (take q (c .read-starts .last .1 .1 .1 .0 ++ drop q (e .entries2 .result))) ≡ held-lists (a .file .now)
+    let begins = take q (c .read-starts .last .1 .1 .1 .0 ++ drop q (e .entries2 .result)) in
+    by-lists (x .width) (x .height) (x .storeys) (a .slow .now) cells begins ≡ held-lists (a .file .now)
 whole c =
     let r = c .read-starts .ensures in
     let e = c .before .before .before in
     let h = e .before .before .before .before in
     let x = h .head-of .ensures in
-    lists-are _ _ _ _ _ _ (ap (λ u. u .width) x) (ap (λ u. u .height) x) (h .before .before .before .before .pre .0 .1)
+    lists-are _ _ _ _ _ _ _ (ap (λ u. u .width) x) (ap (λ u. u .height) x) (ap (λ u. u .storeys) x) (h .before .before .before .before .pre .0 .1)
     (cells-back c .same ∙ r .0 ∙ ap cells-of (all e)) (begins-back c .same ∙ r .1 ∙ ap begins-of (all e))
 
 run-board-requires : tie.Need-run-board-requires
@@ -115,9 +116,10 @@ run-board-requires c κs =
     let x = h .head-of .ensures in
     let s = few p in
     let wide = ap (λ u. u .width) x in
-    let high = ap (λ u. u .height) x in (
+    let high = ap (λ u. u .height) x in
+    let size = ap (λ u. u .width * u .height * u .storeys) x in (
       ap (λ u. handed-refusal u .number) (whole r) ∙ lists-taken _ (s .taken),
-      ((omega (arith, wide, s .wide), omega (arith, high, s .high), p .pre .0 .2 ∙ sym (ap₂ _*_ wide high)), p .pre .1),
+      ((omega (arith, wide, s .wide), omega (arith, high, s .high), omega (arith, size, s .few), p .pre .0 .2 ∙ sym size), p .pre .1),
     )
 
 returns : tie.Need-returns

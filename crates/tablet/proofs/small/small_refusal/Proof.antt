@@ -36,14 +36,14 @@ unfolding small-refusal
 returns-3 c =
     let s = c .before .before in
     let h = s .before in
-    c .cause .ensures ∙ rw (later (h .before), ← h .head-of .ensures, fails (s .sides-small .ensures) (c .before .if3 .taken)) refl
+    c .cause .ensures ∙ rw (later (h .before), ← h .head-of .ensures, fails (s .board-small .ensures) (c .before .if3 .taken)) refl
 
 returns-4 : tie.Need-returns-4
 unfolding small-refusal
 returns-4 c =
     let h = c .before .before in
     let k = h .before .before .before .before .before .file-refusal in
-    k .ensures ∙ rw (later (h .before), ← h .head-of .ensures, holds (c .before .sides-small .ensures) (c .if3 .left)) refl
+    k .ensures ∙ rw (later (h .before), ← h .head-of .ensures, holds (c .before .board-small .ensures) (c .if3 .left)) refl
 
 pub small-refusal-spec : {M : Type 1} → statement M
 small-refusal-spec = tie.close (tie.spec (λ c κs. tt) returns returns-2 head-of-requires (λ c κs. tt) (λ c κs. tt) returns-3 returns-4)

@@ -1,4 +1,4 @@
--- `front::spread::tell` meets its contract.
+-- `front::spread::tell_storey` meets its contract.
 use mathlib.Core.Path.{_≡_, sym, _∙_}
 use mathlib.Core.Logic.{_≢_}
 use Prim.Native.Nat.{ℕ, _+_, _≤_, _<_}
@@ -9,6 +9,7 @@ use Rattle.front.specs.Board.{at}
 use Rattle.front.specs.State.{Held}
 use Rattle.front.proofs.Theory.Reading.{
   cells-most,
+  lines-most,
   width-high,
   column,
   line,
@@ -24,10 +25,10 @@ use Rattle.front.proofs.Theory.Reading.{
   below-site,
 }
 use Rattle.front.proofs.Theory.Telling.{touched-held, told-long}
-use Rattle.front.proofs.Theory.Relaxing.{near-told}
+use Rattle.front.proofs.Theory.Relaxing.{storey-told}
 use borrow.Author.Needs.{needs}
-use Rattle.front.proofs.spread.tell.Statement.{statement}
-use Rattle.front.proofs.spread.tell.Tie as tie
+use Rattle.front.proofs.spread.tell_storey.Statement.{statement}
+use Rattle.front.proofs.spread.tell_storey.Tie as tie
 
 -- the places before the touches, and the function's entry from the first
 abbrev start : tie.After-back2 → tie.Start
@@ -42,14 +43,14 @@ three c = c .before .before .before .before .before .before .before
 abbrev four : tie.After-tell-across-arg7 → tie.After-back4
 four c = c .before .before .before .before .before
 
-small : (p : tie.Start) → (p .args .c < 65536) × (p .args .w ≤ 256) × (p .args .row < 256) × (p .args .col < 256)
+small : (p : tie.Start) → (p .args .c < 65536) × (p .args .w ≤ 256) × (p .args .row < 2048) × (p .args .col < 256)
 small p =
     let g = p .pre .0 in
     let me = p .pre .1 in
     let si = p .pre .3 in (
       omega (arith, cells-most g, me .cells, si .on),
       width-high g me,
-      omega (arith, line g me si, g .good .high-high),
+      omega (arith, line g me si, lines-most g),
       omega (arith, column g me si, g .good .wide-high),
     )
 
@@ -145,7 +146,7 @@ returns c =
     let u = four d in
     let l = two (three u) in
     let p = start l in
-    near-told (p .pre .0) (p .pre .1) (p .pre .3) _ _ (left l) (above u)
+    storey-told (p .pre .0) (p .pre .1) (p .pre .3) _ _ (left l) (above u)
     (three u .before .before .before .tell-across .ensures)
     (u .before .before .before .before .before .tell-across2 .ensures)
     (d .before .before .before .tell-across3 .ensures)
@@ -154,8 +155,8 @@ returns c =
 same-length : tie.Need-same-length
 same-length c = told-long (returns c)
 
-pub tell-spec : {M : Type 1} → statement M
-tell-spec =
+pub tell-storey-spec : {M : Type 1} → statement M
+tell-storey-spec =
     tie.close
     (tie.spec
     (λ c κs. search needs) (λ c κs. search needs) element-copy-out-tell-across tell-across-requires
