@@ -91,7 +91,7 @@ fn order_is_good(order: &[u32], tiles: u32) -> bool {
 }
 
 /// As many rounds of as many cells are worked out one by one.
-pub const MOST_WORKED: u64 = 5_000_000;
+pub const MOST_WORKED: u64 = 20_000_000;
 
 /// The number of rounds of a run. Every round is worked out where that is not too much; the count by
 /// leaps must then be the same. Either way the run must end at the times of the march.

@@ -118,7 +118,7 @@ fn marched(board: &Board) -> Vec<u32> {
 #[test]
 fn a_transposed_board_has_the_transposed_times_only_if_g_and_h_change_places_too() {
     let mut told_apart = 0;
-    for seed in 95_000_000..95_003_000 {
+    for seed in 95_000_000..95_006_000 {
         let mut r = Random::new(seed);
         let board = generate::board(&mut r, 12);
         let times = marched(&board);
@@ -126,7 +126,7 @@ fn a_transposed_board_has_the_transposed_times_only_if_g_and_h_change_places_too
         assert_eq!(marched(&TRANSPOSED.of(&board, true)), want, "seed {}: {:?}", seed, board);
         told_apart += u32::from(marched(&TRANSPOSED.of(&board, false)) != want);
     }
-    assert!(told_apart > 350, "{} boards tell g and h apart", told_apart);
+    assert!(told_apart > 700, "{} boards tell g and h apart", told_apart);
     let ploughed = three_by_three_ploughed();
     assert_eq!(marched(&TRANSPOSED.of(&ploughed, true)), [0, 20, 40, 10, 26, 45, 20, 34, 51]);
     assert_eq!(marched(&TRANSPOSED.of(&ploughed, false)), PLOUGHED);

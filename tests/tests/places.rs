@@ -127,7 +127,7 @@ fn at_fault(board: &Board) -> usize {
 fn seeded_lists_with_several_faults_are_judged_as_the_second_solver_judges_them() {
     let [mut on_flat_boards, mut in_houses] = [(); 2].map(|()| Tally::default());
     let (mut past_a_fall, mut of_its_kind, mut several, mut past_a_part) = (0, 0, 0, 0);
-    for seed in 90_000_000..90_060_000 {
+    for seed in 90_000_000..90_130_000 {
         let mut r = Random::new(seed);
         let mut board = crowded(&mut r);
         let is_off = r.once_in(2);
@@ -146,7 +146,7 @@ fn seeded_lists_with_several_faults_are_judged_as_the_second_solver_judges_them(
         let before = &board.cells[..cause.place];
         past_a_fall += u32::from(cause.number == 7 && before.windows(2).any(|pair| pair[1] <= pair[0]));
     }
-    [on_flat_boards, in_houses].iter().for_each(|tally| tally.assert_each(&[7, 18, 8, 9], 300));
+    [on_flat_boards, in_houses].iter().for_each(|tally| tally.assert_each(&[7, 18, 8, 9], 1_000));
     assert!(past_a_fall > 1_000 && of_its_kind > 3_000, "{} past a fall, {} of several", past_a_fall, of_its_kind);
     assert!(several > 20_000 && past_a_part > 400, "{} with several faults, {} past a part", several, past_a_part);
 }

@@ -1,6 +1,6 @@
 -- A board that is not refused is a lattice: its axes are the columns, the rows and the storeys, and its rule is the local rule.
 use mathlib.Core.Path.{_≡_, sym, ap, _∙_}
-use Prim.Native.Nat.{ℕ, suc, _+_, _*_, _≤_, _<_, min, max}
+use Prim.Native.Nat.{ℕ, suc, _*_, _≤_, _<_, min, max}
 use native.Mathlib.Omega.{arith}
 use native.Mathlib.Nat.{mul-le-mul}
 use Rattle.eikonal.specs.Axes.{Spans, none, also, Weights, Lattice, given-on, met-on, sights}

@@ -306,5 +306,9 @@ pub fn local_rule(
     if g != h {
         return super::counted(of_unequal(NEVER, g, h, across, down));
     }
-    super::counted(of_three(NEVER, g, across, down, axis(over, under)))
+    let storey = axis(over, under);
+    if storey == NEVER {
+        return super::counted(of_equal(NEVER, g, across, down));
+    }
+    super::counted(of_three(NEVER, g, across, down, storey))
 }

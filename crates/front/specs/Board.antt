@@ -1,5 +1,6 @@
 -- A board as internal functions are lent it, and what its cells see. Only internal contracts cite these: they are definitions.
 use mathlib.Core.Path.{_≡_}
+use mathlib.Core.Bool.{Bool, true}
 use mathlib.Core.List.{List, []}
 use mathlib.Core.Logic.{_≢_}
 use Prim.Native.Nat.{ℕ, _+_, _*_, _-_, _≤_, _<_, min}
@@ -73,6 +74,14 @@ pub record Site (n w c row col : ℕ) : Type 0 where
   pub on : c < n
   pub cell : c ≡ row * w + col
   pub column : col < w
+
+-- from there a step along an axis, which is so many cells, so many rows and columns; a cell is before it, or behind it, only where it stays on the board
+pub record Step (n w c row col step down right : ℕ) (before behind : Bool) : Type 0 where
+  pub site : Site n w c row col
+  pub span : step ≡ down * w + right
+  pub short : step ≤ 65536
+  pub back : before ≡ true → (down ≤ row) × (right ≤ col)
+  pub on : behind ≡ true → (c + step < n) × (col + right < w)
 
 -- a neighbour across a seam that is not the edge is on the board
 pub record Sees (n : ℕ) (slow stored work : List ℕ) (c less more seam : ℕ) : Type 0 where

@@ -1,6 +1,6 @@
 -- Seams: what lies between two neighbouring columns, or two neighbouring rows. Only internal contracts cite these: they are definitions.
-use mathlib.Core.Bool.{cond}
-use mathlib.Core.List.{List, [], _∷_, _++_}
+use mathlib.Core.Bool.{Bool, cond}
+use mathlib.Core.List.{List, [], _∷_}
 use Prim.Native.Nat.{ℕ, suc, _+_, _-_, _%_, min}
 use lib.Dec.{eqb, ltb}
 use lib.ListN.{getD}
@@ -35,9 +35,9 @@ mark-over n a c = cond (ltb (c + a) n) inside edge
 unfoldable pub across : (seam own ghost : ℕ) → ℕ
 across s f g = cond (eqb s edge) never (cond (eqb s inside) f g)
 
--- who hears of a cell across a seam: the neighbour if the seam is of the given kind, else N, which is no cell
-unfoldable pub hearer : (n kind seam e : ℕ) → ℕ
-hearer n k s e = cond (eqb s k) e n
+-- who hears of a cell: e if it is there, else N, which is no cell
+unfoldable pub hearer : (n : ℕ) → (there : Bool) → (e : ℕ) → ℕ
+hearer n b e = cond b e n
 
 -- AN AXIS CUT INTO TILES: a tile takes `side` of its places
 pub record Cut : Type 0 where
@@ -47,15 +47,12 @@ pub record Cut : Type 0 where
 abbrev pub cut : Axis → (side : ℕ) → Cut
 cut a s = record { axis = a; side = s }
 
--- columns and rows; storeys, all of which a tile takes
-abbrev pub storey-cuts : Board → (tw th : ℕ) → List Cut
-storey-cuts b tw th = cut (column-axis b) tw ∷ cut (row-axis b) th ∷ []
-
-abbrev pub stack-cuts : Board → List Cut
-stack-cuts b = cut (storey-axis b) (b .storeys) ∷ []
+-- a tile takes all storeys
+abbrev pub stack-cut : Board → Cut
+stack-cut b = cut (storey-axis b) (b .storeys)
 
 abbrev pub cuts : Board → (tw th : ℕ) → List Cut
-cuts b tw th = storey-cuts b tw th ++ stack-cuts b
+cuts b tw th = cut (column-axis b) tw ∷ cut (row-axis b) th ∷ stack-cut b ∷ []
 
 -- the seams before and behind a cell
 abbrev pub seam-back : Cut → (c : ℕ) → ℕ
@@ -67,7 +64,7 @@ seam-on x c = seam (x .axis .count) (x .side) (suc (place (x .axis) c))
 -- a cell's neighbours across seams of the given kind, axis by axis
 abbrev pub near-on : List Cut → (n kind c : ℕ) → List ℕ
 near-on [] n k c = []
-near-on (x ∷ xs) n k c = hearer n k (seam-back x c) (c - x .axis .unit) ∷ hearer n k (seam-on x c) (c + x .axis .unit) ∷ near-on xs n k c
+near-on (x ∷ xs) n k c = hearer n (eqb (seam-back x c) k) (c - x .axis .unit) ∷ hearer n (eqb (seam-on x c) k) (c + x .axis .unit) ∷ near-on xs n k c
 
 unfoldable pub near : Board → (tw th kind c : ℕ) → List ℕ
 near b tw th k c = near-on (cuts b tw th) (size b) k c

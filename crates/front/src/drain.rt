@@ -9,6 +9,8 @@ use super::Shape;
 use super::seams::INSIDE;
 use super::seams::is_house;
 use super::spread::row_of;
+use super::spread::tell_along;
+use super::spread::tell_stack;
 use queue::lists::wide;
 
 // How many cells a drain took, and how many are then pending.
@@ -41,7 +43,7 @@ fn take(
     work[at] = c as u32;
     let row = row_of(c, w);
     let col = c - row * w;
-    let pending = super::spread::tell_storey(
+    let across = tell_along(
         slow,
         times,
         work,
@@ -55,11 +57,35 @@ fn take(
         row,
         col,
         t,
-        INSIDE,
+        1,
+        0,
+        1,
+        cols[col] == INSIDE,
+        cols[col + 1] == INSIDE,
+    );
+    let pending = tell_along(
+        slow,
+        times,
+        work,
+        across,
+        cols,
+        rows,
+        shape,
+        n,
+        w,
+        c,
+        row,
+        col,
+        t,
+        w,
+        1,
+        0,
+        rows[row] == INSIDE,
+        rows[row + 1] == INSIDE,
     );
     if is_house(rows) {
         let taken = wide(work[at]);
-        return super::spread::tell_stack(
+        return tell_stack(
             slow,
             times,
             work,

@@ -1,10 +1,12 @@
 // Cells hear of a neighbour's time, and are lowered to what the local rule then gives them. Each function answers how many cells are then pending.
 ghost use mathlib.Core.Path.{_≡_};
-ghost use mathlib.Core.Logic.{_⊎_, _≢_};
-ghost use Prim.Native.Nat.{ℕ, _+_, _/_, _≤_, _<_, min};
+ghost use mathlib.Core.Logic.{_⊎_};
+ghost use mathlib.Core.Bool.{true};
+ghost use mathlib.Core.List.{[], _∷_};
+ghost use Prim.Native.Nat.{ℕ, _+_, _-_, _/_, _≤_, _<_, min};
 ghost use lib.Dec.{eqb};
-ghost use Rattle.front.specs.Seams.{edge, border, inside, least-seam, hearer, near-on, storey-cuts, stack-cuts, near};
-ghost use Rattle.front.specs.Board.{land, rule-at, tentative, at, Ground, Measures, Site};
+ghost use Rattle.front.specs.Seams.{border, inside, least-seam, hearer, near-on, stack-cut, near};
+ghost use Rattle.front.specs.Board.{land, rule-at, tentative, at, Ground, Measures, Site, Step};
 ghost use Rattle.front.specs.State.{Held, Touched, Told};
 use super::Shape;
 use super::seams::BORDER;
@@ -46,7 +48,7 @@ pub fn relax(
     size
 }
 
-// The cell e hears of a cell whose time is t. One that is no later, and a wall, need not be looked at.
+// The cell e, if it is there, hears of a cell whose time is t. One that is no later, and a wall, need not be looked at.
 fn touch(
     slow: &[u32],
     times: &[u32],
@@ -61,10 +63,16 @@ fn touch(
     row: usize,
     col: usize,
     t: u32,
+    there: bool,
 ) -> usize
-    requires { ⌜ Ground shape (now slow) (now times) (now cols) (now rows) × Measures shape n w × Site n w e row col × Held n (at (now work) size) ⌝ }
-    ensures { λ r. ⌜ Touched n (rule-at shape (now (slow .entry)) (now (times .entry))) t e (at (now (work .entry)) size) (at (now (work .exit)) r) ⌝ }
+    requires { ⌜ Ground shape (now slow) (now times) (now cols) (now rows) × Measures shape n w × Held n (at (now work) size)
+        × (there ≡ true → Site n w e row col) ⌝ }
+    ensures { λ r. ⌜ Touched n (rule-at shape (now (slow .entry)) (now (times .entry))) t (hearer n there e) (at (now (work .entry)) size)
+        (at (now (work .exit)) r) ⌝ }
 {
+    if !there {
+        return size;
+    }
     let at = 2 * n + e;
     if work[at] <= t {
         return size;
@@ -88,49 +96,6 @@ fn touch(
     )
 }
 
-// The same if the seam between the two cells is of the given kind. Off the board there is no such cell; the seam there is the edge.
-fn tell_across(
-    slow: &[u32],
-    times: &[u32],
-    work: &mut [u32],
-    size: usize,
-    cols: &[u8; 2051],
-    rows: &[u8; 2051],
-    shape: Shape,
-    n: usize,
-    w: usize,
-    e: usize,
-    row: usize,
-    col: usize,
-    t: u32,
-    mark: u8,
-    kind: u8,
-) -> usize
-    requires { ⌜ Ground shape (now slow) (now times) (now cols) (now rows) × Measures shape n w × Held n (at (now work) size)
-        × (mark ≡ kind → Site n w e row col) ⌝ }
-    ensures { λ r. ⌜ Touched n (rule-at shape (now (slow .entry)) (now (times .entry))) t (hearer n kind mark e)
-        (at (now (work .entry)) size) (at (now (work .exit)) r) ⌝ }
-{
-    if mark == kind {
-        return touch(
-            slow,
-            times,
-            work,
-            size,
-            cols,
-            rows,
-            shape,
-            n,
-            w,
-            e,
-            row,
-            col,
-            t,
-        );
-    }
-    size
-}
-
 // One step back; off the board the difference wraps.
 fn back(x: usize, step: usize) -> usize
     ensures { λ r. ⌜ (step ≤ x → x ≡ r + step) ⌝ }
@@ -146,8 +111,9 @@ pub fn row_of(c: usize, w: usize) -> usize
     ((c as u32) / (w as u32)) as usize
 }
 
-// The neighbours of c on its storey, where it is at a row and a column, hear of it across seams of the given kind.
-pub fn tell_storey(
+// Those a step before and behind c along an axis hear of it, where they are there. The step is so many cells, which are so many rows and columns. This is
+// the greatest text that LLVM still compiles into each of its callers: as a call of its own it makes a march a third longer (docs/DECISIONS.md, Card 12).
+pub fn tell_along(
     slow: &[u32],
     times: &[u32],
     work: &mut [u32],
@@ -161,15 +127,18 @@ pub fn tell_storey(
     row: usize,
     col: usize,
     t: u32,
-    kind: u8,
+    step: usize,
+    down: usize,
+    right: usize,
+    before: bool,
+    behind: bool,
 ) -> usize
     requires { ⌜ Ground shape (now slow) (now times) (now cols) (now rows) × Measures shape n w × Held n (at (now work) size)
-        × Site n w c row col × (kind ≢ edge) ⌝ }
-    ensures { λ r. ⌜ Told n (rule-at shape (now (slow .entry)) (now (times .entry))) t
-        (near-on (storey-cuts (land shape (now (slow .entry))) (shape .across) (shape .down)) n kind c)
+        × Step n w c row col step down right before behind ⌝ }
+    ensures { λ r. ⌜ Told n (rule-at shape (now (slow .entry)) (now (times .entry))) t (hearer n before (c - step) ∷ hearer n behind (c + step) ∷ [])
         (at (now (work .entry)) size) (at (now (work .exit)) r) ⌝ }
 {
-    let left = tell_across(
+    let told = touch(
         slow,
         times,
         work,
@@ -179,67 +148,31 @@ pub fn tell_storey(
         shape,
         n,
         w,
-        back(c, 1),
-        row,
-        back(col, 1),
+        back(c, step),
+        back(row, down),
+        back(col, right),
         t,
-        cols[col],
-        kind,
+        before,
     );
-    let right = tell_across(
+    touch(
         slow,
         times,
         work,
-        left,
+        told,
         cols,
         rows,
         shape,
         n,
         w,
-        c + 1,
-        row,
-        col + 1,
+        c + step,
+        row + down,
+        col + right,
         t,
-        cols[col + 1],
-        kind,
-    );
-    let up = tell_across(
-        slow,
-        times,
-        work,
-        right,
-        cols,
-        rows,
-        shape,
-        n,
-        w,
-        back(c, w),
-        back(row, 1),
-        col,
-        t,
-        rows[row],
-        kind,
-    );
-    tell_across(
-        slow,
-        times,
-        work,
-        up,
-        cols,
-        rows,
-        shape,
-        n,
-        w,
-        c + w,
-        row + 1,
-        col,
-        t,
-        rows[row + 1],
-        kind,
+        behind,
     )
 }
 
-// Those under and over it hear of it: they are of its tile. Its row and column are worked out again, so that nothing is held for houses alone.
+// Those under and over c hear of it: they are of its tile. Its row and column are worked out again, so that nothing is held for houses alone.
 pub fn tell_stack(
     slow: &[u32],
     times: &[u32],
@@ -256,13 +189,13 @@ pub fn tell_stack(
     requires { ⌜ Ground shape (now slow) (now times) (now cols) (now rows) × Measures shape n w × Held n (at (now work) size)
         × (c < n) ⌝ }
     ensures { λ r. ⌜ Told n (rule-at shape (now (slow .entry)) (now (times .entry))) t
-        (near-on (stack-cuts (land shape (now (slow .entry)))) n inside c) (at (now (work .entry)) size) (at (now (work .exit)) r) ⌝ }
+        (near-on (stack-cut (land shape (now (slow .entry))) ∷ []) n inside c) (at (now (work .entry)) size) (at (now (work .exit)) r) ⌝ }
 {
     let row = row_of(c, w);
     let col = c - row * w;
     let h = storey_rows(rows);
     let area = w * h;
-    let under = tell_across(
+    tell_along(
         slow,
         times,
         work,
@@ -272,29 +205,15 @@ pub fn tell_stack(
         shape,
         n,
         w,
-        back(c, area),
-        back(row, h),
+        c,
+        row,
         col,
         t,
-        seam_under(area, c),
-        INSIDE,
-    );
-    tell_across(
-        slow,
-        times,
-        work,
-        under,
-        cols,
-        rows,
-        shape,
-        n,
-        w,
-        c + area,
-        row + h,
-        col,
-        t,
-        seam_over(n, area, c),
-        INSIDE,
+        area,
+        h,
+        0,
+        seam_under(area, c) == INSIDE,
+        seam_over(n, area, c) == INSIDE,
     )
 }
 
@@ -338,7 +257,7 @@ pub fn tell_others(
     if inner(cols, rows, row, col) {
         return size;
     }
-    tell_storey(
+    let across = tell_along(
         slow,
         times,
         work,
@@ -352,6 +271,30 @@ pub fn tell_others(
         row,
         col,
         t,
-        BORDER,
+        1,
+        0,
+        1,
+        cols[col] == BORDER,
+        cols[col + 1] == BORDER,
+    );
+    tell_along(
+        slow,
+        times,
+        work,
+        across,
+        cols,
+        rows,
+        shape,
+        n,
+        w,
+        c,
+        row,
+        col,
+        t,
+        w,
+        1,
+        0,
+        rows[row] == BORDER,
+        rows[row + 1] == BORDER,
     )
 }

@@ -1,6 +1,6 @@
 -- What code reads of a cell's neighbours is what the rule sees of them.
-use mathlib.Core.Path.{_≡_, refl, sym, ap, ap₂, subst, _∙_}
-use mathlib.Core.Bool.{true, false, cond}
+use mathlib.Core.Path.{_≡_, refl, sym, ap, ap₂, _∙_}
+use mathlib.Core.Bool.{Bool, true, false}
 use mathlib.Core.Logic.{_⊎_, inl, inr, _≢_}
 use mathlib.Core.List.{List, [], _∷_}
 use Prim.Native.Nat.{ℕ, zero, suc, _+_, _*_, _-_, _/_, _%_, _≤_, _<_, min}
@@ -23,9 +23,9 @@ use native.Mathlib.Nat.{
   zero-mod,
 }
 use native.Mathlib.Numerals.{add-one}
-use lib.Dec.{ltb}
+use lib.Dec.{eqb, ltb}
 use lib.ListN.{length, getD}
-use borrow.Author.Tests.{eq-eqb, ne-eqb, lt-ltb, le-ltb, ltb-true, ltb-false}
+use borrow.Author.Tests.{eq-eqb, ne-eqb, eqb-true, lt-ltb, le-ltb, ltb-true, ltb-false}
 use Rattle.eikonal.specs.Axes.{place, sight}
 use Rattle.eikonal.specs.Board.{Board, never, largest, size, column-axis, row-axis, storey-axis, slowness, along-row, down-column, time, local-of, arrival}
 use Rattle.eikonal.specs.Tiles.{counts-as}
@@ -35,7 +35,7 @@ use Rattle.eikonal.proofs.Grid.{quotient-low, place-low, unit-most, on-cell}
 use Rattle.eikonal.proofs.Rule.{storeys-span}
 use Rattle.front.specs.Front.{ghosted}
 use Rattle.front.specs.Seams.{Cut, cut, seam, seam-back, seam-on, edge, inside, across, mark-under, mark-over}
-use Rattle.front.specs.Board.{land, rule-at, both-seen, Marked, Ground, Measures, Site, Sees}
+use Rattle.front.specs.Board.{land, rule-at, both-seen, Marked, Ground, Measures, Site, Step, Sees}
 use Rattle.front.specs.declared.Shape.{Shape}
 use Rattle.front.proofs.Theory.Seams.{seam-edge, seam-inside, seam-round, seam-next, Straight, columns-straight, rows-straight, storeys-straight, sees}
 
@@ -116,32 +116,34 @@ module _ {n w c row col : ℕ} (si : Site n w c row col) where
   pub col-is : c % w ≡ col
   col-is = omega (arith, si .cell, div-add-mod' c w, ap (λ (u : ℕ). u * w) row-is)
 
-  pub left-site : {e k : ℕ} → c ≡ e + 1 → col ≡ k + 1 → Site n w e row k
-  left-site p q = record { on = omega (arith, si .on); cell = omega (arith, si .cell); column = omega (arith, si .column) }
+  -- where a storey has h rows, one that has a storey under it is past them
+  pub past-storey : (h : ℕ) → h * w ≤ c → h ≤ row
+  past-storey h l = go (order row h)
+    where
+      go : (row < h) ⊎ (h ≤ row) → h ≤ row
+      go (inl i) = absurd (omega (arith, si .cell, si .column, mul-le-mul-right w i))
+      go (inr i) = i
 
-  pub right-site : c + 1 < n → col + 1 < w → Site n w (c + 1) row (col + 1)
-  right-site l h = record { on = l; cell = omega (arith, si .cell); column = h }
+-- a step before and a step behind
+module _ {n w c row col step down right : ℕ} {before behind : Bool} (st : Step n w c row col step down right before behind) where
+  pub step-low : before ≡ true → step ≤ c
+  step-low b = omega (arith, st .site .cell, st .span, st .back b, mul-le-mul-right w (st .back b .0))
 
-  pub above-site : {e k : ℕ} → c ≡ e + w → row ≡ k + 1 → Site n w e k col
-  above-site p q = record { on = omega (arith, si .on); cell = omega (arith, si .cell, ap (λ (u : ℕ). u * w) q); column = si .column }
+  pub before-site : {e r k : ℕ} → c ≡ e + step → row ≡ r + down → col ≡ k + right → Site n w e r k
+  before-site {e} {r} {k} p q z =
+      let si = st .site in
+      record { on = omega (arith, si .on); cell = omega (arith, si .cell, st .span, ap (λ (u : ℕ). u * w) q); column = omega (arith, si .column) }
 
-  pub below-site : c + w < n → Site n w (c + w) (row + 1) col
-  below-site l = record { on = l; cell = omega (arith, si .cell); column = si .column }
+  pub behind-site : behind ≡ true → Site n w (c + step) (row + down) (col + right)
+  behind-site b = record { on = st .on b .0; cell = omega (arith, st .site .cell, st .span); column = st .on b .1 }
 
-  -- where a storey has h rows, those under and over it
-  module _ (h : ℕ) {area : ℕ} (q : h * w ≡ area) where
-    pub under-row : area ≤ c → h ≤ row
-    under-row l = go (order row h)
-      where
-        go : (row < h) ⊎ (h ≤ row) → h ≤ row
-        go (inl i) = absurd (omega (arith, si .cell, si .column, mul-le-mul-right w i))
-        go (inr i) = i
-
-    pub under-site : {e k : ℕ} → c ≡ e + area → row ≡ k + h → Site n w e k col
-    under-site p r = record { on = omega (arith, si .on); cell = omega (arith, si .cell, ap (λ (u : ℕ). u * w) r); column = si .column }
-
-    pub over-site : c + area < n → Site n w (c + area) (row + h) col
-    over-site l = record { on = l; cell = omega (arith, si .cell); column = si .column }
+  pub step-small : n ≤ 65536 → (c + step ≤ 131072) × (row + down ≤ 131072) × (col + right ≤ 131072)
+  step-small l =
+      let si = st .site in
+      let wide : 1 ≤ w = omega (arith, si .column) in
+      let rows : row ≤ row * w = omega (arith, mul-le-mul-left row wide) in
+      let less : down ≤ down * w = omega (arith, mul-le-mul-left down wide) in
+      (omega (arith, si .on, st .short), omega (arith, si .on, si .cell, st .span, st .short), omega (arith, si .on, si .cell, st .span, st .short))
 
 -- a shape's own numbers are its measures
 pub measured : {s : Shape} → Measures s (s .cells) (s .width)
@@ -330,6 +332,39 @@ module _ {s : Shape} {slow ts cols rows : List ℕ} (gr : Ground s slow ts cols 
             go : (c + area < n) ⊎ (n ≤ c + area) → c + area < n
             go (inl l) = l
             go (inr l) = absurd (q (rw (le-ltb (c + area) n l)))
+
+      -- ---- a step along each axis, where it leads across seams of a kind that is not the edge
+      module _ (k : ℕ) (ne : k ≢ edge) where
+        not-edge : (m : ℕ) → eqb m k ≡ true → m ≢ edge
+        not-edge m b z = ne (sym (eqb-true m k b) ∙ z)
+
+        pub columns-step : Step n w c row col 1 0 1 (eqb (getD cols col 0) k) (eqb (getD cols (col + 1) 0) k)
+        columns-step = record {
+          site = si;
+          span = omega arith;
+          short = omega arith;
+          back = λ b. (omega arith, place-behind (gr .columns) column (not-edge _ b));
+          on = λ b. (right-some (not-edge _ b), omega (arith, me .width, place-ahead (gr .columns) column (not-edge _ b)));
+        }
+
+        pub rows-step : Step n w c row col w 1 0 (eqb (getD rows row 0) k) (eqb (getD rows (row + 1) 0) k)
+        rows-step = record {
+          site = si;
+          span = omega arith;
+          short = omega (arith, width-high);
+          back = λ b. (place-behind (gr .lines) line (not-edge _ b), omega arith);
+          on = λ b. (below-some (not-edge _ b), omega (arith, si .column));
+        }
+
+      pub stack-step : {h area : ℕ} → area ≡ w * h → area ≡ s .width * s .height
+          → Step n w c row col area h 0 (eqb (mark-under area c) inside) (eqb (mark-over n area c) inside)
+      stack-step {h} {area} q storey = record {
+        site = si;
+        span = omega (arith, q, mul-comm w h);
+        short = omega (arith, storey, storey-most, me .cells, cells-most);
+        back = λ b. (past-storey si h (omega (arith, q, mul-comm w h, under-some storey (not-edge inside (λ z. omega arith) _ b))), omega arith);
+        on = λ b. (over-some storey (not-edge inside (λ z. omega arith) _ b), omega (arith, si .column));
+      }
 
       -- ---- what code reads across the seams of an axis is what the rule sees there
       abbrev ghost : (d e : ℕ) → ℕ

@@ -1,16 +1,17 @@
 -- From a store and the queue's call to what a touch leaves of the work list; and a cell's neighbours, who hear in turn.
 use mathlib.Core.Path.{_≡_, refl, sym, ap, subst, _∙_}
 use mathlib.Core.Logic.{_⊎_, inr, ⊎-elim, _≢_}
+use mathlib.Core.Bool.{Bool, true, false}
 use mathlib.Core.List.{List, [], _∷_, _++_}
-use Prim.Native.Nat.{ℕ, suc, _+_, _*_, _-_, _%_, _≤_, _<_}
+use Prim.Native.Nat.{ℕ, _+_, _*_, _-_, _%_, _≤_, _<_}
 use native.Mathlib.Omega.{arith}
 use native.Mathlib.Decide.{ℕ-discrete}
 use native.Mathlib.Nat.{mod-mod, mod-one}
+use lib.Dec.{eqb}
 use lib.ListN.{length, getD, set, length-set}
 use lib.Seq.{getD-set-same, getD-set-other}
 use borrow.Author.Tests.{eq-eqb, ne-eqb}
-use Rattle.eikonal.specs.Axes.{place}
-use Rattle.eikonal.specs.Board.{Board, never, size, column-axis, row-axis, storey-axis, slowness}
+use Rattle.eikonal.specs.Board.{Board, never, size, column-axis, row-axis, slowness}
 use Rattle.eikonal.specs.Tiles.{counts-as}
 use Rattle.queue.specs.Heap as queue
 use Rattle.queue.specs.Heap.{Heap, Put}
@@ -20,8 +21,7 @@ use Rattle.front.specs.Seams.{
   least-seam,
   Cut,
   cut,
-  storey-cuts,
-  stack-cuts,
+  stack-cut,
   cuts,
   seam,
   seam-back,
@@ -35,7 +35,7 @@ use Rattle.front.specs.Seams.{
   hearer,
   near,
 }
-use Rattle.front.specs.Board.{land, rule-at, tentative, Marked, Work, at, keys, Ground, Measures, Site}
+use Rattle.front.specs.Board.{land, rule-at, tentative, Work, at, keys, Ground, Measures, Site}
 use Rattle.front.specs.State.{Held, Touched, stays, drops, Told, all, next}
 use Rattle.front.specs.declared.Shape.{Shape}
 use Rattle.front.proofs.Theory.Sight.{gives-wall}
@@ -94,35 +94,38 @@ stays-wall {s} {slow} {ts} gr {n} {e = e} {v} he w =
     let wall = gives-wall (gr .good) (s .across) (s .down) (λ d e. counts-as (land s slow) ts e) e (tentative (v .list) n) w in
     stays refl (λ l. inr (omega (arith, wall, he .tied .small e l)))
 
+-- ---- who hears, if there is one
+pub hearer-same : (n : ℕ) (there : Bool) {e d : ℕ} → (there ≡ true → e ≡ d) → hearer n there e ≡ hearer n there d
+unfolding hearer
+hearer-same n true h = h refl
+hearer-same n false h = refl
+
+module _ {n : ℕ} {L : ℕ → (ℕ → ℕ) → ℕ} {t : ℕ} (e : ℕ) {v : Work} {there : Bool} where
+  pub touched-nobody : there ≡ false → Touched n L t (hearer n there e) v v
+  unfolding hearer
+  touched-nobody b = stays refl (rw b (λ l. absurd (omega arith)))
+
+  pub touched-there : {u : Work} → there ≡ true → Touched n L t e v u → Touched n L t (hearer n there e) v u
+  unfolding hearer
+  touched-there b h = rw b h
+
 -- ---- neighbours across a seam of a kind
-pub hearer-some : (n k s e : ℕ) → s ≡ k → hearer n k s e ≡ e
+pub hearer-some : (n k s e : ℕ) → s ≡ k → hearer n (eqb s k) e ≡ e
 unfolding hearer
 hearer-some n k s e q = rw (eq-eqb s k q)
 
-pub hearer-none : (n k s e : ℕ) → s ≢ k → hearer n k s e ≡ n
+pub hearer-none : (n k s e : ℕ) → s ≢ k → hearer n (eqb s k) e ≡ n
 unfolding hearer
 hearer-none n k s e q = rw (ne-eqb s k q)
 
-hearer-same : (n k s e d : ℕ) → (s ≡ k → e ≡ d) → hearer n k s e ≡ hearer n k s d
-hearer-same n k s e d h = elim (ℕ-discrete s k) [
-  | yes q ↦ ap (hearer n k s) (h q)
-  | no q ↦ hearer-none n k s e q ∙ sym (hearer-none n k s d q)
-]
+-- those along an axis hear of a cell, by the seams as laid
+pub along-told : (x : Cut) (k c : ℕ) {n t m o step : ℕ} {L : ℕ → (ℕ → ℕ) → ℕ} {v u : Work} → m ≡ seam-back x c → o ≡ seam-on x c → step ≡ x .axis .unit
+    → Told n L t (hearer n (eqb m k) (c - step) ∷ hearer n (eqb o k) (c + step) ∷ []) v u → Told n L t (near-on (x ∷ []) n k c) v u
+along-told x k c mb mo q ts = rw (mb, mo, q) at ts
 
-pub not-across : {n : ℕ} {L : ℕ → (ℕ → ℕ) → ℕ} {t : ℕ} {v : Work} (k s e : ℕ) → s ≢ k → Touched n L t (hearer n k s e) v v
-not-across {n} k s e q = stays refl (λ l. absurd (omega (arith, hearer-none n k s e q)))
-
--- ---- the neighbours on an axis hear of it in turn, the one behind, whose number is d, and the one ahead; and then further ones
-module _ (x : Cut) (xs : List Cut) {n t k c m o : ℕ} {L : ℕ → (ℕ → ℕ) → ℕ} {v0 v1 v2 v3 : Work} (mb : m ≡ seam-back x c) (mo : o ≡ seam-on x c) where
-  told-on : (d : ℕ) → (m ≡ k → c ≡ d + x .axis .unit) → Touched n L t (hearer n k m d) v0 v1
-      → Touched n L t (hearer n k o (c + x .axis .unit)) v1 v2 → Told n L t (near-on xs n k c) v2 v3 → Told n L t (near-on (x ∷ xs) n k c) v0 v3
-  told-on d back p q ts = next _ _ v0 v1 v3 (subst (λ e. Touched n L t e v0 v1) behind p) (next _ _ v1 v2 v3 (subst (λ e. Touched n L t e v1 v2) ahead q) ts)
-    where
-      behind : hearer n k m d ≡ hearer n k (seam-back x c) (c - x .axis .unit)
-      behind = hearer-same n k m d (c - x .axis .unit) (λ z. omega (arith, back z)) ∙ rw mb
-
-      ahead : hearer n k o (c + x .axis .unit) ≡ hearer n k (seam-on x c) (c + x .axis .unit)
-      ahead = rw mo
+-- and where no seam there is of the kind, nobody
+pub quiet : (x : Cut) (k c : ℕ) {n t : ℕ} {L : ℕ → (ℕ → ℕ) → ℕ} (v : Work) → seam-back x c ≢ k → seam-on x c ≢ k → Told n L t (near-on (x ∷ []) n k c) v v
+quiet x k c v p q = next _ _ v v v (touched-nobody _ (ne-eqb _ k p)) (next _ _ v v v (touched-nobody _ (ne-eqb _ k q)) (all v))
 
 -- several, and then others
 pub told-both : {n t : ℕ} {L : ℕ → (ℕ → ℕ) → ℕ} {es fs : List ℕ} {v u w : Work} → Told n L t es v u → Told n L t fs u w → Told n L t (es ++ fs) v w
@@ -140,9 +143,6 @@ module _ {s : Shape} {slow ts cols rows : List ℕ} (gr : Ground s slow ts cols 
   abbrev lines : Cut
   lines = cut (row-axis board) (s .down)
 
-  abbrev stack : Cut
-  stack = cut (storey-axis board) (s .storeys)
-
   -- the seams around the cell, as laid
   left-mark : getD cols col 0 ≡ seam-back columns c
   left-mark = marked-back columns c (gr .columns) (column-at gr me si) (column gr me si)
@@ -156,86 +156,74 @@ module _ {s : Shape} {slow ts cols rows : List ℕ} (gr : Ground s slow ts cols 
   below-mark : getD rows (row + 1) 0 ≡ seam-on lines c
   below-mark = marked-on lines c (gr .lines) (line-at gr me si) (line gr me si)
 
-  -- on its storey
-  pub storey-told : {L : ℕ → (ℕ → ℕ) → ℕ} {t k : ℕ} (l u : ℕ) {v0 v1 v2 v3 v4 : Work} → (getD cols col 0 ≡ k → c ≡ l + 1)
-      → (getD rows row 0 ≡ k → c ≡ u + w)
-      → Touched n L t (hearer n k (getD cols col 0) l) v0 v1
-      → Touched n L t (hearer n k (getD cols (col + 1) 0) (c + 1)) v1 v2
-      → Touched n L t (hearer n k (getD rows row 0) u) v2 v3
-      → Touched n L t (hearer n k (getD rows (row + 1) 0) (c + w)) v3 v4
-      → Told n L t (near-on (storey-cuts board (s .across) (s .down)) n k c) v0 v4
-  storey-told {L} {t} {k} l u {v0} {v3 = v3} {v4} hl hu pl pr pu pd =
-      told-on columns (lines ∷ []) left-mark right-mark l hl pl pr
-      (told-on lines [] above-mark below-mark u (λ z. hu z ∙ ap (λ (k : ℕ). u + k) (me .width)) pu
-      (subst (λ m. Touched n L t (hearer n k (getD rows (row + 1) 0) (c + m)) v3 v4) (me .width) pd) (all v4))
+  -- along each axis
+  module _ {L : ℕ → (ℕ → ℕ) → ℕ} {t : ℕ} (k : ℕ) {v u : Work} where
+    pub columns-told : Told n L t (hearer n (eqb (getD cols col 0) k) (c - 1) ∷ hearer n (eqb (getD cols (col + 1) 0) k) (c + 1) ∷ []) v u
+        → Told n L t (near-on (columns ∷ []) n k c) v u
+    columns-told = along-told columns k c left-mark right-mark refl
 
-  -- under and over it
-  pub stack-told : {L : ℕ → (ℕ → ℕ) → ℕ} {t : ℕ} (u : ℕ) {area : ℕ} {v0 v1 v2 : Work} → area ≡ s .width * s .height
-      → (mark-under area c ≡ inside → c ≡ u + area)
-      → Touched n L t (hearer n inside (mark-under area c) u) v0 v1
-      → Touched n L t (hearer n inside (mark-over n area c) (c + area)) v1 v2
-      → Told n L t (near-on (stack-cuts board) n inside c) v0 v2
-  stack-told {L} {t} u {area} {v0} {v1} {v2} q hu pu po =
-      told-on stack [] (under-mark gr me si q) (over-mark gr me si q) u (λ z. hu z ∙ ap (λ (k : ℕ). u + k) q) pu
-      (subst (λ m. Touched n L t (hearer n inside (mark-over n area c) (c + m)) v1 v2) q po) (all v2)
+    pub rows-told : Told n L t (hearer n (eqb (getD rows row 0) k) (c - w) ∷ hearer n (eqb (getD rows (row + 1) 0) k) (c + w) ∷ []) v u
+        → Told n L t (near-on (lines ∷ []) n k c) v u
+    rows-told = along-told lines k c above-mark below-mark (me .width)
+
+    pub stack-told : {area : ℕ} → area ≡ s .width * s .height
+        → Told n L t (hearer n (eqb (mark-under area c) k) (c - area) ∷ hearer n (eqb (mark-over n area c) k) (c + area) ∷ []) v u
+        → Told n L t (near-on (stack-cut board ∷ []) n k c) v u
+    stack-told q = along-told (stack-cut board) k c (under-mark gr me si q) (over-mark gr me si q) q
 
   -- all of them
-  pub near-told : {L : ℕ → (ℕ → ℕ) → ℕ} {t : ℕ} (k : ℕ) {v u w : Work} → Told n L t (near-on (storey-cuts board (s .across) (s .down)) n k c) v u
-      → Told n L t (near-on (stack-cuts board) n k c) u w → Told n L t (near board (s .across) (s .down) k c) v w
+  pub near-told : {L : ℕ → (ℕ → ℕ) → ℕ} {t : ℕ} (k : ℕ) {v u w z : Work} → Told n L t (near-on (columns ∷ []) n k c) v u
+      → Told n L t (near-on (lines ∷ []) n k c) u w → Told n L t (near-on (stack-cut board ∷ []) n k c) w z
+      → Told n L t (near board (s .across) (s .down) k c) v z
   unfolding near
-  near-told {L} {t} k {v} {w = w} p q =
-      subst (λ m. Told n L t (near-on (cuts board (s .across) (s .down)) m k c) v w) (me .cells ∙ cells-size gr) (told-both p q)
+  near-told {L} {t} k {v} {z = z} p q r =
+      subst (λ m. Told n L t (near-on (cuts board (s .across) (s .down)) m k c) v z) (me .cells ∙ cells-size gr) (told-both p (told-both q r))
 
-  -- where neither seam is of the kind, nobody hears
-  stack-quiet : {L : ℕ → (ℕ → ℕ) → ℕ} {t : ℕ} (k : ℕ) (v : Work) → seam-back stack c ≢ k → seam-on stack c ≢ k
-      → Told n L t (near-on (stack-cuts board) n k c) v v
-  stack-quiet k v p q = told-on stack [] refl refl 0 (λ z. absurd (p z)) (not-across _ _ _ p) (not-across _ _ _ q) (all v)
-
-  -- on a flat board both are the edge
-  pub flat-told : {L : ℕ → (ℕ → ℕ) → ℕ} {t : ℕ} (v : Work) → s .storeys ≡ 1 → Told n L t (near-on (stack-cuts board) n inside c) v v
-  flat-told v e = stack-quiet inside v (λ z. omega (arith, sym z ∙ edges _)) (λ z. omega (arith, sym z ∙ edges _))
+  -- on a flat board nobody is under or over it: both seams are the edge
+  pub flat-told : {L : ℕ → (ℕ → ℕ) → ℕ} {t : ℕ} (v : Work) → s .storeys ≡ 1 → Told n L t (near-on (stack-cut board ∷ []) n inside c) v v
+  flat-told v e = quiet (stack-cut board) inside c v (λ z. omega (arith, sym z ∙ edges _)) (λ z. omega (arith, sym z ∙ edges _))
     where
       edges : (i : ℕ) → seam (s .storeys) (s .storeys) i ≡ edge
       edges i = seam-edge (s .storeys) (s .storeys) i (ap (λ (u : ℕ). i % u) e ∙ mod-one i)
 
-  -- and neither is ever a border
+  -- neither is ever a border
   no-border : (i : ℕ) → seam (s .storeys) (s .storeys) i ≢ border
   no-border i z = elim (ℕ-discrete (i % s .storeys) 0) [
     | yes q ↦ omega (arith, sym (seam-edge (s .storeys) (s .storeys) i q) ∙ z)
     | no q ↦ omega (arith, sym (seam-inside (s .storeys) (s .storeys) i q (λ r. q (sym (mod-mod i (s .storeys)) ∙ r))) ∙ z)
   ]
 
-  pub border-told : {L : ℕ → (ℕ → ℕ) → ℕ} {t : ℕ} (v : Work) → Told n L t (near-on (stack-cuts board) n border c) v v
-  border-told v = stack-quiet border v (no-border _) (no-border _)
+  pub border-told : {L : ℕ → (ℕ → ℕ) → ℕ} {t : ℕ} (v : Work) → Told n L t (near-on (stack-cut board ∷ []) n border c) v v
+  border-told v = quiet (stack-cut board) border c v (no-border _) (no-border _)
 
   -- where all seams of the storey are inside, nobody in another tile is to be told
   module _ (q : least-seam cols rows row col ≡ inside) where
     pub near-none : {L : ℕ → (ℕ → ℕ) → ℕ} {t : ℕ} (v : Work) → Told n L t (near board (s .across) (s .down) border c) v v
     near-none v =
         near-told border
-        (storey-told 0 0 (λ z. absurd (omega arith)) (λ z. absurd (omega arith))
-        (not-across _ _ _ (λ z. omega arith)) (not-across _ _ _ (λ z. omega arith)) (not-across _ _ _ (λ z. omega arith)) (not-across _ _ _ (λ z. omega arith)))
+        (quiet columns border c v (λ z. omega (arith, left-mark)) (λ z. omega (arith, right-mark)))
+        (quiet lines border c v (λ z. omega (arith, above-mark)) (λ z. omega (arith, below-mark)))
         (border-told v)
 
     -- none of them is a cell
     pub near-out : (e : ℕ) → e < size board → Out e (near board (s .across) (s .down) border c)
     unfolding near
     near-out e l = (
-      none _ _ (λ z. omega (arith, left-mark)),
+      none (seam-back columns c) _ (λ z. omega (arith, left-mark)),
       (
-        none _ _ (λ z. omega (arith, right-mark)),
+        none (seam-on columns c) _ (λ z. omega (arith, right-mark)),
         (
-          none _ _ (λ z. omega (arith, above-mark)),
+          none (seam-back lines c) _ (λ z. omega (arith, above-mark)),
           (
-            none _ _ (λ z. omega (arith, below-mark)),
+            none (seam-on lines c) _ (λ z. omega (arith, below-mark)),
             (
-              none _ _ (no-border _),
-              (none _ _ (no-border _), tt),
+              none (seam-back (stack-cut board) c) _ (no-border _),
+              (none (seam-on (stack-cut board) c) _ (no-border _), tt),
             ),
           ),
         ),
       ),
     )
       where
-        none : (mark d : ℕ) → mark ≢ border → e ≢ hearer (size board) border mark d
+        none : (mark d : ℕ) → mark ≢ border → e ≢ hearer (size board) (eqb mark border) d
         none mark d h z = omega (arith, l, z, hearer-none (size board) border mark d h)

@@ -234,13 +234,13 @@ module _ {b : Board} {tw th : ℕ} {x : Cut} (st : Straight b tw th x) (c : ℕ)
 data Unlike (b : Board) (tw th k c d : ℕ) : Type 0 where
   by : {s : ℕ} → Kind b tw th s c d → s ≢ k → Unlike b tw th k c d
 
-hit : (n k s d e : ℕ) → d ≢ hearer n k s e → e ≡ d → s ≢ k
+hit : (n k s d e : ℕ) → d ≢ hearer n (eqb s k) e → e ≡ d → s ≢ k
 unfolding hearer
 hit n k s d e o q z = o (sym q ∙ sym (rw (eq-eqb s k z)))
 
 module _ {b : Board} {tw th : ℕ} (k c d : ℕ) where
-  unlike : {x : Cut} → Straight b tw th x → Next (x .axis) d c ⊎ Next (x .axis) c d → d ≢ hearer (size b) k (seam-back x c) (c - x .axis .unit)
-      → d ≢ hearer (size b) k (seam-on x c) (c + x .axis .unit) → Unlike b tw th k c d
+  unlike : {x : Cut} → Straight b tw th x → Next (x .axis) d c ⊎ Next (x .axis) c d → d ≢ hearer (size b) (eqb (seam-back x c) k) (c - x .axis .unit)
+      → d ≢ hearer (size b) (eqb (seam-on x c) k) (c + x .axis .unit) → Unlike b tw th k c d
   unlike {x} st (inl n) o p =
       let e = next-back (st .spans) n in
       by (subst (λ u. Kind b tw th (seam-back x c) c u) e (back-kind st c (next-first (st .spans) n))) (hit (size b) k _ d _ o e)

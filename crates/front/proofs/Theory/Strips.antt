@@ -6,6 +6,7 @@ use Prim.Native.Nat.{ℕ, suc, _+_, _*_, _/_, _%_, _≤_, _<_, min}
 use native.Mathlib.Omega.{arith}
 use native.Mathlib.Decide.{ℕ-discrete}
 use native.Mathlib.Nat.{mul-le-mul-right, mul-one, div-add-mod', div-one, mod-lt, mod-eq-of-lt, mod-self, mod-one, zero-mod, add-mod-right}
+use lib.Dec.{eqb}
 use borrow.Author.Tests.{eq-eqb, ne-eqb}
 use Rattle.eikonal.specs.Axes.{place}
 use Rattle.eikonal.specs.Board.{never, size, column-axis, row-axis}
@@ -15,7 +16,7 @@ use Rattle.eikonal.specs.Inner.Clip.{clip}
 use Rattle.eikonal.proofs.Levels.{order}
 use Rattle.one_tile.proofs.March.{same-tile}
 use Rattle.front.specs.Front.{Among, among, ghosted, heard, Out, Midway, Upheld}
-use Rattle.front.specs.Seams.{seam, seam-back, seam-on, cut, inside, hearer, near}
+use Rattle.front.specs.Seams.{Cut, cut, stack-cut, seam, seam-back, seam-on, inside, hearer, near}
 use Rattle.front.specs.Board.{land, rule-at, tentative, Work, keys, Ground}
 use Rattle.front.specs.State.{Held, Told, all, Placed, Gathered, Ready, Apart, Ready-among, Drained, Inner, Woken, Parted, Strip, Worked}
 use Rattle.front.specs.declared.Shape.{Shape}
@@ -191,17 +192,26 @@ module _ {s : Shape} {slow ts cols rows : List ℕ} (gr : Ground s slow ts cols 
     inner-back : (n k i : ℕ) → seam n k i ≡ inside → i % n ≢ 0
     inner-back n k i q z = omega (arith, sym q ∙ seam-edge n k i z)
 
+    abbrev columns : Cut
+    columns = cut (column-axis (land s slow)) (s .across)
+
+    abbrev lines : Cut
+    lines = cut (row-axis (land s slow)) (s .down)
+
     pub parted-apart : Apart s slow (from * w) (end * w)
     unfolding place near
     parted-apart c d i l o = (
-      out _ _ (λ q. let p = inner-back w (s .across) _ q in (omega (arith, row, left p), omega arith)),
+      out (seam-back columns c) _ (λ q. let p = inner-back w (s .across) _ q in (omega (arith, row, left p), omega arith)),
       (
-        out _ _ (λ q. let p = inner-back w (s .across) _ q in (omega arith, omega (arith, row, right p, low-end))),
+        out (seam-on columns c) _ (λ q. let p = inner-back w (s .across) _ q in (omega arith, omega (arith, row, right p, low-end))),
         (
-          out _ _ (λ q. (omega (arith, parts, mul-le-mul-right w (above q)), omega arith)),
+          out (seam-back lines c) _ (λ q. (omega (arith, parts, mul-le-mul-right w (above q)), omega arith)),
           (
-            out _ _ (λ q. (omega arith, omega (arith, parts, mod-lt c (gr .good .wide-low), mul-le-mul-right w (below q)))),
-            (out _ _ (λ q. absurd (flat _ q)), (out _ _ (λ q. absurd (flat _ q)), tt)),
+            out (seam-on lines c) _ (λ q. (omega arith, omega (arith, parts, mod-lt c (gr .good .wide-low), mul-le-mul-right w (below q)))),
+            (
+              out (seam-back (stack-cut (land s slow)) c) _ (λ q. absurd (flat _ q)),
+              (out (seam-on (stack-cut (land s slow)) c) _ (λ q. absurd (flat _ q)), tt),
+            ),
           ),
         ),
       ),
@@ -242,19 +252,19 @@ module _ {s : Shape} {slow ts cols rows : List ℕ} (gr : Ground s slow ts cols 
           | no z ↦ omega (arith, mod-lt c (gr .good .wide-low))
         ]
 
-        above : seam-back (cut (row-axis (land s slow)) (s .down)) c ≡ inside → suc from ≤ c / w
+        above : seam-back lines c ≡ inside → suc from ≤ c / w
         above q = elim (ℕ-discrete (c / w) from) [
           | yes z ↦ absurd (pa .before (ap (λ (u : ℕ). seam (s .height) (s .down) u) (sym z ∙ sym line-is) ∙ q))
           | no z ↦ omega (arith, at)
         ]
 
-        below : seam-on (cut (row-axis (land s slow)) (s .down)) c ≡ inside → suc (suc (c / w)) ≤ end
+        below : seam-on lines c ≡ inside → suc (suc (c / w)) ≤ end
         below q = elim (ℕ-discrete (suc (c / w)) end) [
           | yes z ↦ absurd (pa .behind (ap (λ (u : ℕ). seam (s .height) (s .down) u) (sym z ∙ ap suc (sym line-is)) ∙ q))
           | no z ↦ omega (arith, at)
         ]
 
-        out : (mark e : ℕ) → (mark ≡ inside → Among (from * w) (end * w) e) → d ≢ hearer (size (land s slow)) inside mark e
+        out : (mark e : ℕ) → (mark ≡ inside → Among (from * w) (end * w) e) → d ≢ hearer (size (land s slow)) (eqb mark inside) e
         out mark e h z = elim (ℕ-discrete mark inside) [
           | yes q ↦ (let r = h q in let y : d ≡ e = z ∙ hearer-some (size (land s slow)) inside mark e q in o (omega (arith, r), omega (arith, r)))
           | no q ↦ omega (arith, l, z, hearer-none (size (land s slow)) inside mark e q, cells-size gr)

@@ -94,21 +94,36 @@ returns-2 c =
     c .counted .ensures
     ∙ says _ _ _ _ _ _ _ _ _ _ _ _ e (k .before .axis .ensures) (k .axis2 .ensures) (sym (flat _ _ _ _ e (o .before .if2 .taken))) (o .of-unequal .ensures)
 
-of-three-requires : tie.Need-of-three-requires
-of-three-requires c κs = spared _ _ _ _ (unrefused (c .before .before)) .along-most
+-- equal numbers, with no time over or under
+of-equal-requires : tie.Need-of-equal-requires
+of-equal-requires c κs = spared _ _ _ _ (unrefused (c .before .before .before)) .along-most
 
 returns-3 : tie.Need-returns-3
 unfolding Local-says
 returns-3 c =
     let o = c .before in
-    let k = o .before .before .before in
+    let s = o .before .before in
+    let k = s .before .before in
     c .counted2 .ensures
-    ∙ says _ _ _ _ _ _ _ _ _ _ _ _ (unrefused k) (k .before .axis .ensures) (k .axis2 .ensures) (o .before .axis3 .ensures)
-    (alike _ _ _ _ _ _ _ (o .before .before .if2 .left) (o .of-three .ensures))
+    ∙ says _ _ _ _ _ _ _ _ _ _ _ _ (unrefused k) (k .before .axis .ensures) (k .axis2 .ensures) (sym (o .before .if3 .taken) ∙ s .axis3 .ensures)
+    (alike _ _ _ _ _ _ _ (s .before .if2 .left) (o .of-equal .ensures))
+
+of-three-requires : tie.Need-of-three-requires
+of-three-requires c κs = spared _ _ _ _ (unrefused (c .before .before .before)) .along-most
+
+returns-4 : tie.Need-returns-4
+unfolding Local-says
+returns-4 c =
+    let o = c .before in
+    let s = o .before .before in
+    let k = s .before .before in
+    c .counted3 .ensures
+    ∙ says _ _ _ _ _ _ _ _ _ _ _ _ (unrefused k) (k .before .axis .ensures) (k .axis2 .ensures) (s .axis3 .ensures)
+    (alike _ _ _ _ _ _ _ (s .before .if2 .left) (o .of-three .ensures))
 
 pub local-rule-spec : {M : Type 1} → statement M
 local-rule-spec =
     tie.close
     (tie.spec
-    (λ c κs. tt) (λ c κs. tt) returns (λ c κs. tt) (λ c κs. tt) of-unequal-requires (λ c κs. tt) returns-2 (λ c κs. tt) of-three-requires
-    (λ c κs. tt) returns-3)
+    (λ c κs. tt) (λ c κs. tt) returns (λ c κs. tt) (λ c κs. tt) of-unequal-requires (λ c κs. tt) returns-2 (λ c κs. tt) of-equal-requires
+    (λ c κs. tt) returns-3 of-three-requires (λ c κs. tt) returns-4)

@@ -1,5 +1,5 @@
 -- `front::seams::seam_under` meets its contract.
-use Prim.Native.Nat.{_+_, _≤_}
+use Prim.Native.Nat.{_≤_}
 use native.Mathlib.Omega.{arith}
 use borrow.Author.Tests.{lt-ltb, le-ltb}
 use Rattle.front.proofs.seams.seam_under.Statement.{statement}

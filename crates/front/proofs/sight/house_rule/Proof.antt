@@ -1,8 +1,7 @@
 -- `front::sight::house_rule` meets its contract.
-use mathlib.Core.Path.{_≡_, sym, subst, _∙_}
+use mathlib.Core.Path.{_≡_, sym, subst}
 use Prim.Native.Nat.{_*_, _≤_, _<_}
 use native.Mathlib.Omega.{arith}
-use lib.ListN.{getD}
 use Rattle.eikonal.specs.Board.{slowness, along-row, down-column}
 use Rattle.eikonal.proofs.FirstPass.{alike}
 use Rattle.front.proofs.Theory.Reading.{
