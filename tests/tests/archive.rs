@@ -46,3 +46,16 @@ fn constants_and_the_code_of_d_take_little_storage() {
     let bytes: u32 = sizes.sum();
     assert!(bytes <= 2_048, "{} bytes", bytes);
 }
+
+/// Called for every cell that hears, a function costs a march much, and the compiler makes a call of one that grows past
+/// its limit (docs/DECISIONS.md, Card 12): of the front these alone may be calls.
+#[test]
+fn what_a_neighbours_hearing_goes_through_is_compiled_into_its_callers() {
+    let lines = told_by("nm", "--format=posix");
+    let calls: Vec<&str> = lines.lines().filter(|line| line.starts_with("front::")).map(|line| two_words(line)[0]).collect();
+    assert!(calls.contains(&"front::drain::drain"), "{}", lines);
+    for name in calls {
+        let may = ["front::drain::drain", "front::spread::relax", "front::strip::drain_strip"];
+        assert!(may.contains(&name), "{} is a call", name);
+    }
+}

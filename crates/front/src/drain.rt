@@ -1,6 +1,8 @@
 // The narrow band is drained up to a bound: pending cells are taken (accepted), the least first, and their tiles hear of them.
+ghost use mathlib.Core.Path.{_≡_};
 ghost use Prim.Native.Nat.{ℕ, _<_};
 ghost use Rattle.eikonal.specs.Board.{never};
+ghost use Rattle.queue.specs.Heap.{key};
 ghost use Rattle.front.specs.Seams.{inside, near};
 ghost use Rattle.front.specs.Front.{among};
 ghost use Rattle.front.specs.Board.{land, rule-at, at, Ground};
@@ -19,7 +21,7 @@ pub struct Taken {
     pub pending: usize,
 }
 
-// Takes a cell whose key is the least, and notes it as the m-th. Answers how many cells are then pending.
+// Takes a cell whose key, t, is the least, and notes it as the m-th. Answers how many cells are then pending.
 fn take(
     slow: &[u32],
     times: &[u32],
@@ -29,14 +31,15 @@ fn take(
     rows: &[u8; 2051],
     shape: Shape,
     m: usize,
+    t: u32,
 ) -> usize
-    requires { ⌜ Ground shape (now slow) (now times) (now cols) (now rows) × Held (shape .cells) (at (now work) size) × (0 < size) × (m < shape .cells) ⌝ }
+    requires { ⌜ Ground shape (now slow) (now times) (now cols) (now rows) × Held (shape .cells) (at (now work) size) × (0 < size) × (m < shape .cells)
+        × (t ≡ key (now work) 0) ⌝ }
     ensures { λ r. ⌜ Took (shape .cells) m (rule-at shape (now (slow .entry)) (now (times .entry)))
         (near (land shape (now (slow .entry))) (shape .across) (shape .down) inside) (at (now (work .entry)) size) (at (now (work .exit)) r) ⌝ }
 {
     let n = shape.cells;
     let w = shape.width;
-    let t = queue::least_key(work, size, n);
     let c = queue::first(work, size, n);
     let left = queue::remove_first(work, size, n);
     let at = 3 * n + m;
@@ -122,12 +125,15 @@ pub fn drain(
     let n = shape.cells;
     let mut m = 0;
     let mut pending = size;
-    while queue::least_key(work, pending, n) <= bound {
-        pending = take(slow, times, work, pending, cols, rows, shape, m);
+    loop {
+        let t = queue::least_key(work, pending, n);
+        if t > bound {
+            return Taken {
+                cells: m,
+                pending: pending,
+            };
+        }
+        pending = take(slow, times, work, pending, cols, rows, shape, m, t);
         m += 1;
-    }
-    Taken {
-        cells: m,
-        pending: pending,
     }
 }

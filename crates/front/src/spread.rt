@@ -111,8 +111,8 @@ pub fn row_of(c: usize, w: usize) -> usize
     ((c as u32) / (w as u32)) as usize
 }
 
-// Those a step before and behind c along an axis hear of it, where they are there. The step is so many cells, which are so many rows and columns. This is
-// the greatest text that LLVM still compiles into each of its callers: as a call of its own it makes a march a third longer (docs/DECISIONS.md, Card 12).
+// Those a step before and behind c along an axis hear of it, where they are there. A step is so many cells, which are so many rows and columns. LLVM
+// compiles this into each caller, and would not if there were more of it: as calls it costs a corridor's march half as many instructions again.
 pub fn tell_along(
     slow: &[u32],
     times: &[u32],

@@ -15,7 +15,7 @@ use Rattle.front.proofs.drain.take.Statement.{statement}
 use Rattle.front.proofs.drain.take.Tie as tie
 
 abbrev start : tie.After-first → tie.Start
-start c = c .before .before .before .before .before .before .before
+start c = c .before .before .before .before .before
 
 -- from where the cell is removed
 abbrev picked : tie.After-slice-known2 → tie.After-first
@@ -29,11 +29,8 @@ on c =
     (picked c .first .ensures .on, p .pre .3, cells-most (p .pre .0), omega (arith, p .pre .1 .room, c .before .before .remove-first .ensures .long))
 
 -- the least key is that of the cell
-due : (c : tie.After-first) → let a = start c .args in c .before .before .least-key .result ≡ keys (at (a .work .now) (a .size)) (c .first .result)
-due c =
-    let low = c .before .before .least-key .ensures .0 (c .first .result) in
-    let le = c .first .ensures in
-    omega (arith, low, le .pending, le .top, c .before .before .least-key .ensures .1 (omega (arith, low, le .pending)) .1)
+due : (c : tie.After-first) → let a = start c .args in a .t ≡ keys (at (a .work .now) (a .size)) (c .first .result)
+due c = start c .pre .4 ∙ sym (c .first .ensures .top)
 
 taken : (c : tie.After-slice-known2) → let a = start (picked c) .args in let x = picked c .first .result in
     Popped (a .shape .cells) (a .m) x (at (a .work .now) (a .size))
@@ -45,11 +42,8 @@ here : (c : tie.After-row-of) → let a = start (picked (c .before)) .args in le
     Site (a .shape .cells) (a .shape .width) x (c .row-of .result) (x - c .row-of .result * a .shape .width)
 here c = site (width-low (start (picked (c .before)) .pre .0) measured) (on (c .before) .0) (c .row-of .ensures)
 
-least-key-requires : tie.Need-least-key-requires
-least-key-requires c κs = let p = c .before .before .before .before in (omega (arith, p .pre .1 .room), p .pre .1 .heap)
-
 first-requires : tie.Need-first-requires
-first-requires c κs = let p = c .before .before .before .before .before .before in (p .pre .2, omega (arith, p .pre .1 .room), p .pre .1 .heap)
+first-requires c κs = let p = c .before .before .before .before in (p .pre .2, omega (arith, p .pre .1 .room), p .pre .1 .heap)
 
 remove-first-requires : tie.Need-remove-first-requires
 remove-first-requires c κs = let p = start (c .before) in (p .pre .2, omega (arith, p .pre .1 .room), p .pre .1 .heap)
@@ -164,7 +158,7 @@ module _ (t : tie.After-tell-along2) where
   args = start (picked (o .before))
 
   told : {u : Work} → let a = args .args in
-      Told (a .shape .cells) (rule-at (a .shape) (a .slow .now) (a .times .now)) (picked (o .before) .before .before .least-key .result)
+      Told (a .shape .cells) (rule-at (a .shape) (a .slow .now) (a .times .now)) (a .t)
       (near-on (stack-cut (land (a .shape) (a .slow .now)) ∷ []) (a .shape .cells) inside (picked (o .before) .first .result))
       (at (t .tell-along2 .last .1 .1 .0) (t .tell-along2 .result)) u
       → Took (a .shape .cells) (a .m) (rule-at (a .shape) (a .slow .now) (a .times .now))
@@ -208,7 +202,7 @@ pub take-spec : {M : Type 1} → statement M
 take-spec =
     tie.close
     (tie.spec
-    least-key-requires first-requires remove-first-requires mul-at add-at cast-work mul-work slice-write-work row-of-requires mul-col
+    first-requires remove-first-requires mul-at add-at cast-work mul-work slice-write-work row-of-requires mul-col
     sub-col element-copy-out-tell-along add-tell-along element-copy-out-tell-along-2 tell-along-requires element-copy-out-tell-along-3
     add-tell-along-2 element-copy-out-tell-along-4 tell-along-requires-2 (λ c κs. tt) mul-wide slice-read-wide (λ c κs. tt)
     tell-stack-requires same-length returns same-length-2 returns-2)
