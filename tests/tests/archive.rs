@@ -52,7 +52,8 @@ fn constants_and_the_code_of_d_take_little_storage() {
 #[test]
 fn what_a_neighbours_hearing_goes_through_is_compiled_into_its_callers() {
     let lines = told_by("nm", "--format=posix");
-    let calls: Vec<&str> = lines.lines().filter(|line| line.starts_with("front::")).map(|line| two_words(line)[0]).collect();
+    let calls: Vec<&str> =
+        lines.lines().filter(|line| line.starts_with("front::")).map(|line| two_words(line)[0]).collect();
     assert!(calls.contains(&"front::drain::drain"), "{}", lines);
     for name in calls {
         let may = ["front::drain::drain", "front::spread::relax", "front::strip::drain_strip"];
