@@ -1,4 +1,4 @@
--- Seams: what lies between two neighbouring columns, or two neighbouring rows. Only internal contracts cite these: they are definitions.
+-- Seams: what lies between two neighbouring places on an axis. Only internal contracts cite these: they are definitions.
 use mathlib.Core.Bool.{Bool, cond}
 use mathlib.Core.List.{List, [], _∷_}
 use Prim.Native.Nat.{ℕ, suc, _+_, _-_, _%_, min}

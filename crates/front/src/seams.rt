@@ -34,7 +34,7 @@ fn seam(count: usize, side: usize, i: usize) -> u8
 // The seams of so many columns or rows, with tiles of the given side, so many times over: as many as storeys for rows. Behind them stand the number
 // of columns or rows, less 1, and how many times over: so functions that are lent seams need no more parameters to tell a house.
 pub fn lay(count: usize, side: usize, many: usize) -> [u8; 2051]
-    requires { ⌜ (1 ≤ side) × (1 ≤ count) × (count ≤ 256) × (many ≤ 8) ⌝ }
+    requires { ⌜ (1 ≤ side) × (1 ≤ count) × (count ≤ 256) × (many ≤ 8) × (1 ≤ many) ⌝ }
     ensures { λ r. ⌜ Marked count side many r ⌝ }
 {
     let mut laid = [EDGE; 2051];

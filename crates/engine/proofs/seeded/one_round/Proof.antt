@@ -21,12 +21,12 @@ abbrev written : tie.After-fill-arg → tie.After-write-tiles
 written c = c .before .before .before
 
 lay-requires : tie.Need-lay-requires
-lay-requires c κs = let f = c .before .before .before .before .before .pre .0 .fit in (f .across-low, f .good .wide-low, f .good .wide-high, omega arith)
+lay-requires c κs = let f = c .before .before .before .before .before .pre .0 .fit in (f .across-low, f .good .wide-low, f .good .wide-high, omega arith, omega arith)
 
 lay-requires-2 : tie.Need-lay-requires-2
 lay-requires-2 c κs =
     let f = c .before .before .before .before .before .before .before .before .before .pre .0 .fit in
-    (f .down-low, f .good .high-low, f .good .high-high, f .good .storeys-high)
+    (f .down-low, f .good .high-low, f .good .high-high, f .good .storeys-high, f .good .storeys-low)
 
 drain-strips-requires : tie.Need-drain-strips-requires
 drain-strips-requires c κs =

@@ -28,12 +28,12 @@ fill-requires : tie.Need-fill-requires
 fill-requires c κs = (omega arith, omega (arith, c .before .before .before .before .pre .0 .fit .many))
 
 lay-requires : tie.Need-lay-requires
-lay-requires c κs = let f = start (c .before .before .before) .pre .0 .fit in (f .across-low, f .good .wide-low, f .good .wide-high, omega arith)
+lay-requires c κs = let f = start (c .before .before .before) .pre .0 .fit in (f .across-low, f .good .wide-low, f .good .wide-high, omega arith, omega arith)
 
 lay-requires-2 : tie.Need-lay-requires-2
 lay-requires-2 c κs =
     let f = start (c .before .before .before .before .before .before .before) .pre .0 .fit in
-    (f .down-low, f .good .high-low, f .good .high-high, f .good .storeys-high)
+    (f .down-low, f .good .high-low, f .good .high-high, f .good .storeys-high, f .good .storeys-low)
 
 gather-requires : tie.Need-gather-requires
 gather-requires c κs =

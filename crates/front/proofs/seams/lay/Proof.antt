@@ -17,20 +17,18 @@ Inv-loop count side many laid₀ last i₀ laid i =
 abbrev μ-loop : tie.MeasureT-loop
 μ-loop count side many laid₀ last i₀ laid i = count * many + 1 - i
 
--- a house has at most 8 storeys of 256 rows
-few : (a b : ℕ) → a ≤ 256 → b ≤ 8 → a * b ≤ 2048
-few a b l h = mul-le-mul l h
+-- a house has 1 to 8 storeys of 1 to 256 rows
+few : (p : tie.Start Inv-loop μ-loop) → let a = p .args in (1 ≤ a .count * a .many) × (a .count * a .many ≤ 2048)
+few p = (mul-le-mul (p .pre .1) (p .pre .4), mul-le-mul (p .pre .2) (p .pre .3))
 
 mul-last : tie.Need-mul-last Inv-loop μ-loop
-mul-last c = let p = c in omega (arith, few (p .args .count) (p .args .many) (p .pre .2) (p .pre .3))
+mul-last c = omega (arith, few c)
 
 loop-holds : tie.Need-loop-holds Inv-loop μ-loop
 loop-holds c = (omega arith, refl, λ j l. absurd (omega arith))
 
 most : (c : tie.After-seam Inv-loop μ-loop) → c .before .before .loop .i ≤ 2048
-most c =
-    let p = c .before .before .before in
-    omega (arith, few (p .args .count) (p .args .many) (p .pre .2) (p .pre .3), c .before .loop-test .taken)
+most c = omega (arith, few (c .before .before .before), c .before .loop-test .taken)
 
 loop-again : tie.Need-loop-again Inv-loop μ-loop
 loop-again c =
@@ -54,7 +52,7 @@ returns c =
     let x = p .args .count - 1 in
     let laid = set (l .laid) 2049 x in
     let long : length laid ≡ 2051 = length-set (l .laid) 2049 x ∙ l .inv .1 in
-    let most = few (p .args .count) (p .args .many) (p .pre .2) (p .pre .3) in
+    let most = few p in
     let behind = getD-set-other laid 2050 2049 (p .args .many) 0 (λ z. omega arith) ∙ getD-set-same (l .laid) 2049 x 0 (omega (arith, l .inv .1)) in
     record {
       at = λ j h.
@@ -69,6 +67,6 @@ pub lay-spec : {M : Type 1} → statement M
 lay-spec =
     tie.close
     (tie.spec
-    Inv-loop μ-loop mul-last loop-holds (λ c κs. omega arith) (λ c. omega (arith, most c, c .before .before .loop .inv .1)) (λ c. omega (arith, most c))
+    Inv-loop μ-loop mul-last loop-holds (λ c κs. omega (arith, few (c .before .before))) (λ c. omega (arith, most c, c .before .before .loop .inv .1)) (λ c. omega (arith, most c))
     (λ c. omega (arith, c .before .loop-test .taken)) loop-again (λ c. omega (arith, c .before .before .pre .1)) (λ c. omega (arith, c .before .before .pre .2))
     (λ c. omega arith) (λ c. omega (arith, c .before .before .pre .3)) (λ c. omega arith) returns)

@@ -1,13 +1,12 @@
 -- `front::seams::seam` meets its contract.
 use mathlib.Core.Path.{sym}
-use native.Mathlib.Omega.{arith}
 use borrow.Author.Needs.{needs}
 use Rattle.front.proofs.Theory.Seams.{seam-edge, seam-border, seam-inside}
 use Rattle.front.proofs.seams.seam.Statement.{statement}
 use Rattle.front.proofs.seams.seam.Tie as tie
 
 returns : tie.Need-returns
-returns c = omega (arith, seam-edge (c .before .args .count) (c .before .args .side) (c .before .args .i) (c .if1 .taken))
+returns c = sym (seam-edge _ _ _ (c .if1 .taken))
 
 returns-2 : tie.Need-returns-2
 returns-2 c = sym (seam-border _ _ _ (c .before .if1 .left) (c .if2 .taken))
