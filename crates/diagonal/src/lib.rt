@@ -23,7 +23,7 @@ fn step(slowness: u32) -> u32
     if slowness <= 255 {
         return kept(slowness) as u32;
     }
-    eikonal::arrival::least_past(slowness, 0)
+    arrival::least_past(slowness, 0)
 }
 
 // The step, or 5 for a slowness above 4,095.

@@ -5,7 +5,6 @@ pub mod Walls
 pub mod Axes
 pub mod Local
 pub mod LocalRule
-pub mod Root
 pub mod FirstPass
 pub mod Causes
 pub mod Faults

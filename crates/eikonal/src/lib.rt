@@ -1,10 +1,15 @@
-// The ground under the engine: the values that calls share, the local rule and the refusals of boards.
-pub mod arrival;
+// The ground under the engine: the values that calls share, and the refusals of boards.
 pub mod refusals;
 
 ghost use mathlib.Core.Path.{_≡_};
 ghost use Rattle.eikonal.specs.Refusals.{cause, cause-at, none};
 ghost use Rattle.eikonal.specs.Ledger.{answer};
+
+// The mark of a cell that no front reaches.
+pub const NEVER: u32 = 4294967295;
+
+// The largest horizon and bound: a later time counts as never.
+pub const LARGEST: u32 = 300000000;
 
 // A front begins at a cell at a time.
 #[repr(C)]

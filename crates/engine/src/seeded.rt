@@ -9,7 +9,7 @@ ghost use Rattle.front.specs.Board.{land};
 ghost use Rattle.eikonal.specs.declared.Job.the-variants.{March, Round, Run};
 ghost use Rattle.engine.specs.Calls.{Some-standing, Doable, Goes};
 use eikonal::Job;
-use eikonal::arrival::NEVER;
+use eikonal::NEVER;
 use front::Shape;
 
 // A limit of rounds that never binds: no tile run has more than 300,000,000 + 65,536 (`few-rounds` of crates/eikonal/proofs/Rounds.antt).

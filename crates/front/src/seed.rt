@@ -6,7 +6,7 @@ ghost use lib.ListN.{length, getD};
 ghost use Rattle.eikonal.specs.Refusals.{starts-of};
 ghost use Rattle.front.specs.Board.{at};
 ghost use Rattle.front.specs.State.{Placed, Seeded, Empty, Gathered};
-use eikonal::arrival::NEVER;
+use eikonal::NEVER;
 
 // No cell has a time.
 pub fn empty(work: &mut [u32], n: usize)

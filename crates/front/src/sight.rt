@@ -12,12 +12,12 @@ use super::seams::is_house;
 use super::seams::seam_over;
 use super::seams::seam_under;
 use super::seams::storey_rows;
-use eikonal::arrival::LARGEST;
-use eikonal::arrival::NEVER;
-use eikonal::arrival::lesser;
-use eikonal::arrival::of_equal;
-use eikonal::arrival::of_three;
-use eikonal::arrival::of_unequal;
+use arrival::lesser;
+use arrival::of_equal;
+use arrival::of_three;
+use arrival::of_unequal;
+use eikonal::LARGEST;
+use eikonal::NEVER;
 
 // A stored time as a cell of another tile sees it.
 fn ghost_time(slow: &[u32], times: &[u32], shape: Shape, e: usize) -> u32

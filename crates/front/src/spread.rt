@@ -14,7 +14,7 @@ use super::seams::INSIDE;
 use super::seams::seam_over;
 use super::seams::seam_under;
 use super::seams::storey_rows;
-use eikonal::arrival::NEVER;
+use eikonal::NEVER;
 
 // Lowers the cell e to what the rule gives it, if that is earlier. A cell that has had no time yet is new to the queue.
 pub fn relax(

@@ -27,7 +27,7 @@ pub extern "C" fn murgolab_local_rule(
 ) -> Reply
     ensures { λ x. ⌜ Local-says g h left right above below over under x ⌝ }
 {
-    eikonal::arrival::local_rule(g, h, left, right, above, below, over, under)
+    arrival::local_rule(g, h, left, right, above, below, over, under)
 }
 
 #[no_mangle]

@@ -7,7 +7,7 @@ ghost use lib.ListN.{length};
 ghost use Rattle.eikonal.specs.Board.{never};
 ghost use Rattle.eikonal.specs.Inner.Clip.{clip};
 ghost use Rattle.rows.specs.Lists.{Finished};
-use eikonal::arrival::NEVER;
+use eikonal::NEVER;
 
 // A time up to the bound, else never.
 pub fn clip(t: u32, bound: u32) -> u32

@@ -8,8 +8,8 @@ ghost use mathlib.Core.Path.{_≡_};
 ghost use Rattle.eikonal.specs.Refusals.{sides-good};
 ghost use Rattle.scenario.specs.File.{ticks-good};
 ghost use Rattle.scenario.specs.Turns.{turn-reply, Turn-says};
-use eikonal::arrival::LARGEST;
-use eikonal::arrival::NEVER;
+use eikonal::LARGEST;
+use eikonal::NEVER;
 use eikonal::refusals::side_good;
 
 // What a file holds besides its lists: number 0, the rest and the place 0, or a refusal's number and place and zeros.

@@ -1,7 +1,7 @@
 // Goes through the boards worked by hand that are not starred, those of document 01 and of Cards 3, 10 and 12 of document 02: what each gives,
 // and whether it is what the pages say.
+use eikonal::NEVER;
 use eikonal::Reply;
-use eikonal::arrival::NEVER;
 use libc::STDOUT_FILENO;
 
 // The pair (10, 10): 10 ticks along the row, 10 down the column.
@@ -258,7 +258,7 @@ fn ploughed() {
 
 // What a cell is given from its left and from above, with 10 ticks along its row and 20 down its column.
 fn furrow(name: &[u8], left: u32, above: u32, number: u32, time: u32) {
-    let reply = eikonal::arrival::local_rule(10, 20, left, NEVER, above, NEVER, NEVER, NEVER);
+    let reply = arrival::local_rule(10, 20, left, NEVER, above, NEVER, NEVER, NEVER);
     tell_reply(name, reply, number, time);
 }
 
@@ -270,7 +270,7 @@ fn furrows() {
 
 // What a cell of slowness 10 is given from its left, from above and from under it.
 fn corner(name: &[u8], left: u32, above: u32, under: u32, time: u32) {
-    let reply = eikonal::arrival::local_rule(10, 10, left, NEVER, above, NEVER, NEVER, under);
+    let reply = arrival::local_rule(10, 10, left, NEVER, above, NEVER, NEVER, under);
     tell_reply(name, reply, 0, time);
 }
 
