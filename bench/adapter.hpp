@@ -27,6 +27,8 @@ struct Lent {
     virtual uint32_t round_of_run(uint32_t, uint32_t, uint32_t) { return absent; }
     // whether boards with unequal pairs are taken
     virtual bool takes_pairs() const { return false; }
+    // of the call made last on the board, a byte a cell; empty from before there were sides
+    virtual std::vector<uint8_t> sides() const { return {}; }
     // whether houses are taken; in those the rule is asked on all storeys but the outer two
     virtual bool takes_storeys() const { return false; }
 };

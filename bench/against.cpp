@@ -1,5 +1,5 @@
 // This tree and another commit in one interleaved run: each row is timed on both, one directly after the other and each
-// of them first by turns. Both must give the same answers and the same times.
+// of them first by turns. Both must give the same answers, the same times and, if both have them, the same sides.
 #include "adapter.hpp"
 #include "boards.hpp"
 #include <deque>
@@ -81,8 +81,11 @@ int main(int, char **argv) {
                 line.took[i].push_back(micros([&] { answers[i] = line.row.play(*line.on.lent[i]); }));
             demand(answers[0] == answers[1], "the two commits answer differently");
         }
-    for (const Both &b : boards)
+    for (const Both &b : boards) {
         demand(b.lent[0]->times() == b.lent[1]->times(), "the two commits name different times");
+        const auto sides = b.lent[1]->sides();
+        demand(sides.empty() || sides == b.lent[0]->sides(), "the two commits name different sides");
+    }
 
     std::printf("%d interleaved runs, medians; 256 x 256 cells but in houses, horizon %u\n", runs, horizon);
     std::printf("%-20s %-10s %14s %14s %8s\n", "board", "call", "this tree (us)", argv[2], "ratio");

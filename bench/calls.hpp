@@ -11,7 +11,7 @@ class Calls final : public Lent {
     const uint32_t w = b.width, h = b.height, storeys = b.storeys;
     const size_t n = b.slow.size(), starts = b.cells.size();
     std::vector<uint32_t> slow, order, times_, work, filled;
-    std::vector<uint8_t> file, out;
+    std::vector<uint8_t> sides_, file, out;
     size_t written = 0;
 
     static uint32_t accepted(murgolab_reply r) {
@@ -22,12 +22,13 @@ class Calls final : public Lent {
     size_t tiles(uint32_t side) const { return size_t((w + side - 1) / side) * ((h + side - 1) / side); }
     uint32_t round_to(uint32_t side, uint32_t bound) {
         return accepted(murgolab_one_round_plain(w, h, storeys, slow.data(), n, b.cells.data(), starts, b.begins.data(),
-            starts, side, side, bound, order.data(), tiles(side), times_.data(), n, work.data(), 4 * n));
+            starts, side, side, bound, order.data(), tiles(side), times_.data(), n, sides_.data(), n, work.data(),
+            4 * n));
     }
 
 public:
     explicit Calls(const yardstick::Board &board)
-        : b(board), order(n), times_(n), work(4 * n), filled(3 * n), file(20 + 20 * n), out(4 * n) {
+        : b(board), order(n), times_(n), work(4 * n), filled(3 * n), sides_(n), file(20 + 20 * n), out(4 * n) {
         std::iota(order.begin(), order.end(), 0u);
         const auto &down = b.down.empty() ? b.slow : b.down;
         for (size_t c = 0; c < n; c++) slow.push_back(MURGOLAB_PAIR(b.slow[c], down[c]));
@@ -35,12 +36,13 @@ public:
 
     uint32_t march() override {
         return accepted(murgolab_march_plain(w, h, storeys, slow.data(), n, b.cells.data(), starts, b.begins.data(),
-            starts, horizon, times_.data(), n, work.data(), 4 * n));
+            starts, horizon, times_.data(), n, sides_.data(), n, work.data(), 4 * n));
     }
     uint32_t round(uint32_t side) override { return round_to(side, horizon); }
     uint32_t run(uint32_t side, uint32_t stride) override {
         return accepted(murgolab_tile_run_plain(w, h, storeys, slow.data(), n, b.cells.data(), starts, b.begins.data(),
-            starts, side, side, stride, horizon, order.data(), tiles(side), times_.data(), n, work.data(), 4 * n));
+            starts, side, side, stride, horizon, order.data(), tiles(side), times_.data(), n, sides_.data(), n,
+            work.data(), 4 * n));
     }
     uint32_t rule() override {
         const uint32_t *t = times_.data();
@@ -48,7 +50,7 @@ public:
             uint32_t sum = 0;
             for (size_t c = edge; c + edge < n; c++)
                 sum += murgolab_local_rule(slow[c] & 65535, slow[c] >> 16, t[c - 1], t[c + 1], t[c - w], t[c + w],
-                    over(c), under(c)).count;
+                    over(c), under(c)).time;
             return sum;
         };
         const auto never = [](size_t) { return MURGOLAB_NEVER; };
@@ -72,6 +74,7 @@ public:
         return r / 256;
     }
     const std::vector<uint32_t> &times() const override { return times_; }
+    std::vector<uint8_t> sides() const override { return sides_; }
     uint32_t diagonals(uint32_t first, uint32_t end, uint32_t passes) override {
         uint32_t sum = 0;
         for (uint32_t k = 0; k < passes; k++)

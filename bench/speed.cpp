@@ -1,6 +1,6 @@
 // Medians of interleaved runs: within a run every call is timed once on each board, so that what slows the machine
-// slows all of them. Neither times nor work are cleared before a timed call: times hold what the call before left,
-// work its zeros.
+// slows all of them. Neither times, sides nor work are cleared before a timed call: times and sides hold what the call
+// before left, work its zeros.
 #include "adapter.hpp"
 #include "boards.hpp"
 #include <memory>
@@ -42,8 +42,8 @@ int main(int, char **argv) {
         for (size_t m = 0; m < std::size(steps); m++)
             step[m].push_back(micros([&] { sink = steps[m].play(*lent[0]); }));
     }
-    std::printf("%d interleaved runs, medians; 256 x 256 cells but in houses, horizon %u; times and work not cleared "
-        "between calls\n", runs, horizon);
+    std::printf("%d interleaved runs, medians; 256 x 256 cells but in houses, horizon %u; times, sides and work not "
+        "cleared between calls\n", runs, horizon);
     std::printf("%-20s %12s %15s", "board", "march (us)", "over yardstick");
     for (size_t m = 1; m < calls; m++) std::printf(" %9s", rows[m].name);
     std::printf("   (over march)\n");

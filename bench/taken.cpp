@@ -9,11 +9,12 @@ namespace {
 
 constexpr uint32_t stride = 65536, first_at_horizon = (horizon + stride - 1) / stride;
 
-// The rounds are made until one at the horizon alters nothing. Once the times are the march's no later round alters
+// The rounds are made until one at the horizon alters no time. Once the times are the march's no later round alters
 // them, and those below the horizon are passed over.
 uint64_t taken(Lent &lent, uint32_t side) {
     lent.march();
     const std::vector<uint32_t> march = lent.times();
+    const std::vector<uint8_t> sides = lent.sides();
     const uint32_t rounds = lent.run(side, stride);
     uint64_t sum = 0;
     for (uint32_t j = 1;; j++) {
@@ -22,7 +23,7 @@ uint64_t taken(Lent &lent, uint32_t side) {
         const bool solved = lent.times() == march;
         if (j >= first_at_horizon && altered == 0) {
             demand(j == rounds, "a tile run makes another number of rounds than single rounds do");
-            demand(solved, "single rounds end with other times than the march");
+            demand(solved && lent.sides() == sides, "single rounds end with other times or sides than the march");
             return sum;
         }
         if (solved) j = std::max(j, first_at_horizon - 1);

@@ -1,7 +1,7 @@
 /* Plays a scenario file: prints its width, height and ticks per turn, then the turn in which the front reaches each
- * cell, storey by storey and row by row, `-` for never, as `rings` does; then how many rounds the tile run took.
- * `usage` has its words. Boards may have any size that the library takes. The starts go from the reader to the run as
- * one list of records.
+ * cell, storey by storey and row by row, `-` for never, as `rings` does; if wished, from which sides it came to each of
+ * them, in rows again; then how many rounds the tile run took. `usage` has its words. Boards may have any size that the
+ * library takes. The starts go from the reader to the run as one list of records.
  *
  * Rounds are counted up to the horizon: with the stride 100 and the horizon 6,000,000 the bounds are 100, 200, 300 and
  * so on, which makes 60,000 rounds, however early the last cell is reached. Those that end before the front's next step
@@ -14,16 +14,18 @@
 #include <string.h>
 
 static const char usage[] =
-    "usage: shell FILE [STRIDE [ACROSS DOWN [HORIZON]]]\n"
+    "usage: shell [--sides] FILE [STRIDE [ACROSS DOWN [HORIZON]]]\n"
     "Prints the turns in which a front reaches the cells of the scenario FILE, and how many rounds its tile run takes\n"
-    "in tiles of ACROSS by DOWN cells. Left out, STRIDE is 65536, the tiles are 8 by 8, and HORIZON is 6000000.\n";
+    "in tiles of ACROSS by DOWN cells. Left out, STRIDE is 65536, the tiles are 8 by 8, and HORIZON is 6000000.\n"
+    "With --sides it also prints from which sides the front came to each cell: l or r for left or right, a or b for\n"
+    "above or below, o or u for over or under; . for a start that no front came before, - for never.\n";
 
 enum { MOST_CELLS = 256 * 256 };
 
-typedef struct { uint32_t stride, across, down, horizon; } options;
+typedef struct { uint32_t stride, across, down, horizon; int with_sides; } options;
 
 /* Lists that are long enough for every board. */
-typedef struct { uint32_t *slow, *order, *times, *work; murgolab_start *starts; } lists;
+typedef struct { uint32_t *slow, *order, *times, *work; uint8_t *sides; murgolab_start *starts; } lists;
 
 static int refused(const char *name, uint32_t number, size_t place)
 {
@@ -49,19 +51,32 @@ static uint32_t tiles_along(uint32_t side, uint32_t tile)
     return tile == 0 ? 0 : side / tile + (side % tile > 0);
 }
 
-static void print_turns(const murgolab_scenario *s, const uint32_t *times)
+static void print_turn(uint32_t time, uint32_t ticks)
 {
-    uint32_t row, column;
-    printf("%u %u %u\n", (unsigned)s->width, (unsigned)s->height, (unsigned)s->ticks);
-    for (row = 0; row < s->height * s->storeys; row++) /* storeys stand one below the other */
-        for (column = 0; column < s->width; column++) {
-            char behind = column + 1 < s->width ? ' ' : '\n';
-            uint32_t turn = murgolab_turn(times[row * s->width + column], s->ticks).turn;
-            if (turn == MURGOLAB_NEVER)
-                printf("-%c", behind);
-            else
-                printf("%u%c", (unsigned)turn, behind);
-        }
+    uint32_t turn = murgolab_turn(time, ticks).turn;
+    if (turn == MURGOLAB_NEVER)
+        putchar('-');
+    else
+        printf("%u", (unsigned)turn);
+}
+
+static void print_sides(uint32_t time, uint8_t sides)
+{
+    static const char letters[] = "lrabou"; /* one for each bit of a byte of sides, from the lowest on */
+    uint32_t bit;
+    if (time == MURGOLAB_NEVER)
+        putchar('-');
+    else if (sides == 0)
+        putchar('.');
+    for (bit = 0; letters[bit] != '\0'; bit++)
+        if (sides >> bit & 1)
+            putchar(letters[bit]);
+}
+
+/* What stands behind a cell: it may end a row. */
+static void print_gap(uint32_t cell, uint32_t width)
+{
+    putchar((cell + 1) % width == 0 ? '\n' : ' ');
 }
 
 static int play(const char *name, const uint8_t *file, size_t length, options o, lists l)
@@ -76,10 +91,18 @@ static int play(const char *name, const uint8_t *file, size_t length, options o,
     for (i = 0; i < tiles; i++)
         l.order[i] = i;
     run = murgolab_tile_run(s.width, s.height, s.storeys, l.slow, cells, l.starts, s.starts, o.across, o.down, o.stride,
-        o.horizon, l.order, tiles, l.times, cells, l.work, 4 * (size_t)cells);
+        o.horizon, l.order, tiles, l.times, cells, l.sides, cells, l.work, 4 * (size_t)cells);
     if (run.number != MURGOLAB_ACCEPTED)
         return refused(name, run.number, run.place);
-    print_turns(&s, l.times);
+    printf("%u %u %u\n", (unsigned)s.width, (unsigned)s.height, (unsigned)s.ticks);
+    for (i = 0; i < cells; i++) { /* so storeys stand one below the other */
+        print_turn(l.times[i], s.ticks);
+        print_gap(i, s.width);
+    }
+    for (i = 0; i < cells && o.with_sides; i++) {
+        print_sides(l.times[i], l.sides[i]);
+        print_gap(i, s.width);
+    }
     printf("%u rounds\n", (unsigned)run.count);
     return written();
 }
@@ -141,7 +164,7 @@ static int read_options(int count, char **words, options *o)
 
 int main(int count, char **words)
 {
-    options o = {65536, 8, 8, 6000000};
+    options o = {65536, 8, 8, 6000000, 0};
     lists l;
     size_t length;
     uint8_t *file;
@@ -149,6 +172,11 @@ int main(int count, char **words)
     if (count == 2 && strcmp(words[1], "--help") == 0) {
         fputs(usage, stdout);
         return written();
+    }
+    if (count > 1 && strcmp(words[1], "--sides") == 0) {
+        o.with_sides = 1;
+        count--;
+        words++;
     }
     if (!read_options(count, words, &o)) {
         fputs(usage, stderr);
@@ -158,9 +186,11 @@ int main(int count, char **words)
     l.order = malloc(MOST_CELLS * sizeof *l.order);
     l.times = malloc(MOST_CELLS * sizeof *l.times);
     l.work = malloc(4 * MOST_CELLS * sizeof *l.work);
+    l.sides = malloc(MOST_CELLS * sizeof *l.sides);
     l.starts = malloc(MOST_CELLS * sizeof *l.starts);
     file = load(words[1], &length);
-    if (file != NULL && l.slow != NULL && l.order != NULL && l.times != NULL && l.work != NULL && l.starts != NULL)
+    if (file != NULL && l.slow != NULL && l.order != NULL && l.times != NULL && l.work != NULL && l.sides != NULL
+        && l.starts != NULL)
         status = play(words[1], file, length, o, l);
     else if (file != NULL)
         fprintf(stderr, "shell: no memory\n");
@@ -169,6 +199,7 @@ int main(int count, char **words)
     free(l.order);
     free(l.times);
     free(l.work);
+    free(l.sides);
     free(l.starts);
     return status;
 }

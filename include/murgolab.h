@@ -20,14 +20,20 @@
  *             where it is above 300,000,000 and where it stands at a wall. A board's own times are below 269,369,920.
  *   start     a cell and the time, 0 to 1,000,000, at which a front begins there. A list of starts is strictly rising
  *             by cell, has none on a wall, and may be empty.
- *   march     works out the times of the whole board at once.
+ *   sides     of a cell, from which the front came: one neighbour at most on each axis, its row, its column and its
+ *             storeys. Left is a side if its time is before the cell's and not after right's; else right, if its time
+ *             is before the cell's; else there is none on this axis. Above and below, over and under are likewise. One
+ *             byte holds them, the sum of their numbers in enum murgolab_side: 0, for none, to 42. A cell that is never
+ *             has none, as a wall; nor has one whose start is no later than what the local rule gives, as early ones
+ *             and those at that very time.
+ *   march     works out the times of the whole board at once, and the sides of its cells.
  *   tile      a part of the board, across by down cells of every storey, each side 1 to 256. Tiles are laid from the
  *             top left, cut at the board's edge and numbered from 0, row by row. They span all storeys: the cells over
  *             and under a cell are in its own tile, and there are as many tiles as on one storey. An order is a list of
  *             every tile's number once.
- *   round     works out the times of each tile once, apart from the other tiles.
+ *   round     works out times and sides of each tile once, apart from the other tiles.
  *   bound     of a round, 0 to 300,000,000: times past it are left out, as never.
- *   tile run  makes rounds with rising bounds until the times are those of the march.
+ *   tile run  makes rounds with rising bounds until times and sides are those of the march.
  *   stride    of a tile run, 1 to 300,000,000: by how much the bound rises from one round to the next.
  *   horizon   of a march or a tile run, 0 to 300,000,000: times past it are left out, as never. A cell is reached if
  *             its time is at most the horizon.
@@ -92,7 +98,7 @@ enum murgolab_refusal {
     MURGOLAB_SIDES_OF_TILE = 11, /* tile width or height not 1 to 256 */
     MURGOLAB_ORDER = 12,         /* order does not name every tile once */
     MURGOLAB_TIMES_LENGTH = 13,  /* times list not N long */
-    MURGOLAB_ROOM = 14,          /* work list under 4N long, or a list to be filled too short */
+    MURGOLAB_ROOM = 14,          /* work list under 4N long, sides list not N long, or a list to be filled too short */
     MURGOLAB_SMALL_BOARD = 15,   /* tablet or rings: a side above 32, N above 1,024, or for rings a file above
                                   * 20,500 bytes */
     MURGOLAB_START_ORDER = 18,   /* start not above the one before */
@@ -101,11 +107,25 @@ enum murgolab_refusal {
                                   * rule: over or under not never) */
 };
 
+/* from which sides a front came: a byte of sides is a sum of at most one of the first two, one of the next two and one
+ * of the last two */
+enum murgolab_side {
+    MURGOLAB_LEFT = 1,
+    MURGOLAB_RIGHT = 2,
+    MURGOLAB_ABOVE = 4,
+    MURGOLAB_BELOW = 8,
+    MURGOLAB_OVER = 16,
+    MURGOLAB_UNDER = 32
+};
+
 /* a start: a cell and a time of 0 to 1,000,000 */
 typedef struct { uint32_t cell, time; } murgolab_start;
 
 /* number 0: accepted, and count is the answer; else number is the refusal, and count 0; place is 0 but for 7 and 18 */
 typedef struct { uint32_t number, count; size_t place; } murgolab_reply;
+
+/* number 0: accepted, and time and sides are the answer; else number is the refusal, and both are 0 */
+typedef struct { uint32_t number, time, sides; } murgolab_local_reply;
 
 /* number 0: accepted, and turn and to_go are the answer; else number is the refusal, and both are 0 */
 typedef struct { uint32_t number, turn, to_go; } murgolab_turn_reply;
@@ -117,10 +137,11 @@ typedef struct { uint32_t number, width, height, storeys, ticks, ground, starts;
 /* The local rule: the least whole t, not below the earliest of a, b and z, with p*p*h*h + q*q*g*g + r*r*g*g >= g*g*h*h,
  * where a is the earlier of left and right, b the earlier of above and below, z the earlier of over and under,
  * p = t - a if a is earlier than t, else 0, q likewise from b and r from z. Never where all three are never or both g
- * and h are 0. The count is that time. Where g and h are equal, as they must be where over or under is not never, the
- * condition is p*p + q*q + r*r >= g*g. On a flat board over and under are never.
+ * and h are 0. Where g and h are equal, as they must be where over or under is not never, the condition is
+ * p*p + q*q + r*r >= g*g. On a flat board over and under are never. The answer is that time and its sides, which are
+ * those of a cell without a start; 0 where the time is never.
  * Refused by 5 21 23: by 23 where g and h differ and over or under is at most 300,000,000. */
-murgolab_reply murgolab_local_rule(uint32_t g, uint32_t h, uint32_t left, uint32_t right, uint32_t above,
+murgolab_local_reply murgolab_local_rule(uint32_t g, uint32_t h, uint32_t left, uint32_t right, uint32_t above,
     uint32_t below, uint32_t over, uint32_t under);
 
 /* D: the least d with 2*d*d >= slowness*slowness, which the local rule adds to a where a and b are equal, g and h are
@@ -135,29 +156,32 @@ murgolab_reply murgolab_diagonal(uint32_t slowness);
 murgolab_turn_reply murgolab_turn(uint32_t time, uint32_t ticks);
 
 /* The next calls take a board and its starts: slow has N slownesses, a pair each, storey by storey. times is N long.
- * work is at least 4N long, and may hold anything; after an accepted call its first 4N entries are 0 and later ones as
- * they were. */
+ * sides is N bytes long, no more and no fewer, else 14; it may hold anything at first, and an accepted call writes each
+ * byte. work is at least 4N long, and may hold anything; after an accepted call its first 4N entries are 0 and later
+ * ones as they were. */
 
 /* The march: the time at which the front reaches each cell, up to the horizon; never where that is later, or no front
- * comes. times may hold anything at first. The count is the number of cells reached.
+ * comes; and from which sides. times may hold anything at first. The count is the number of cells reached.
  * Refused by 2 4 5 21 23 7 18 8 9 10 13 14. */
 murgolab_reply murgolab_march(uint32_t width, uint32_t height, uint32_t storeys,
     const uint32_t *slow, size_t slow_len, const murgolab_start *starts, size_t starts_len, uint32_t horizon,
-    uint32_t *times, size_t times_len, uint32_t *work, size_t work_len);
+    uint32_t *times, size_t times_len, uint8_t *sides, size_t sides_len, uint32_t *work, size_t work_len);
 
 /* One round: every tile is solved with the times that times holds beyond its edges before the round; what it holds
  * within them is not used. Then times holds each cell's time up to the bound, and never elsewhere. The order of tiles
- * never shows. The count is the number of entries of times that differ from what they were, as bare numbers.
+ * never shows. A cell's sides come from the times that its tile saw: those of its own cells as the round leaves them,
+ * those of others as they were before. The count is the number of entries of times that differ from what they were, as
+ * bare numbers. Sides do not count: a round may alter some of them and no time.
  * Refused by 2 4 5 21 23 7 18 8 9 10 11 12 13 14. */
 murgolab_reply murgolab_one_round(uint32_t width, uint32_t height, uint32_t storeys,
     const uint32_t *slow, size_t slow_len, const murgolab_start *starts, size_t starts_len,
     uint32_t across, uint32_t down, uint32_t bound, const uint32_t *order, size_t order_len,
-    uint32_t *times, size_t times_len, uint32_t *work, size_t work_len);
+    uint32_t *times, size_t times_len, uint8_t *sides, size_t sides_len, uint32_t *work, size_t work_len);
 
 /* The tile run: rounds from all never, the j-th, from 1, with the bound j * stride or the horizon, the lesser, until
- * one at the horizon alters nothing. times, which may hold anything at first, is then what the march gives. The count
- * is the number of rounds, the last among them. Rounds that end before the front's next step are counted without being
- * worked out.
+ * one at the horizon alters no time. times, which may hold anything at first, and sides are then what the march gives;
+ * sides is written once, at the end. The count is the number of rounds, the last among them. Rounds that end before the
+ * front's next step are counted without being worked out.
  * How many rounds: let K be horizon / stride, rounded up, at least 1. There are at least K, however early the last cell
  * is reached, and at most K and as many more as cells are reached. Where one tile covers the board (across is at least
  * width, and down at least height) they are exactly K + 1 if some entry of times is then above (K - 1) * stride and at
@@ -167,7 +191,7 @@ murgolab_reply murgolab_one_round(uint32_t width, uint32_t height, uint32_t stor
 murgolab_reply murgolab_tile_run(uint32_t width, uint32_t height, uint32_t storeys,
     const uint32_t *slow, size_t slow_len, const murgolab_start *starts, size_t starts_len,
     uint32_t across, uint32_t down, uint32_t stride, uint32_t horizon, const uint32_t *order, size_t order_len,
-    uint32_t *times, size_t times_len, uint32_t *work, size_t work_len);
+    uint32_t *times, size_t times_len, uint8_t *sides, size_t sides_len, uint32_t *work, size_t work_len);
 
 /* Reads a scenario file: fills the first N entries of slow and as many records of starts as the answer's `starts` says;
  * later ones stay. 65,536 of each are enough for every file. A file has, lowest byte first: width, height, storeys and
@@ -209,7 +233,7 @@ uint64_t murgolab_tablet_run(const uint8_t *file, size_t file_len, uint32_t stri
 murgolab_reply murgolab_march_plain(uint32_t width, uint32_t height, uint32_t storeys,
     const uint32_t *slow, size_t slow_len, const uint32_t *cells, size_t cells_len,
     const uint32_t *begins, size_t begins_len, uint32_t horizon,
-    uint32_t *times, size_t times_len, uint32_t *work, size_t work_len);
+    uint32_t *times, size_t times_len, uint8_t *sides, size_t sides_len, uint32_t *work, size_t work_len);
 
 /* One round with plain start lists.
  * Refused by 2 4 5 21 23 7 18 8 9 10 11 12 13 14. */
@@ -217,7 +241,7 @@ murgolab_reply murgolab_one_round_plain(uint32_t width, uint32_t height, uint32_
     const uint32_t *slow, size_t slow_len, const uint32_t *cells, size_t cells_len,
     const uint32_t *begins, size_t begins_len,
     uint32_t across, uint32_t down, uint32_t bound, const uint32_t *order, size_t order_len,
-    uint32_t *times, size_t times_len, uint32_t *work, size_t work_len);
+    uint32_t *times, size_t times_len, uint8_t *sides, size_t sides_len, uint32_t *work, size_t work_len);
 
 /* The tile run with plain start lists.
  * Refused by 2 4 5 21 23 7 18 8 9 10 11 12 13 14. */
@@ -225,7 +249,7 @@ murgolab_reply murgolab_tile_run_plain(uint32_t width, uint32_t height, uint32_t
     const uint32_t *slow, size_t slow_len, const uint32_t *cells, size_t cells_len,
     const uint32_t *begins, size_t begins_len,
     uint32_t across, uint32_t down, uint32_t stride, uint32_t horizon, const uint32_t *order, size_t order_len,
-    uint32_t *times, size_t times_len, uint32_t *work, size_t work_len);
+    uint32_t *times, size_t times_len, uint8_t *sides, size_t sides_len, uint32_t *work, size_t work_len);
 
 /* Reads a scenario file into plain start lists. Here cells and begins need not be as long as each other: each must hold
  * the file's starts, else 14.

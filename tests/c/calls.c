@@ -12,22 +12,38 @@ static const char *const endings[FORMS] = {"_plain", ""};
 /* The arguments of a march, a round or a run, and the lengths that are stated for its lists. */
 typedef struct {
     uint32_t width, height, storeys, across, down, stride, bound;
-    size_t slow_len, cells_len, begins_len, order_len, times_len, work_len;
+    size_t slow_len, cells_len, begins_len, order_len, times_len, sides_len, work_len;
     uint32_t slow[10], cells[3], begins[3], order[5];
 } game;
 
+/* What an accepted call leaves. */
+typedef struct {
+    uint32_t times[9];
+    uint8_t sides[9];
+} front;
+enum {
+    LEFT = MURGOLAB_LEFT, RIGHT = MURGOLAB_RIGHT, ABOVE = MURGOLAB_ABOVE, BELOW = MURGOLAB_BELOW,
+    OVER = MURGOLAB_OVER, UNDER = MURGOLAB_UNDER
+};
+
 /* Three by three, slowness 10 along the rows and 20 down the columns, a wall at the end of the first row, one start at
- * the top left; its times by hand. */
+ * the top left; its times and sides by hand. */
 #define FURROW MURGOLAB_PAIR(10, 20)
 static const game good = {
-    3, 3, 1, 2, 2, 20, 52, 9, 1, 1, 4, 9, 38,
+    3, 3, 1, 2, 2, 20, 52, 9, 1, 1, 4, 9, 9, 38,
     {FURROW, FURROW, 0, FURROW, FURROW, FURROW, FURROW, FURROW, FURROW, FURROW}, {0, 4, 5}, {0, 1000000, 0},
     {3, 1, 0, 2, 3},
 };
-static const uint32_t solved[9] = {0, 10, MURGOLAB_NEVER, 20, 26, 36, 40, 45, 52};
+static const front solved = {
+    {0, 10, MURGOLAB_NEVER, 20, 26, 36, 40, 45, 52},
+    {0, LEFT, 0, ABOVE, LEFT + ABOVE, LEFT, ABOVE, LEFT + ABOVE, LEFT + ABOVE},
+};
 
 /* The same with the slowness 10 both ways. */
-static const uint32_t solved_even[9] = {0, 10, MURGOLAB_NEVER, 10, 18, 28, 20, 26, 34};
+static const front solved_even = {
+    {0, 10, MURGOLAB_NEVER, 10, 18, 28, 20, 26, 34},
+    {0, LEFT, 0, ABOVE, LEFT + ABOVE, LEFT, ABOVE, LEFT + ABOVE, LEFT + ABOVE},
+};
 static game even_game(void)
 {
     game g = good;
@@ -40,12 +56,14 @@ static game even_game(void)
 
 /* Two by two in two storeys, slowness 10, walls in the last cell of the lower one and over the start. The last cell is
  * reached from the left and from above: under it is a wall. */
-static const uint32_t solved_house[8] = {0, 10, 10, MURGOLAB_NEVER, MURGOLAB_NEVER, 20, 20, 28};
+static const front solved_house = {
+    {0, 10, 10, MURGOLAB_NEVER, MURGOLAB_NEVER, 20, 20, 28, 0}, {0, LEFT, ABOVE, 0, 0, UNDER, UNDER, LEFT + ABOVE, 0},
+};
 static game house_game(void)
 {
     game g = even_game();
     g.width = g.height = g.storeys = 2;
-    g.slow_len = g.times_len = 8;
+    g.slow_len = g.times_len = g.sides_len = 8;
     g.work_len = 33;
     g.slow[2] = MURGOLAB_PAIR(10, 10);
     g.slow[3] = g.slow[4] = 0;
@@ -55,7 +73,10 @@ static game house_game(void)
 }
 
 /* The same without walls: the last cell is reached on three axes at once. */
-static const uint32_t solved_open[8] = {0, 10, 10, 18, 10, 18, 18, 24};
+static const front solved_open = {
+    {0, 10, 10, 18, 10, 18, 18, 24, 0},
+    {0, LEFT, ABOVE, LEFT + ABOVE, UNDER, LEFT + UNDER, ABOVE + UNDER, LEFT + ABOVE + UNDER, 0},
+};
 static game open_game(void)
 {
     game g = house_game();
@@ -66,7 +87,7 @@ static game open_game(void)
 
 /* The game's lists as they are lent; starts are its cells and begins as records. */
 typedef struct {
-    lent slow, cells, begins, starts, order, times, work;
+    lent slow, cells, begins, starts, order, times, sides, work;
 } lists;
 
 static murgolab_reply plain_call(enum kind kind, const game *g, const lists *l)
@@ -75,15 +96,17 @@ static murgolab_reply plain_call(enum kind kind, const game *g, const lists *l)
     case MARCH:
         return murgolab_march_plain(g->width, g->height, g->storeys, l->slow.list, g->slow_len,
             l->cells.list, g->cells_len, l->begins.list, g->begins_len, g->bound,
-            l->times.list, g->times_len, l->work.list, g->work_len);
+            l->times.list, g->times_len, l->sides.list, g->sides_len, l->work.list, g->work_len);
     case ROUND:
         return murgolab_one_round_plain(g->width, g->height, g->storeys, l->slow.list, g->slow_len,
             l->cells.list, g->cells_len, l->begins.list, g->begins_len, g->across, g->down, g->bound,
-            l->order.list, g->order_len, l->times.list, g->times_len, l->work.list, g->work_len);
+            l->order.list, g->order_len,
+            l->times.list, g->times_len, l->sides.list, g->sides_len, l->work.list, g->work_len);
     default:
         return murgolab_tile_run_plain(g->width, g->height, g->storeys, l->slow.list, g->slow_len,
             l->cells.list, g->cells_len, l->begins.list, g->begins_len, g->across, g->down, g->stride, g->bound,
-            l->order.list, g->order_len, l->times.list, g->times_len, l->work.list, g->work_len);
+            l->order.list, g->order_len,
+            l->times.list, g->times_len, l->sides.list, g->sides_len, l->work.list, g->work_len);
     }
 }
 
@@ -92,15 +115,18 @@ static murgolab_reply record_call(enum kind kind, const game *g, const lists *l)
     switch (kind) {
     case MARCH:
         return murgolab_march(g->width, g->height, g->storeys, l->slow.list, g->slow_len,
-            l->starts.list, g->cells_len, g->bound, l->times.list, g->times_len, l->work.list, g->work_len);
+            l->starts.list, g->cells_len, g->bound,
+            l->times.list, g->times_len, l->sides.list, g->sides_len, l->work.list, g->work_len);
     case ROUND:
         return murgolab_one_round(g->width, g->height, g->storeys, l->slow.list, g->slow_len,
             l->starts.list, g->cells_len, g->across, g->down, g->bound,
-            l->order.list, g->order_len, l->times.list, g->times_len, l->work.list, g->work_len);
+            l->order.list, g->order_len,
+            l->times.list, g->times_len, l->sides.list, g->sides_len, l->work.list, g->work_len);
     default:
         return murgolab_tile_run(g->width, g->height, g->storeys, l->slow.list, g->slow_len,
             l->starts.list, g->cells_len, g->across, g->down, g->stride, g->bound,
-            l->order.list, g->order_len, l->times.list, g->times_len, l->work.list, g->work_len);
+            l->order.list, g->order_len,
+            l->times.list, g->times_len, l->sides.list, g->sides_len, l->work.list, g->work_len);
     }
 }
 
@@ -131,16 +157,19 @@ static void records_of(const uint32_t *cells, const uint32_t *begins, murgolab_s
     }
 }
 
-/* Plays the game with times that hold 7 and work that holds 9; it must give this answer and leave these times. */
-static void play_form(enum form form, enum kind kind, game g, murgolab_reply want, const uint32_t *after)
+/* Plays the game with times that hold 7, sides that hold 238 and work that holds 9; it must give this answer and leave
+ * these times and sides. */
+static void play_form(enum form form, enum kind kind, game g, murgolab_reply want, const front *after)
 {
     uint32_t times[10], work[40], cleared[40];
+    uint8_t sides[10];
     murgolab_start records[3];
     murgolab_reply r;
     lists l;
     size_t i;
     for (i = 0; i < 10; i++)
         times[i] = 7;
+    memset(sides, 238, sizeof sides);
     for (i = 0; i < 40; i++) {
         work[i] = 9;
         cleared[i] = i < 4 * g.width * g.height * g.storeys ? 0 : 9;
@@ -152,6 +181,7 @@ static void play_form(enum form form, enum kind kind, game g, murgolab_reply wan
     l.starts = lend(records, g.cells_len, sizeof *records);
     l.order = lend(g.order, g.order_len, 4);
     l.times = lend(times, g.times_len, 4);
+    l.sides = lend(sides, g.sides_len, 1);
     l.work = lend(work, g.work_len, 4);
     sprintf(now, "%s%s, wanted number %u", names[kind], endings[form], (unsigned)want.number);
     r = form == PLAIN ? plain_call(kind, &g, &l) : record_call(kind, &g, &l);
@@ -161,19 +191,20 @@ static void play_form(enum form form, enum kind kind, game g, murgolab_reply wan
     back(l.begins, g.begins, "begins is altered");
     back(l.starts, records, "starts is altered");
     back(l.order, g.order, "order is altered");
-    back(l.times, want.number == 0 ? after : times, "times");
+    back(l.times, want.number == 0 ? after->times : times, "times");
+    back(l.sides, want.number == 0 ? after->sides : sides, "sides");
     back(l.work, want.number == 0 ? cleared : work, "work");
 }
 
 /* In every form that the game has: start records have no lists of unequal length. */
-static void play(enum kind kind, game g, murgolab_reply want, const uint32_t *after)
+static void play(enum kind kind, game g, murgolab_reply want, const front *after)
 {
     play_form(PLAIN, kind, g, want, after);
     if (g.cells_len == g.begins_len)
         play_form(RECORDS, kind, g, want, after);
 }
 
-static void accepted(enum kind kind, game g, uint32_t count, const uint32_t *after)
+static void accepted(enum kind kind, game g, uint32_t count, const front *after)
 {
     play(kind, g, reply(0, count, 0), after);
 }
@@ -188,37 +219,44 @@ static void accepted(enum kind kind, game g, uint32_t count, const uint32_t *aft
 static void accepted_games(void)
 {
     /* two tiles, the last row being one; all stored times are 7, and each tile sees those of the other */
-    static const uint32_t rows[9] = {0, 10, MURGOLAB_NEVER, 10, 16, 17, 17, 17, 17};
+    static const front rows = {
+        {0, 10, MURGOLAB_NEVER, 10, 16, 17, 17, 17, 17},
+        {0, LEFT, 0, ABOVE, LEFT + BELOW, LEFT + BELOW, ABOVE, ABOVE, ABOVE},
+    };
     /* four tiles, each a cell and the one over it; the start's own is the one that has a start */
-    static const uint32_t columns[8] = {0, 15, 15, 15, 10, 15, 15, 15};
-    uint32_t never[9];
+    static const front columns = {
+        {0, 15, 15, 15, 10, 15, 15, 15, 0},
+        {0, LEFT + BELOW, RIGHT + ABOVE, LEFT + ABOVE, RIGHT + BELOW + UNDER, LEFT + BELOW, RIGHT + ABOVE,
+            LEFT + ABOVE, 0},
+    };
+    front never = {{0}, {0}};
     game two_tiles = even_game(), no_starts = good, small_tiles = open_game();
     size_t i;
     for (i = 0; i < 9; i++)
-        never[i] = MURGOLAB_NEVER;
-    accepted(MARCH, good, 8, solved);
-    accepted(RUN, good, 5, solved);
-    accepted(MARCH, even_game(), 8, solved_even);
-    accepted(RUN, even_game(), 4, solved_even);
+        never.times[i] = MURGOLAB_NEVER;
+    accepted(MARCH, good, 8, &solved);
+    accepted(RUN, good, 5, &solved);
+    accepted(MARCH, even_game(), 8, &solved_even);
+    accepted(RUN, even_game(), 4, &solved_even);
     two_tiles.across = 3;
     two_tiles.order_len = 2;
     two_tiles.order[0] = 1;
     two_tiles.order[1] = 0;
     two_tiles.bound = 17;
-    accepted(ROUND, two_tiles, 9, rows);
-    accepted(MARCH, house_game(), 6, solved_house);
-    accepted(RUN, house_game(), 3, solved_house);
-    accepted(MARCH, open_game(), 8, solved_open);
-    accepted(RUN, open_game(), 3, solved_open);
+    accepted(ROUND, two_tiles, 9, &rows);
+    accepted(MARCH, house_game(), 6, &solved_house);
+    accepted(RUN, house_game(), 3, &solved_house);
+    accepted(MARCH, open_game(), 8, &solved_open);
+    accepted(RUN, open_game(), 3, &solved_open);
     small_tiles.across = small_tiles.down = 1;
     small_tiles.order_len = 4;
     for (i = 0; i < 4; i++)
         small_tiles.order[i] = (uint32_t)(3 - i);
-    accepted(RUN, small_tiles, 4, solved_open);
-    accepted(ROUND, small_tiles, 8, columns);
+    accepted(RUN, small_tiles, 4, &solved_open);
+    accepted(ROUND, small_tiles, 8, &columns);
     starts(&no_starts, 0);
-    accepted(MARCH, no_starts, 0, never);
-    accepted(RUN, no_starts, 3, never);
+    accepted(MARCH, no_starts, 0, &never);
+    accepted(RUN, no_starts, 3, &never);
 }
 
 static void refused_games(enum kind kind)
@@ -249,6 +287,12 @@ static void refused_games(enum kind kind)
     REFUSED(13, g.times_len = 10);
     REFUSED(14, g.work_len = 0);
     REFUSED(14, g.work_len = 35);
+    REFUSED(14, g.sides_len = 0);
+    REFUSED(14, g.sides_len = 8);
+    REFUSED(14, g.sides_len = 10);
+    REFUSED(14, g.sides_len = 10; g.work_len = 0);
+    REFUSED(13, g.times_len = 10; g.sides_len = 10);
+    REFUSED(13, g.times_len = 8; g.sides_len = 8; g.work_len = 32);
     REFUSED(2, memset(&g, 0, sizeof g));
     REFUSED(23, g.storeys = 0; g.slow_len = 0);
     REFUSED(4, g.storeys = 0);
@@ -266,6 +310,8 @@ static void refused_games(enum kind kind)
     NO_HOUSE(9, g.cells[0] = 4);
     NO_HOUSE(13, g.times_len = 4);
     NO_HOUSE(14, g.work_len = 31);
+    NO_HOUSE(14, g.sides_len = 4);
+    NO_HOUSE(14, g.sides_len = 9);
     if (kind == MARCH)
         return;
     NO_HOUSE(12, g.order_len = 2; g.order[1] = 1); /* one tile has both storeys */
@@ -498,7 +544,7 @@ static void tablet_call(const uint8_t *bytes, size_t length, uint32_t stride, ui
     uint8_t garbage[4 * 9 + 1], times[4 * 9 + 1];
     uint64_t answer;
     lent file = lend(bytes, length, 1), out;
-    const uint32_t *after = bytes == house_file ? solved_house : solved;
+    const uint32_t *after = bytes == house_file ? solved_house.times : solved.times;
     size_t i, cells = bytes == house_file ? 8 : 9;
     memset(garbage, 77, sizeof garbage);
     memcpy(times, garbage, sizeof times);
@@ -560,6 +606,13 @@ static void answers(const char *what, murgolab_reply r, uint32_t number, uint32_
     check_reply(r, reply(number, count, 0));
 }
 
+static void rule(const char *what, murgolab_local_reply r, uint32_t number, uint32_t time, uint32_t sides)
+{
+    sprintf(now, "local rule %s", what);
+    check(r.number == number && r.time == time, "another answer");
+    check(r.sides == sides, "other sides");
+}
+
 static void turns(const char *what, murgolab_turn_reply r, uint32_t number, uint32_t turn, uint32_t to_go)
 {
     sprintf(now, "%s", what);
@@ -569,22 +622,24 @@ static void turns(const char *what, murgolab_turn_reply r, uint32_t number, uint
 static void numbers(void)
 {
     const uint32_t n = MURGOLAB_NEVER;
-    answers("local rule of 0 and 4", murgolab_local_rule(10, 10, 0, n, n, 4, n, n), 0, 9);
-    answers("local rule of three axes", murgolab_local_rule(10, 10, n, 0, 0, n, n, 0), 0, 6);
-    answers("local rule of a late third", murgolab_local_rule(10, 10, 0, n, 0, n, 7, n), 0, 8);
-    answers("local rule of over alone", murgolab_local_rule(10, 10, n, n, n, n, 5, 9), 0, 15);
-    answers("local rule of under alone", murgolab_local_rule(10, 10, n, n, n, n, 9, 5), 0, 15);
-    answers("local rule along a furrow", murgolab_local_rule(10, 20, n, 0, n, n, n, n), 0, 10);
-    answers("local rule across a furrow", murgolab_local_rule(10, 20, n, n, n, 0, n, n), 0, 20);
-    answers("local rule both ways", murgolab_local_rule(10, 20, 0, n, 0, n, 300000001, n), 0, 9);
-    answers("local rule of never", murgolab_local_rule(10, 20, n, n, 300000001, n, n, 300000001), 0, n);
-    answers("local rule of a wall", murgolab_local_rule(0, 0, 0, 0, 0, 0, 0, 0), 0, n);
-    answers("local rule of 4,096 and 0", murgolab_local_rule(4096, 0, 0, 0, 0, 0, 0, 0), 5, 0);
-    answers("local rule of 1 and 4,096", murgolab_local_rule(1, 4096, 0, 0, 0, 0, 0, 0), 5, 0);
-    answers("local rule of 10 and 0", murgolab_local_rule(10, 0, 0, 0, 0, 0, 0, 0), 21, 0);
-    answers("local rule of 0 and 10", murgolab_local_rule(0, 10, 0, 0, 0, 0, n, n), 21, 0);
-    answers("local rule of a furrow and over", murgolab_local_rule(10, 20, 0, 0, 0, 0, 300000000, n), 23, 0);
-    answers("local rule of a furrow and under", murgolab_local_rule(20, 10, n, n, n, n, n, 0), 23, 0);
+    rule("of 0 and 4", murgolab_local_rule(10, 10, 0, n, n, 4, n, n), 0, 9, LEFT + BELOW);
+    rule("of three axes", murgolab_local_rule(10, 10, n, 0, 0, n, n, 0), 0, 6, RIGHT + ABOVE + UNDER);
+    rule("of a late third", murgolab_local_rule(10, 10, 0, n, 0, n, 7, n), 0, 8, LEFT + ABOVE + OVER);
+    rule("of a third too late", murgolab_local_rule(10, 10, 0, n, 0, n, 8, n), 0, 8, LEFT + ABOVE);
+    rule("of six equal times", murgolab_local_rule(10, 10, 3, 3, 3, 3, 3, 3), 0, 9, LEFT + ABOVE + OVER);
+    rule("of over alone", murgolab_local_rule(10, 10, n, n, n, n, 5, 9), 0, 15, OVER);
+    rule("of under alone", murgolab_local_rule(10, 10, n, n, n, n, 9, 5), 0, 15, UNDER);
+    rule("along a furrow", murgolab_local_rule(10, 20, n, 0, n, n, n, n), 0, 10, RIGHT);
+    rule("across a furrow", murgolab_local_rule(10, 20, n, n, n, 0, n, n), 0, 20, BELOW);
+    rule("both ways", murgolab_local_rule(10, 20, 0, n, 0, n, 300000001, n), 0, 9, LEFT + ABOVE);
+    rule("of never", murgolab_local_rule(10, 20, n, n, 300000001, n, n, 300000001), 0, n, 0);
+    rule("of a wall", murgolab_local_rule(0, 0, 0, 0, 0, 0, 0, 0), 0, n, 0);
+    rule("of 4,096 and 0", murgolab_local_rule(4096, 0, 0, 0, 0, 0, 0, 0), 5, 0, 0);
+    rule("of 1 and 4,096", murgolab_local_rule(1, 4096, 0, 0, 0, 0, 0, 0), 5, 0, 0);
+    rule("of 10 and 0", murgolab_local_rule(10, 0, 0, 0, 0, 0, 0, 0), 21, 0, 0);
+    rule("of 0 and 10", murgolab_local_rule(0, 10, 0, 0, 0, 0, n, n), 21, 0, 0);
+    rule("of a furrow and over", murgolab_local_rule(10, 20, 0, 0, 0, 0, 300000000, n), 23, 0, 0);
+    rule("of a furrow and under", murgolab_local_rule(20, 10, n, n, n, n, n, 0), 23, 0, 0);
     answers("D of 255", murgolab_diagonal(255), 0, 181);
     answers("D of 256", murgolab_diagonal(256), 0, 182);
     answers("D of 4,095", murgolab_diagonal(4095), 0, 2896);

@@ -1,8 +1,8 @@
-//! March, round and run as calls on one list of times: what document 01's ledger enters and answers.
+//! March, round and run as calls on one list of times and one of sides: what document 01's ledger enters and answers.
 
 use crate::board::{side_is_good, Board, Grid};
 use crate::leap::run_by_leaps;
-use crate::march::{cut, solved};
+use crate::march::{march, Front};
 use crate::tiles::{altered, round, run_every_round, tile_count, Tiling};
 use crate::{Cause, Reply, LARGEST};
 
@@ -19,10 +19,34 @@ pub enum Kind {
     Run { across: u32, down: u32, stride: u32, horizon: u32, order: Vec<u32> },
 }
 
+/// The lengths of the lists that a call is lent for writing.
+#[derive(Clone, Copy, Debug, PartialEq, Eq)]
+pub struct Lengths {
+    pub times: usize,
+    pub sides: usize,
+    pub work: usize,
+}
+
+impl Lengths {
+    /// Those for so many cells.
+    pub fn of(size: usize) -> Lengths {
+        Lengths { times: size, sides: size, work: 4 * size }
+    }
+
+    /// The same with a work list that is longer than it must be by so much.
+    pub fn longer(self, more: u32) -> Lengths {
+        Lengths { work: self.work + more as usize, ..self }
+    }
+
+    /// Lists of these lengths, each of one number, or byte, throughout; no call leaves these.
+    pub fn filled(self) -> (Front, Vec<u32>) {
+        (Front { times: vec![LARGEST + 5; self.times], sides: vec![0xC5; self.sides] }, vec![6; self.work])
+    }
+}
+
 impl Call {
-    /// What the table has against this call; `times` and `work` are the lengths of the lists that are lent for
-    /// writing.
-    pub fn judge(&self, times: usize, work: usize) -> Result<(), Cause> {
+    /// What the table has against this call, with lent lists of these lengths.
+    pub fn judge(&self, lengths: Lengths) -> Result<(), Cause> {
         self.board.judge()?;
         let numbers_good = match self.kind {
             Kind::March { horizon } => horizon <= LARGEST,
@@ -40,44 +64,44 @@ impl Call {
                 return Err(12.into());
             }
         }
-        if times != self.board.size() {
+        if lengths.times != self.board.size() {
             return Err(13.into());
         }
-        if work < 4 * self.board.size() {
+        if lengths.sides != self.board.size() || lengths.work < 4 * self.board.size() {
             return Err(14.into());
         }
         Ok(())
     }
 
     /// Plays the call: the answer, and what the lent lists hold afterwards.
-    pub fn play(&self, times: &mut [u32], work: &mut [u32]) -> Reply {
-        if let Err(cause) = self.judge(times.len(), work.len()) {
+    pub fn play(&self, front: &mut Front, work: &mut [u32]) -> Reply {
+        let lengths = Lengths { times: front.times.len(), sides: front.sides.len(), work: work.len() };
+        if let Err(cause) = self.judge(lengths) {
             return Reply::refused(cause);
         }
-        let (count, after) = self.outcome(times);
-        times.copy_from_slice(&after);
+        let (count, after) = self.outcome(&front.times);
+        *front = after;
         work[..4 * self.board.size()].fill(0);
         Reply::accepted(count)
     }
 
-    /// Count and times of a call that is not refused.
-    fn outcome(&self, times: &[u32]) -> (u32, Vec<u32>) {
+    /// Count, times and sides of a call that is not refused.
+    fn outcome(&self, times: &[u32]) -> (u32, Front) {
         let grid = Grid::new(&self.board);
         match self.kind {
             Kind::March { horizon } => {
-                let all = solved(&grid);
-                let reached = all.iter().filter(|&&t| t <= horizon).count();
-                (reached as u32, cut(all, horizon))
+                let after = march(&grid, horizon);
+                let reached = after.times.iter().filter(|&&t| t <= horizon).count();
+                (reached as u32, after)
             }
             Kind::Round { across, down, bound, .. } => {
                 let tiling = Tiling::new(&grid, across, down);
                 let after = round(&grid, &tiling, bound, times);
-                (altered(times, &after), after)
+                (altered(times, &after.times), after)
             }
             Kind::Run { across, down, stride, horizon, .. } => {
                 let tiling = Tiling::new(&grid, across, down);
-                let rounds = rounds(&grid, &tiling, stride, horizon);
-                (rounds, cut(solved(&grid), horizon))
+                run(&grid, &tiling, stride, horizon)
             }
         }
     }
@@ -93,14 +117,17 @@ fn order_is_good(order: &[u32], tiles: u32) -> bool {
 /// As many rounds of as many cells are worked out one by one.
 pub const MOST_WORKED: u64 = 20_000_000;
 
-/// The number of rounds of a run. Every round is worked out where that is not too much; the count by
-/// leaps must then be the same. Either way the run must end at the times of the march.
-pub fn rounds(grid: &Grid, tiling: &Tiling, stride: u32, horizon: u32) -> u32 {
+/// The number of rounds of a run, and what it leaves. Every round is worked out where that is not too much; the count
+/// by leaps must then be the same, and the sides that the last round leaves those of the march. Either way the run must
+/// end at the times of the march.
+pub fn run(grid: &Grid, tiling: &Tiling, stride: u32, horizon: u32) -> (u32, Front) {
     let (count, times) = run_by_leaps(grid, tiling, stride, horizon);
-    assert_eq!(times, cut(solved(grid), horizon), "the second solver's run does not end at its march");
+    let marched = march(grid, horizon);
+    assert_eq!(times, marched.times, "the second solver's run does not end at its march");
     if count * grid.size() as u64 <= MOST_WORKED {
-        let worked = run_every_round(grid, tiling, stride, horizon);
-        assert_eq!(worked, (count, times), "the second solver's leaps miss rounds");
+        let (worked, left) = run_every_round(grid, tiling, stride, horizon);
+        assert_eq!(worked, count, "the second solver's leaps miss rounds");
+        assert_eq!(left, marched, "the second solver's last round does not leave its march");
     }
-    count as u32
+    (count as u32, marched)
 }

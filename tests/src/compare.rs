@@ -4,6 +4,7 @@
 use crate::board::Board;
 use crate::calls::Call;
 use crate::lent::{difference, Lent};
+use crate::march::Front;
 use crate::scenario::{self, Held, Scenario};
 use crate::shown;
 use crate::Reply;
@@ -11,28 +12,30 @@ use std::collections::BTreeMap;
 use std::fmt::Debug;
 
 /// The engine's way to play a call: one of `ffi`.
-pub type Engine = fn(&Call, &mut [u32], &mut [u32]) -> Reply;
+pub type Engine = fn(&Call, &mut [u32], &mut [u8], &mut [u32]) -> Reply;
 
-/// Answer, times and work of the engine alone, for a call on lists that hold these.
-pub fn engine_alone(engine: Engine, call: &Call, times: &[u32], work: &[u32]) -> (Reply, Vec<u32>, Vec<u32>) {
-    let (mut times, mut work) = (Lent::new(times), Lent::new(work));
-    let reply = engine(call, times.lend(), work.lend());
-    (reply, times.back().to_vec(), work.back().to_vec())
+/// Answer, times and sides, and work of the engine alone, for a call on lists that hold these.
+pub fn engine_alone(engine: Engine, call: &Call, front: &Front, work: &[u32]) -> (Reply, Front, Vec<u32>) {
+    let (mut times, mut sides, mut work) = (Lent::new(&front.times), Lent::new(&front.sides), Lent::new(work));
+    let reply = engine(call, times.lend(), sides.lend(), work.lend());
+    let left = Front { times: times.back().to_vec(), sides: sides.back().to_vec() };
+    (reply, left, work.back().to_vec())
 }
 
-/// One list of times, held twice: the engine is lent its own from call to call, the second solver keeps
-/// its own. Neither is ever set to what the other holds.
+/// One list of times and one of sides, held twice: the engine is lent its own from call to call, the second solver
+/// keeps its own. Neither is ever set to what the other holds.
 pub struct Ledger {
-    lent: Lent<u32>,
-    kept: Vec<u32>,
+    lent_times: Lent<u32>,
+    lent_sides: Lent<u8>,
+    kept: Front,
 }
 
 impl Ledger {
-    pub fn new(times: &[u32]) -> Ledger {
-        Ledger { lent: Lent::new(times), kept: times.to_vec() }
+    pub fn new(front: &Front) -> Ledger {
+        Ledger { lent_times: Lent::new(&front.times), lent_sides: Lent::new(&front.sides), kept: front.clone() }
     }
 
-    pub fn times(&self) -> &[u32] {
+    pub fn front(&self) -> &Front {
         &self.kept
     }
 
@@ -41,19 +44,20 @@ impl Ledger {
         let (before, mut want_work) = (self.kept.clone(), work.to_vec());
         let want = call.play(&mut self.kept, &mut want_work);
         let mut lent_work = Lent::new(work);
-        let got = engine(call, self.lent.lend(), lent_work.lend());
-        let told = || format!("seed {}: {:?}\nwith times {:?}\nand {} work entries", seed, call, before, work.len());
+        let got = engine(call, self.lent_times.lend(), self.lent_sides.lend(), lent_work.lend());
+        let told = || format!("seed {}: {:?}\nwith {:?}\nand {} work entries", seed, call, before, work.len());
         assert_eq!(got, want, "the answer, {}", told());
-        assert_same("times", self.lent.back(), &self.kept, told);
+        assert_same("times", self.lent_times.back(), &self.kept.times, told);
+        assert_same("sides", self.lent_sides.back(), &self.kept.sides, told);
         assert_same("work", lent_work.back(), &want_work, told);
         want
     }
 }
 
-/// Plays the call on lists that hold `times` and `work`; answers what both answer, and the times that
-/// both leave.
-pub fn play_both(engine: Engine, call: &Call, times: &[u32], work: &[u32], seed: u64) -> (Reply, Vec<u32>) {
-    let mut ledger = Ledger::new(times);
+/// Plays the call on lists that hold `front` and `work`; answers what both answer, and the times and sides that both
+/// leave.
+pub fn play_both(engine: Engine, call: &Call, front: &Front, work: &[u32], seed: u64) -> (Reply, Front) {
+    let mut ledger = Ledger::new(front);
     let reply = ledger.play(engine, call, work, seed);
     (reply, ledger.kept)
 }

@@ -1,7 +1,7 @@
 //! Calls that the table has something against.
 
 use crate::board::Board;
-use crate::calls::{Call, Kind};
+use crate::calls::{Call, Kind, Lengths};
 use crate::random::Random;
 use crate::rule::pair;
 use crate::scenario::Held;
@@ -44,14 +44,26 @@ pub fn first_of(causes: &[u32]) -> u32 {
 
 /// Gives a call the cause `number`, where it can have it. Earlier causes may hide it, so the second
 /// solver says what is answered.
-pub fn spoil_call(r: &mut Random, call: &mut Call, times: &mut usize, work: &mut usize, number: u32) {
+pub fn spoil_call(r: &mut Random, call: &mut Call, lengths: &mut Lengths, number: u32) {
+    let Lengths { times, sides, work } = lengths;
     match number {
         10 => spoil_numbers(r, &mut call.kind),
         11 | 12 => spoil_tiles(r, &mut call.kind, number),
-        13 => *times = r.pick(&[0, 1, times.saturating_sub(1), *times + 1, 2 * *times]),
-        14 => *work = r.pick(&[0, 1, *work / 4, *work / 2, work.saturating_sub(1)]),
+        13 => *times = another_length(r, *times),
+        14 if r.once_in(2) => *sides = another_length(r, *sides),
+        14 => *work = too_short(r, *work),
         _ => spoil_board(r, &mut call.board, number),
     }
+}
+
+/// The length of a list that must have at least so many entries.
+pub fn too_short(r: &mut Random, least: usize) -> usize {
+    r.pick(&[0, 1, least / 4, least / 2, least.saturating_sub(1)])
+}
+
+/// The length of a list that must have just so many entries.
+fn another_length(r: &mut Random, right: usize) -> usize {
+    r.pick(&[0, 1, right.saturating_sub(1), right + 1, 2 * right])
 }
 
 /// The same for what is handed to the writer; `out` is the length of the list that it is lent.

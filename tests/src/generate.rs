@@ -1,8 +1,8 @@
 //! Seeded boards, calls and scenarios that the table has nothing against.
 
 use crate::board::{size_of, Board, Grid};
-use crate::calls::{Call, Kind};
-use crate::march::solved;
+use crate::calls::{Call, Kind, Lengths};
+use crate::march::{solved, Front};
 use crate::random::Random;
 use crate::rule::{equal, pair, parts};
 use crate::scenario::Held;
@@ -140,6 +140,16 @@ pub fn stored(r: &mut Random, board: &Board) -> Vec<u32> {
 
 pub fn garbage(r: &mut Random, length: usize) -> Vec<u32> {
     (0..length).map(|_| r.any()).collect()
+}
+
+pub fn garbage_bytes(r: &mut Random, length: usize) -> Vec<u8> {
+    (0..length).map(|_| r.any() as u8).collect()
+}
+
+/// Lists of these lengths that a call may be lent for writing: times and sides, and work.
+pub fn garbage_lists(r: &mut Random, lengths: Lengths) -> (Front, Vec<u32>) {
+    let front = Front { times: garbage(r, lengths.times), sides: garbage_bytes(r, lengths.sides) };
+    (front, garbage(r, lengths.work))
 }
 
 /// A horizon or a bound: at the ends of its range, anywhere, and close to a time of the board.

@@ -8,9 +8,9 @@
 //!
 //! | Module | Holds |
 //! |---|---|
-//! | `rule` | pairs, the local rule and D by search, turn numbers by quotient and remainder |
+//! | `rule` | pairs, the local rule, D by search and sides, turn numbers by quotient and remainder |
 //! | `board` | boards with plain start lists, and refusals 2, 4, 5, 21, 23, 7, 18, 8, 9 |
-//! | `march` | the times of a whole board: by passes, and by an advancing front |
+//! | `march` | the times of a whole board: by passes, and by an advancing front; the sides of its cells |
 //! | `tiles` | one round over tiles, a tile run with every round worked out, how many rounds a single tile takes |
 //! | `leap` | a tile run that skips idle rounds, written apart from `tiles` |
 //! | `calls` | march, round and run as calls: refusals, answers, what lent lists hold afterwards |
@@ -113,6 +113,25 @@ impl TurnReply {
 
     pub fn refused(number: u32) -> TurnReply {
         TurnReply { number, turn: 0, to_go: 0 }
+    }
+}
+
+/// What the call `local_rule` answers: number 0, a time and its sides, or a refusal's number and zeros.
+#[repr(C)]
+#[derive(Clone, Copy, Debug, PartialEq, Eq)]
+pub struct LocalReply {
+    pub number: u32,
+    pub time: u32,
+    pub sides: u32,
+}
+
+impl LocalReply {
+    pub fn accepted(time: u32, sides: u8) -> LocalReply {
+        LocalReply { number: 0, time, sides: sides.into() }
+    }
+
+    pub fn refused(number: u32) -> LocalReply {
+        LocalReply { number, time: 0, sides: 0 }
     }
 }
 

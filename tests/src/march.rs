@@ -1,17 +1,53 @@
-//! The times of a whole board. Just one set of times meets the rule in every cell, so any way that
-//! ends with every cell meeting it has found them.
+//! The times of a whole board, and its cells' sides. Just one set of times meets the rule in every cell, so any way
+//! that ends with every cell meeting it has found them.
 
 use crate::board::{Grid, OFF};
-use crate::rule::local;
+use crate::rule::{local, sides};
 use crate::NEVER;
 use std::cmp::Reverse;
 use std::collections::BinaryHeap;
 
+/// What a march, a round or a run leaves.
+#[derive(Clone, Debug, PartialEq, Eq)]
+pub struct Front {
+    pub times: Vec<u32>,
+    /// A byte a cell, as `rule::sides` has it.
+    pub sides: Vec<u8>,
+}
+
+impl Front {
+    /// These times, and sides that are still to be written: each a byte that no call leaves.
+    pub fn holding(times: impl Into<Vec<u32>>) -> Front {
+        let times = times.into();
+        let sides = (0..times.len()).map(|c| c as u8 | 0xC0).collect();
+        Front { times, sides }
+    }
+}
+
+/// The times around cell c where it sees the times `seen`, never beyond the edge.
+fn around(grid: &Grid, c: usize, seen: impl Fn(usize) -> u32) -> [u32; 6] {
+    grid.near[c].map(|e| if e == OFF { NEVER } else { seen(e) })
+}
+
 /// What cell c must hold when it sees the times `seen`: the earlier of its start and the local rule.
 pub fn met(grid: &Grid, c: usize, seen: impl Fn(usize) -> u32) -> u32 {
-    let see = |e: usize| if e == OFF { NEVER } else { seen(e) };
-    let by_front = local(grid.slow[c], grid.near[c].map(see));
-    grid.start[c].min(by_front)
+    grid.start[c].min(local(grid.slow[c], around(grid, c, seen)))
+}
+
+/// These times with the sides of every cell; `seen(c, e)` is what cell c sees of cell e. A cell has none that is never,
+/// and none whose start is no later than the local rule's time.
+pub fn with_sides(grid: &Grid, times: Vec<u32>, seen: impl Fn(usize, usize) -> u32) -> Front {
+    let of_cell = |c: usize| {
+        let near = around(grid, c, |e| seen(c, e));
+        let by_front = local(grid.slow[c], near);
+        if times[c] == NEVER || grid.start[c] <= by_front {
+            0
+        } else {
+            sides(near, by_front)
+        }
+    };
+    let sides = (0..grid.size()).map(of_cell).collect();
+    Front { times, sides }
 }
 
 /// Passes over the cells, there and back, until one of them alters nothing. `seen(times, e)` is what
@@ -76,6 +112,12 @@ pub fn solved(grid: &Grid) -> Vec<u32> {
     } else {
         solved_by_front(grid)
     }
+}
+
+/// The march to a horizon: its cells see the times that it leaves.
+pub fn march(grid: &Grid, horizon: u32) -> Front {
+    let times = cut(solved(grid), horizon);
+    with_sides(grid, times.clone(), |_, e| times[e])
 }
 
 /// Each time up to the bound, never elsewhere.

@@ -1,6 +1,6 @@
-//! The local rule, D and turn numbers.
+//! The local rule, sides, D and turn numbers.
 
-use crate::{Reply, TurnReply, LARGEST, NEVER, SLOWEST};
+use crate::{LocalReply, Reply, TurnReply, LARGEST, NEVER, SLOWEST};
 
 /// A slowness as lists and files have it: g along the row, h down the column, each of 16 bits.
 pub const fn pair(g: u32, h: u32) -> u32 {
@@ -81,6 +81,27 @@ fn earliest(times: [u32; 3]) -> u32 {
     times[0].min(times[1]).min(times[2])
 }
 
+/// One side of an axis, as card 6 has it: the first of its two neighbours, as 1, if its time is below the answer and
+/// not above the other's; otherwise the second, as 2, if below the answer; otherwise none, as 0.
+fn side_of_axis(first: u32, second: u32, answer: u32) -> u8 {
+    if first < answer && first <= second {
+        1
+    } else if second < answer {
+        2
+    } else {
+        0
+    }
+}
+
+/// The byte of a cell's sides, from the times that it sees and its answer: those of the row, 4 × those of the column
+/// and 16 × those of the storeys. An answer that is never has none.
+pub fn sides([left, right, above, below, over, under]: [u32; 6], answer: u32) -> u8 {
+    if answer == NEVER {
+        return 0;
+    }
+    side_of_axis(left, right, answer) + 4 * side_of_axis(above, below, answer) + 16 * side_of_axis(over, under, answer)
+}
+
 /// D(s): the least d with 2d² at least s².
 pub fn diagonal_step(s: u32) -> u32 {
     let mut d = 0;
@@ -91,18 +112,19 @@ pub fn diagonal_step(s: u32) -> u32 {
 }
 
 /// What the call `local_rule` answers.
-pub fn local_rule([g, h]: [u32; 2], times: [u32; 6]) -> Reply {
+pub fn local_rule([g, h]: [u32; 2], times: [u32; 6]) -> LocalReply {
     if g > SLOWEST || h > SLOWEST {
-        return Reply::refused(5);
+        return LocalReply::refused(5);
     }
     if (g == 0) != (h == 0) {
-        return Reply::refused(21);
+        return LocalReply::refused(21);
     }
     let near = times.map(counted);
     if g != h && axes(near)[2] != NEVER {
-        return Reply::refused(23);
+        return LocalReply::refused(23);
     }
-    Reply::accepted(local(pair(g, h), near))
+    let time = local(pair(g, h), near);
+    LocalReply::accepted(time, sides(near, time))
 }
 
 /// What the call `diagonal` answers.

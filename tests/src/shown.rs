@@ -1,7 +1,7 @@
 //! What people see of a scenario: the tablet's call and the lines of `rings`.
 
 use crate::board::{side_is_good, Grid};
-use crate::calls::rounds;
+use crate::calls::run;
 use crate::march::{cut, solved};
 use crate::rule::turn;
 use crate::scenario::{judge, Held, Limit};
@@ -35,10 +35,11 @@ pub fn tablet(file: &[u8], stride: u32, across: u32, down: u32, out: &mut [u8]) 
         return 14;
     }
     let grid = Grid::new(&held.board);
-    for (c, time) in cut(solved(&grid), SHOWN_HORIZON).into_iter().enumerate() {
+    let (rounds, left) = run(&grid, &Tiling::new(&grid, across, down), stride, SHOWN_HORIZON);
+    for (c, time) in left.times.into_iter().enumerate() {
         out[4 * c..4 * c + 4].copy_from_slice(&time.to_le_bytes());
     }
-    256 * u64::from(rounds(&grid, &Tiling::new(&grid, across, down), stride, SHOWN_HORIZON))
+    256 * u64::from(rounds)
 }
 
 /// What `rings` prints for a file. Its tile run ends at the times of the march, whatever its tiles

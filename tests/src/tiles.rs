@@ -1,7 +1,7 @@
 //! One round over tiles, a tile run with every round worked out, and how many rounds a single tile takes.
 
 use crate::board::Grid;
-use crate::march::{cut, settle};
+use crate::march::{cut, settle, with_sides, Front};
 use crate::rule::counted;
 use crate::NEVER;
 
@@ -44,18 +44,21 @@ pub fn ghosts(grid: &Grid, stored: &[u32]) -> Vec<u32> {
     stored.iter().zip(&grid.slow).map(see).collect()
 }
 
-/// The times after one round: each tile is solved by passes, with what its neighbours held before.
-pub fn round(grid: &Grid, tiling: &Tiling, bound: u32, stored: &[u32]) -> Vec<u32> {
+/// Times and sides after one round: each tile is solved by passes, with what its neighbours held before. A cell's sides
+/// come from the times that its tile saw: of its own cells those that the round leaves, of others what they held
+/// before.
+pub fn round(grid: &Grid, tiling: &Tiling, bound: u32, stored: &[u32]) -> Front {
     let ghosts = ghosts(grid, stored);
     let mut times = vec![NEVER; grid.size()];
     for (tile, cells) in tiling.cells.iter().enumerate() {
         let seen = |times: &[u32], e: usize| if tiling.of[e] == tile { times[e] } else { ghosts[e] };
         settle(grid, cells, &mut times, seen);
     }
-    cut(times, bound)
+    let times = cut(times, bound);
+    with_sides(grid, times.clone(), |c, e| if tiling.of[c] == tiling.of[e] { times[e] } else { ghosts[e] })
 }
 
-/// The entries that differ, as bare numbers.
+/// The entries of times that differ, as bare numbers.
 pub fn altered(before: &[u32], after: &[u32]) -> u32 {
     before.iter().zip(after).filter(|(a, b)| a != b).count() as u32
 }
@@ -65,17 +68,17 @@ pub fn bound_of(k: u64, stride: u32, horizon: u32) -> u32 {
     (k * u64::from(stride)).min(u64::from(horizon)) as u32
 }
 
-/// The number of rounds and the times of a run, each round worked out.
-pub fn run_every_round(grid: &Grid, tiling: &Tiling, stride: u32, horizon: u32) -> (u64, Vec<u32>) {
+/// The number of rounds of a run, and what it leaves, each round worked out. A round may alter sides and no time: the
+/// times alone say which one is the last.
+pub fn run_every_round(grid: &Grid, tiling: &Tiling, stride: u32, horizon: u32) -> (u64, Front) {
     let mut times = vec![NEVER; grid.size()];
     let mut k = 1;
     loop {
         let next = round(grid, tiling, bound_of(k, stride, horizon), &times);
-        let same = next == times;
-        times = next;
-        if same && k * u64::from(stride) >= u64::from(horizon) {
-            return (k, times);
+        if next.times == times && k * u64::from(stride) >= u64::from(horizon) {
+            return (k, next);
         }
+        times = next.times;
         k += 1;
     }
 }

@@ -2,23 +2,29 @@
 //! several.
 
 use second_solver::board::{Board, Grid};
-use second_solver::calls::{Call, Kind, MOST_WORKED};
+use second_solver::calls::{Call, Kind, Lengths, MOST_WORKED};
 use second_solver::compare::{engine_alone, play_both, Ledger};
 use second_solver::ffi::engine::play;
 use second_solver::ffi::engine_records;
 use second_solver::generate::{self, board_of};
-use second_solver::march::solved;
+use second_solver::march::{solved, Front};
 use second_solver::random::Random;
 use second_solver::tiles::{bound_of, round, tile_count, up, Tiling};
 use second_solver::{LARGEST, NEVER};
 use std::collections::BTreeSet;
 
-/// Plays a good call: the times hold anything, the work list is longer than it must be.
-fn compare(r: &mut Random, call: &Call, seed: u64) -> (u32, Vec<u32>) {
-    let times = generate::stored(r, &call.board);
-    let longer = r.below(9) as usize;
-    let work = generate::garbage(r, 4 * call.board.size() + longer);
-    let (reply, after) = play_both(play, call, &times, &work, seed);
+/// Times and sides that hold anything, and a work list that is longer than it must be, by 8 entries at most.
+fn lists(r: &mut Random, board: &Board) -> (Front, Vec<u32>) {
+    let times = generate::stored(r, board);
+    let lengths = Lengths::of(board.size()).longer(r.below(9));
+    let (front, work) = generate::garbage_lists(r, lengths);
+    (Front { times, ..front }, work)
+}
+
+/// Plays a good call.
+fn compare(r: &mut Random, call: &Call, seed: u64) -> (u32, Front) {
+    let (front, work) = lists(r, &call.board);
+    let (reply, after) = play_both(play, call, &front, &work, seed);
     assert_eq!(reply.number, 0, "seed {}: a good call is refused: {:?}", seed, call);
     (reply.count, after)
 }
@@ -82,8 +88,8 @@ fn tile_runs_of_random_boards_are_the_second_solvers() {
         let horizon = generate::horizon(&mut r, &board);
         let stride = generate::stride(&mut r, board.size(), horizon);
         let (size, kind) = (board.size() as u64, Kind::Run { across, down, stride, horizon, order });
-        let (rounds, times) = compare(&mut r, &Call { board, kind }, seed);
-        let reached = times.iter().filter(|&&t| t != NEVER).count() as u32;
+        let (rounds, left) = compare(&mut r, &Call { board, kind }, seed);
+        let reached = left.times.iter().filter(|&&t| t != NEVER).count() as u32;
         let least = up(horizon, stride).max(1);
         assert!((least..=least + reached).contains(&rounds), "seed {}: {} rounds", seed, rounds);
         long += u32::from(rounds > 1_000);
@@ -174,8 +180,8 @@ fn rounds_go_on_where_the_stride_times_their_number_passes_32_bits() {
     }
 }
 
-/// As many single rounds as a run answers, from all never and with its bounds, leave the run's times;
-/// the last alters nothing, and none at the horizon before it does so. The run is the engine's alone.
+/// As many single rounds as a run answers, from all never and with its bounds, leave the run's times and sides;
+/// the last alters no time, and none at the horizon before it does so. The run is the engine's alone.
 #[test]
 fn a_tile_run_is_as_many_single_rounds_as_it_answers() {
     for seed in 7_000_000..7_001_500 {
@@ -185,10 +191,10 @@ fn a_tile_run_is_as_many_single_rounds_as_it_answers() {
         let horizon = generate::horizon(&mut r, &board);
         let stride = (horizon / r.within(1, 40)).max(1);
         let run = Call { board: board.clone(), kind: Kind::Run { across, down, stride, horizon, order } };
-        let (times, work) = (generate::stored(&mut r, &board), generate::garbage(&mut r, 4 * board.size()));
-        let (reply, after, _) = engine_alone(play, &run, &times, &work);
+        let (front, work) = lists(&mut r, &board);
+        let (reply, after, _) = engine_alone(play, &run, &front, &work);
         assert!(reply.number == 0 && reply.count > 0, "seed {}: {:?} of {:?}", seed, reply, run);
-        let mut ledger = Ledger::new(&vec![NEVER; board.size()]);
+        let mut ledger = Ledger::new(&Front::holding(vec![NEVER; board.size()]));
         for k in 1..=u64::from(reply.count) {
             let bound = bound_of(k, stride, horizon);
             let order = generate::order(&mut r, tile_count(board.width, board.height, across, down));
@@ -198,7 +204,7 @@ fn a_tile_run_is_as_many_single_rounds_as_it_answers() {
                 assert_eq!(altered == 0, k == u64::from(reply.count), "seed {}, round {}: {:?}", seed, k, call);
             }
         }
-        assert_eq!(ledger.times(), after, "seed {}: {:?}", seed, run);
+        assert_eq!(ledger.front(), &after, "seed {}: {:?}", seed, run);
     }
 }
 
@@ -227,7 +233,7 @@ fn lowers_again(board: &Board, across: u32, down: u32, stride: u32, horizon: u32
     let tiling = Tiling::new(&grid, across, down);
     let mut times = vec![NEVER; board.size()];
     for k in 1..30 {
-        let next = round(&grid, &tiling, bound_of(k, stride, horizon), &times);
+        let next = round(&grid, &tiling, bound_of(k, stride, horizon), &times).times;
         if times.iter().zip(&next).any(|(&before, &after)| before != NEVER && after < before) {
             return true;
         }
@@ -247,8 +253,7 @@ fn every_order_of_the_tiles_gives_the_same() {
         let board = board_of(&mut r, sides);
         let (across, down) = (r.within(1, 3), r.within(1, 3));
         let bound = generate::horizon(&mut r, &board);
-        let times = generate::stored(&mut r, &board);
-        let work = generate::garbage(&mut r, 4 * board.size() + 3);
+        let (front, work) = lists(&mut r, &board);
         let stride = (bound / r.within(1, 40)).max(1);
         let tiles = tile_count(board.width, board.height, across, down);
         let (mut orders, mut seen) = (BTreeSet::new(), Vec::new());
@@ -259,7 +264,7 @@ fn every_order_of_the_tiles_gives_the_same() {
             orders.insert(order);
             let [round, run] = [round, run].map(|kind| Call { board: board.clone(), kind });
             for engine in [play, engine_records::play] {
-                seen.push([&round, &run].map(|call| engine_alone(engine, call, &times, &work)));
+                seen.push([&round, &run].map(|call| engine_alone(engine, call, &front, &work)));
             }
         }
         assert!(seen.iter().flatten().all(|(reply, _, _)| reply.number == 0), "seed {}: refused", seed);

@@ -1,11 +1,11 @@
 //! Boards chosen by hand, and the largest ones: marches, single rounds and tile runs of the engine.
 
 use second_solver::board::{Board, Grid};
-use second_solver::calls::{Call, Kind};
+use second_solver::calls::{Call, Kind, Lengths};
 use second_solver::compare::{engine_alone, play_both};
 use second_solver::ffi::engine::play;
 use second_solver::generate::{self, snake, stairs};
-use second_solver::march::solved_by_passes;
+use second_solver::march::{solved_by_passes, Front};
 use second_solver::random::Random;
 use second_solver::rule::{equal, pair, parts};
 use second_solver::tiles::tile_count;
@@ -20,13 +20,19 @@ fn rising(board: &Board, across: u32, down: u32) -> Vec<u32> {
     (0..tile_count(board.width, board.height, across, down)).collect()
 }
 
-/// Answer and times of a call on a board whose times and work hold garbage.
+/// Answer and times of a call on a board whose times, sides and work hold garbage.
 fn outcome(board: &Board, kind: Kind) -> (Reply, Vec<u32>) {
     let call = Call { board: board.clone(), kind };
-    let mut r = Random::new(1);
-    let times = generate::garbage(&mut r, board.size());
-    let work = generate::garbage(&mut r, 4 * board.size() + 5);
-    play_both(play, &call, &times, &work, 1)
+    let (front, work) = generate::garbage_lists(&mut Random::new(1), Lengths::of(board.size()).longer(5));
+    let (reply, left) = play_both(play, &call, &front, &work, 1);
+    (reply, left.times)
+}
+
+/// The same on times that hold these, and sides that no call leaves.
+fn outcome_on(stored: &[u32], board: &Board, kind: Kind) -> (Reply, Vec<u32>) {
+    let call = Call { board: board.clone(), kind };
+    let (reply, left) = play_both(play, &call, &Front::holding(stored), &vec![7; 4 * board.size() + 1], 0);
+    (reply, left.times)
 }
 
 #[test]
@@ -92,6 +98,29 @@ impl View {
         (0..width * height * storeys).map(old_cell).collect()
     }
 
+    /// What is seen of such an entry to a cell.
+    fn seen<T: Copy>(self, board: &Board, entries: &[T]) -> Vec<T> {
+        self.cells(board).into_iter().map(|c| entries[c]).collect()
+    }
+
+    /// The view in which left, above and over are named of equal times where they were on the board. Left and above are
+    /// the lower numbers of their axes, over is the higher one of its own.
+    fn with_ties_kept(order: [usize; 3]) -> View {
+        View { order, back: [0, 1, 2].map(|k| (k == 2) != (order[k] == 2)) }
+    }
+
+    /// A cell's sides on axes that have changed places.
+    fn sides_seen(self, byte: u8) -> u8 {
+        let part = |k: usize| (byte >> (2 * self.order[k]) & 3) << (2 * k);
+        part(0) + part(1) + part(2)
+    }
+
+    /// Times and sides seen so, where ties are kept.
+    fn front_seen(self, board: &Board, front: &Front) -> Front {
+        let sides = self.seen(board, &front.sides).into_iter().map(|byte| self.sides_seen(byte)).collect();
+        Front { times: self.seen(board, &front.times), sides }
+    }
+
     /// The board seen so; the two numbers of its pairs change places, or not.
     fn of(self, board: &Board, swaps: bool) -> Board {
         let from = self.cells(board);
@@ -105,47 +134,51 @@ impl View {
     }
 }
 
-/// The engine's times of a board's march.
-fn marched(board: &Board) -> Vec<u32> {
+/// The engine's times and sides of a board's march.
+fn marched(board: &Board) -> Front {
     let call = Call { board: board.clone(), kind: Kind::March { horizon: LARGEST } };
-    let (reply, times, _) = engine_alone(play, &call, &vec![7; board.slow.len()], &vec![9; 4 * board.slow.len()]);
+    let (front, work) = Lengths::of(board.size()).filled();
+    let (reply, left, _) = engine_alone(play, &call, &front, &work);
     assert_eq!(reply.number, 0, "{:?}", board);
-    times
+    left
 }
 
 /// The engine beside itself: g and h change places with rows and columns. Where they do not, boards that tell the two
 /// apart have other times.
 #[test]
-fn a_transposed_board_has_the_transposed_times_only_if_g_and_h_change_places_too() {
+fn a_transposed_board_has_the_transposed_times_and_sides_only_if_g_and_h_change_places_too() {
     let mut told_apart = 0;
     for seed in 95_000_000..95_006_000 {
         let mut r = Random::new(seed);
         let board = generate::board(&mut r, 12);
-        let times = marched(&board);
-        let want: Vec<u32> = TRANSPOSED.cells(&board).into_iter().map(|c| times[c]).collect();
+        let want = TRANSPOSED.front_seen(&board, &marched(&board));
         assert_eq!(marched(&TRANSPOSED.of(&board, true)), want, "seed {}: {:?}", seed, board);
-        told_apart += u32::from(marched(&TRANSPOSED.of(&board, false)) != want);
+        told_apart += u32::from(marched(&TRANSPOSED.of(&board, false)).times != want.times);
     }
     assert!(told_apart > 700, "{} boards tell g and h apart", told_apart);
     let ploughed = three_by_three_ploughed();
-    assert_eq!(marched(&TRANSPOSED.of(&ploughed, true)), [0, 20, 40, 10, 26, 45, 20, 34, 51]);
-    assert_eq!(marched(&TRANSPOSED.of(&ploughed, false)), PLOUGHED);
+    assert_eq!(marched(&TRANSPOSED.of(&ploughed, true)).times, [0, 20, 40, 10, 26, 45, 20, 34, 51]);
+    assert_eq!(marched(&TRANSPOSED.of(&ploughed, false)).times, PLOUGHED);
 }
 
 const ORDERS: [[usize; 3]; 6] = [[0, 1, 2], [0, 2, 1], [1, 0, 2], [1, 2, 0], [2, 0, 1], [2, 1, 0]];
 
 /// The engine beside itself: the storeys are an axis as the others are, so a house that stands on any of its sides, or
-/// on its head, has the same times. Its sides are 8 at most, since storeys are.
+/// on its head, has the same times. Where it stands so that ties are kept, its cells have the same sides too. It is 8
+/// cells long at most each way, since storeys are.
 #[test]
-fn a_house_that_stands_on_another_side_has_the_same_times() {
+fn a_house_that_stands_on_another_side_has_the_same_times_and_sides() {
     for seed in 97_000_000..97_000_800 {
         let mut r = Random::new(seed);
         let sides = [r.within(1, 8), r.within(1, 6), r.within(2, 6)];
         let board = generate::board_of(&mut r, sides);
-        let times = marched(&board);
+        let front = marched(&board);
         for order in ORDERS {
             let view = View { order, back: [(); 3].map(|()| r.once_in(2)) };
-            let want: Vec<u32> = view.cells(&board).into_iter().map(|c| times[c]).collect();
+            let want = view.seen(&board, &front.times);
+            assert_eq!(marched(&view.of(&board, false)).times, want, "seed {}, {:?}: {:?}", seed, view, board);
+            let view = View::with_ties_kept(order);
+            let want = view.front_seen(&board, &front);
             assert_eq!(marched(&view.of(&board, false)), want, "seed {}, {:?}: {:?}", seed, view, board);
         }
     }
@@ -189,8 +222,7 @@ fn the_rounds_of_a_house_are_those_worked_by_hand() {
     let mut times = vec![n; 8];
     for (k, (want, altered)) in (1..).zip(after.iter().zip([2, 4, 2, 0])) {
         let kind = Kind::Round { across: 1, down: 1, bound: (10 * k).min(24), order: vec![3, 1, 0, 2] };
-        let call = Call { board: board.clone(), kind };
-        let (reply, next) = play_both(play, &call, &times, &[7; 32], u64::from(k));
+        let (reply, next) = outcome_on(&times, &board, kind);
         assert_eq!((reply, &next), (Reply::accepted(altered), want), "round {}", k);
         times = next;
     }
@@ -241,9 +273,7 @@ fn a_tile_sees_no_ghost_of_another_storey() {
         ([NEVER, NEVER, NEVER, 7], [27, NEVER, 17, NEVER]),
     ] {
         let kind = Kind::Round { across: 1, down: 1, bound: 100, order: vec![1, 0] };
-        let call = Call { board: board.clone(), kind };
-        let (reply, after) = play_both(play, &call, &stored, &[1; 16], 0);
-        assert_eq!((reply, after), (Reply::accepted(3), want.to_vec()), "{:?}", stored);
+        assert_eq!(outcome_on(&stored, &board, kind), (Reply::accepted(3), want.to_vec()), "{:?}", stored);
     }
 }
 
@@ -271,8 +301,7 @@ fn the_rounds_of_the_three_by_three_board_are_those_worked_by_hand() {
     for (k, (want, altered)) in after.iter().zip([4, 4, 1, 0]).enumerate() {
         let bound = if k == 0 { 20 } else { 34 };
         let kind = Kind::Round { across: 2, down: 2, bound, order: vec![3, 1, 0, 2] };
-        let call = Call { board: board.clone(), kind };
-        let (reply, next) = play_both(play, &call, &times, &[7; 36], k as u64);
+        let (reply, next) = outcome_on(&times, &board, kind);
         assert_eq!((reply, &next), (Reply::accepted(altered), want), "round {}", k + 1);
         times = next;
     }
@@ -337,15 +366,13 @@ fn stored_garbage_is_not_seen_but_its_change_is_counted() {
         ([NEVER, NEVER, NEVER], 0),
     ] {
         let kind = Kind::Round { across: 1, down: 1, bound: LARGEST, order: vec![2, 0, 1] };
-        let call = Call { board: board.clone(), kind };
-        let (reply, after) = play_both(play, &call, &stored, &[1; 12], 0);
-        assert_eq!((reply, after), (Reply::accepted(altered), vec![NEVER; 3]), "{:?}", stored);
+        let want = (Reply::accepted(altered), vec![NEVER; 3]);
+        assert_eq!(outcome_on(&stored, &board, kind), want, "{:?}", stored);
     }
     let open = Board { slow: vec![equal(10); 3], ..board };
     let kind = Kind::Round { across: 1, down: 1, bound: LARGEST, order: vec![0, 1, 2] };
-    let call = Call { board: open, kind };
-    let (reply, after) = play_both(play, &call, &[300_000_001, LARGEST - 10, NEVER], &[1; 12], 0);
-    assert_eq!((reply, after), (Reply::accepted(3), vec![LARGEST, NEVER, LARGEST]));
+    let got = outcome_on(&[300_000_001, LARGEST - 10, NEVER], &open, kind);
+    assert_eq!(got, (Reply::accepted(3), vec![LARGEST, NEVER, LARGEST]));
 }
 
 /// What a tile held is not used: a round can make a time later, or take it away.
@@ -353,9 +380,7 @@ fn stored_garbage_is_not_seen_but_its_change_is_counted() {
 fn a_round_forgets_what_the_tile_held() {
     let board = Board { width: 2, height: 1, storeys: 1, slow: vec![equal(10); 2], cells: vec![0], begins: vec![40] };
     let kind = Kind::Round { across: 2, down: 1, bound: 45, order: vec![0] };
-    let call = Call { board, kind };
-    let (reply, after) = play_both(play, &call, &[3, 13], &[1; 8], 0);
-    assert_eq!((reply, after), (Reply::accepted(2), vec![40, NEVER]));
+    assert_eq!(outcome_on(&[3, 13], &board, kind), (Reply::accepted(2), vec![40, NEVER]));
 }
 
 /// The largest boards: even, scattered, ploughed, walled, all cells starting, at random times and each before the last,
@@ -417,10 +442,7 @@ fn the_largest_boards_are_run_and_rounded_over_tiles() {
             let run = Kind::Run { across: side, down: side, stride, horizon: LARGEST, order: order.clone() };
             let (_, times) = outcome(&board, run);
             let kind = Kind::Round { across: side, down: side, bound: LARGEST, order: order.clone() };
-            let call = Call { board: board.clone(), kind };
-            let work = vec![3; 4 * board.size() + 1];
-            let (reply, _) = play_both(play, &call, &times, &work, stride.into());
-            assert_eq!(reply, Reply::accepted(0), "a round alters what a run left");
+            assert_eq!(outcome_on(&times, &board, kind), (Reply::accepted(0), times), "a round alters what a run left");
         }
     }
 }

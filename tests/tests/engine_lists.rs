@@ -1,12 +1,12 @@
-//! Lists of calls on one list of times: marches, rounds and runs, over plain start lists and over records
-//! as it comes, refused ones among them. After each call the times and the answer are the ledger's.
+//! Lists of calls on one list of times and one of sides: marches, rounds and runs, over plain start lists and over
+//! records as it comes, refused ones among them. After each call the times, the sides and the answer are the ledger's.
 
 use second_solver::board::Board;
-use second_solver::calls::{Call, Kind};
+use second_solver::calls::{Call, Kind, Lengths};
 use second_solver::compare::{Engine, Ledger, Tally};
-use second_solver::damage::{spoil_call, CALL_CAUSES};
+use second_solver::damage::{spoil_call, too_short, CALL_CAUSES};
 use second_solver::ffi::{engine, engine_records};
-use second_solver::generate::{self, garbage};
+use second_solver::generate::{self, garbage, garbage_lists};
 use second_solver::random::Random;
 use second_solver::{LONGEST_SIDE, MOST_STOREYS};
 use std::collections::BTreeMap;
@@ -40,6 +40,8 @@ struct Seen {
     unequal: u32,
     /// Accepted calls that alter the times, the accepted one before them being of the other form.
     turns: u32,
+    /// Accepted calls behind an accepted one that alter sides and no time.
+    sides_alone: u32,
 }
 
 impl Seen {
@@ -88,31 +90,34 @@ fn next_call(r: &mut Random, before: Option<&Call>, size: u32) -> Call {
     }
 }
 
-/// Plays one list. The times stay as long as they are all along, so 13 is not put in: it comes with boards
-/// of another size.
+/// Plays one list. Times and sides stay as long as they are all along, so 13 is not put in: it comes with boards of
+/// another size. 14 is put in by the work list alone.
 fn play_list(seed: u64, seen: &mut Seen) {
     let mut r = Random::new(seed);
     let size = r.pick(&[1, 6, 12, 16, 20, 24, 30, 36, 36, 48, 60, 100]);
-    let mut ledger = Ledger::new(&garbage(&mut r, size as usize));
+    let held = Lengths::of(size as usize);
+    let mut ledger = Ledger::new(&garbage_lists(&mut r, held).0);
     let (mut before, mut last) = (None, None);
     for _ in 0..r.within(5, 30) {
         let mut call = next_call(&mut r, before.as_ref(), size);
         let good = call.clone();
-        let (mut times_length, mut work) = (size as usize, 4 * call.board.size() + r.below(5) as usize);
+        let mut lengths = Lengths { work: 4 * call.board.size(), ..held }.longer(r.below(5));
         if r.once_in(4) {
-            let cause = r.pick(&CALL_CAUSES);
-            if cause != 13 {
-                spoil_call(&mut r, &mut call, &mut times_length, &mut work, cause);
+            match r.pick(&CALL_CAUSES) {
+                13 => {}
+                14 => lengths.work = too_short(&mut r, lengths.work),
+                cause => spoil_call(&mut r, &mut call, &mut lengths, cause),
             }
         }
         // records have no lists of unequal length
         let form = if are_unequal(&call.board) { Form::Plain } else { r.pick(&FORMS) };
-        let (held, work) = (ledger.times().to_vec(), garbage(&mut r, work));
+        let (front, work) = (ledger.front().clone(), garbage(&mut r, lengths.work));
         let number = ledger.play(form.engine(), &call, &work, seed).number;
         seen.note(form, &call, number);
         if number == 0 {
-            let other = last.map_or(false, |last| last != form);
-            seen.turns += u32::from(other && ledger.times() != held);
+            let (other, now) = (last.map_or(false, |last| last != form), ledger.front());
+            seen.turns += u32::from(other && now.times != front.times);
+            seen.sides_alone += u32::from(last.is_some() && now.times == front.times && now.sides != front.sides);
             last = Some(form);
         }
         before = Some(good);
@@ -131,4 +136,5 @@ fn lists_that_mix_records_and_plain_calls_keep_the_ledger() {
         seen.numbers[&form].assert_each(&CALL_CAUSES, 300);
     }
     assert!(seen.unequal > 500 && seen.turns > 10_000, "{} unequal, {} turns", seen.unequal, seen.turns);
+    assert!(seen.sides_alone > 20, "sides alone altered by {} calls", seen.sides_alone);
 }

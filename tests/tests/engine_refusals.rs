@@ -1,14 +1,16 @@
 //! Refused marches, rounds and runs: the table's number, and no lent entry touched.
 
 use second_solver::board::Board;
-use second_solver::calls::{Call, Kind};
+use second_solver::calls::{Call, Kind, Lengths};
 use second_solver::compare::{play_both, Engine, Tally};
 use second_solver::damage::{first_of, spoil_call, CALL_CAUSES, UNEQUAL};
 use second_solver::ffi::engine::play;
 use second_solver::ffi::engine_records;
-use second_solver::generate::{self, garbage};
+use second_solver::generate::{self, garbage_lists};
+use second_solver::march::Front;
 use second_solver::random::Random;
 use second_solver::rule::{equal, pair};
+use second_solver::tiles::tile_count;
 use second_solver::typed::SLOWNESSES;
 use second_solver::{Cause, Reply, LARGEST, NEVER};
 
@@ -18,12 +20,12 @@ fn refused_by(causes: &[u32], seed: u64) -> u32 {
     let board = generate::board(&mut r, 6);
     let size = board.size();
     let mut call = generate::call(&mut r, board);
-    let (mut times, mut work) = (size, 4 * size + r.below(3) as usize);
+    let mut lengths = Lengths::of(size).longer(r.below(3));
     for &cause in causes {
-        spoil_call(&mut r, &mut call, &mut times, &mut work, cause);
+        spoil_call(&mut r, &mut call, &mut lengths, cause);
     }
-    let (times, work) = (garbage(&mut r, times), garbage(&mut r, work));
-    play_both(play, &call, &times, &work, seed).0.number
+    let (front, work) = garbage_lists(&mut r, lengths);
+    play_both(play, &call, &front, &work, seed).0.number
 }
 
 #[test]
@@ -70,13 +72,17 @@ fn good_board() -> Board {
     Board { width: 3, height: 2, storeys: 1, slow, cells: vec![0, 4], begins: vec![0, 1_000_000] }
 }
 
-fn number(board: Board, kind: Kind, times: usize, work: usize) -> u32 {
-    let call = Call { board, kind };
-    play_both(play, &call, &vec![5; times], &vec![6; work], 0).0.number
+fn played(engine: Engine, call: &Call, lengths: Lengths) -> Reply {
+    let (front, work) = lengths.filled();
+    play_both(engine, call, &front, &work, 0).0
+}
+
+fn number(board: Board, kind: Kind, lengths: Lengths) -> u32 {
+    played(play, &Call { board, kind }, lengths).number
 }
 
 fn march(board: Board) -> u32 {
-    number(board, Kind::March { horizon: LARGEST }, 6, 24)
+    number(board, Kind::March { horizon: LARGEST }, Lengths::of(6))
 }
 
 #[test]
@@ -101,9 +107,38 @@ fn each_limit_passes_and_one_beyond_it_does_not() {
     assert_eq!(with(&|b| b.cells.truncate(1)), 4);
     assert_eq!(with(&|b| b.slow.push(equal(1))), 4);
     assert_eq!(with(&|b| b.slow.truncate(5)), 4);
-    assert_eq!(number(good.clone(), Kind::March { horizon: LARGEST + 1 }, 6, 24), 10);
+    assert_eq!(number(good.clone(), Kind::March { horizon: LARGEST + 1 }, Lengths::of(6)), 10);
     for (times, work, want) in [(6, 24, 0), (6, 23, 14), (5, 24, 13), (7, 28, 13), (0, 0, 13), (6, 0, 14)] {
-        assert_eq!(number(good.clone(), Kind::March { horizon: 9 }, times, work), want, "{} {}", times, work);
+        let lengths = Lengths { times, work, ..Lengths::of(6) };
+        assert_eq!(number(good.clone(), Kind::March { horizon: 9 }, lengths), want, "{:?}", lengths);
+    }
+}
+
+/// Card 6: the list of sides is just N bytes long, for each call in both forms, on a board of one storey and in a
+/// house. 13 is looked for before it, and both causes of 14, alone and at once, give 14. A call that takes a longer
+/// list, or writes a part of it before it refuses, fails here.
+#[test]
+fn sides_that_are_not_n_long_are_14_and_every_list_stays() {
+    let house = Board { storeys: 2, slow: vec![equal(10); 12], ..good_board() };
+    for board in [good_board(), house] {
+        let (n, tiles) = (board.size(), tile_count(3, 2, 2, 1));
+        let order: Vec<u32> = (0..tiles).rev().collect();
+        let round = Kind::Round { across: 2, down: 1, bound: 90, order: order.clone() };
+        let run = Kind::Run { across: 2, down: 1, stride: 9, horizon: 90, order };
+        for kind in [Kind::March { horizon: 90 }, round, run] {
+            let call = Call { board: board.clone(), kind };
+            for engine in [play, engine_records::play] {
+                let number = |times, sides, work| played(engine, &call, Lengths { times, sides, work }).number;
+                assert_eq!([number(n, n, 4 * n), number(n, n, 4 * n + 1)], [0, 0], "{:?}", call);
+                for sides in [0, 1, n - 1, n + 1, 2 * n, 4 * n, 65_536] {
+                    assert_eq!(number(n, sides, 4 * n), 14, "{} sides: {:?}", sides, call);
+                    assert_eq!(number(n, sides, 4 * n - 1), 14, "{} sides, short work: {:?}", sides, call);
+                    assert_eq!(number(n - 1, sides, 4 * n), 13, "{} sides, short times: {:?}", sides, call);
+                    assert_eq!(number(sides, sides, 4 * n), 13, "{} times and sides: {:?}", sides, call);
+                }
+                assert_eq!([number(n, n, 4 * n - 1), number(n + 1, n, 4 * n - 1)], [14, 13], "{:?}", call);
+            }
+        }
     }
 }
 
@@ -128,7 +163,7 @@ fn a_pair_that_is_too_slow_beats_half_a_wall_wherever_it_stands_and_both_beat_th
 }
 
 /// The board with so many storeys, all cells of slowness 10 and no starts, and a list of `length`: by march, round and
-/// run, over plain lists and records, with times and work that would fit the list.
+/// run, over plain lists and records, with times, sides and work that would fit the list.
 fn of_storeys([width, height, storeys]: [u32; 3], length: usize) -> u32 {
     let board = Board { width, height, storeys, slow: vec![equal(10); length], cells: vec![], begins: vec![] };
     refused_alike(&board, length)
@@ -143,7 +178,7 @@ fn refused_alike(board: &Board, length: usize) -> u32 {
     for kind in [Kind::March { horizon: 9 }, round, run] {
         let call = Call { board: board.clone(), kind };
         for engine in [play, engine_records::play] {
-            numbers.push(play_both(engine, &call, &vec![5; length], &vec![6; 4 * length], 0).0.number);
+            numbers.push(played(engine, &call, Lengths::of(length)).number);
         }
     }
     assert!(numbers.iter().all(|number| *number == numbers[0]), "{:?} of {:?}", numbers, board.sides());
@@ -248,7 +283,7 @@ fn storeys_are_looked_for_after_half_walls_and_before_the_starts() {
     assert_eq!(refused_alike(&Board { width: 0, ..board.clone() }, 54), 2);
     assert_eq!(refused_alike(&Board { height: 257, ..board.clone() }, 54), 2);
     let unequal_lists = Board { begins: vec![0], ..board };
-    assert_eq!(number(unequal_lists, Kind::March { horizon: 9 }, 54, 216), 4);
+    assert_eq!(number(unequal_lists, Kind::March { horizon: 9 }, Lengths::of(54)), 4);
 }
 
 /// A start's cell may be anywhere in the house, and not behind its last cell.
@@ -274,10 +309,10 @@ fn bare_slownesses_are_half_walls() {
 fn each_limit_of_tiles_and_strides_passes_and_one_beyond_it_does_not() {
     let good = good_board();
     let run = |across, down, stride, horizon, order: &[u32]| {
-        number(good.clone(), Kind::Run { across, down, stride, horizon, order: order.to_vec() }, 6, 24)
+        number(good.clone(), Kind::Run { across, down, stride, horizon, order: order.to_vec() }, Lengths::of(6))
     };
     let round = |across, down, bound, order: &[u32]| {
-        number(good.clone(), Kind::Round { across, down, bound, order: order.to_vec() }, 6, 24)
+        number(good.clone(), Kind::Round { across, down, bound, order: order.to_vec() }, Lengths::of(6))
     };
     assert_eq!(run(256, 256, LARGEST, LARGEST, &[0]), 0);
     assert_eq!(run(256, 256, 1, 0, &[0]), 0);
@@ -307,13 +342,13 @@ fn each_limit_of_tiles_and_strides_passes_and_one_beyond_it_does_not() {
     assert_eq!([run(2, 1, 1, 1, &[3, 1, 0, 2]), round(2, 1, 1, &[2, 3, 1, 0])], [0, 0]);
 }
 
-/// All causes at once, on two storeys; each is taken away in turn. The starts are 4 and 12, then 4 and 2, then 0 and 2,
-/// which is a wall, then 0 and 4. Records have no lists of unequal length.
+/// All causes at once, on two storeys; each is taken away in turn, 14 in two steps: sides that are too long, then work
+/// that is too short. The starts are 4 and 12, then 4 and 2, then 0 and 2, which is a wall, then 0 and 4. Records have
+/// no lists of unequal length.
 #[test]
 fn of_all_causes_the_first_in_order_is_given() {
-    // a call, and the lengths of its times and its work
-    type Mend = fn(&mut Call, &mut [usize; 2]);
-    let mends: [(Cause, Mend); 14] = [
+    type Mend = fn(&mut Call, &mut Lengths);
+    let mends: [(Cause, Mend); 15] = [
         (2.into(), |call, _| call.board.width = 3),
         (4.into(), |call, _| call.board.begins.truncate(2)),
         (5.into(), |call, _| call.board.slow[3] = equal(4_095)),
@@ -337,8 +372,9 @@ fn of_all_causes_the_first_in_order_is_given() {
                 *order = vec![3, 1, 0, 2];
             }
         }),
-        (13.into(), |_, lengths| lengths[0] = 12),
-        (14.into(), |_, lengths| lengths[1] = 48),
+        (13.into(), |_, lengths| lengths.times = 12),
+        (14.into(), |_, lengths| lengths.sides = 12),
+        (14.into(), |_, lengths| lengths.work = 48),
     ];
     let slow = vec![equal(10), pair(20, 10), 0, equal(4_096), equal(1), pair(10, 0)];
     let slow = [slow, vec![equal(30); 6]].concat();
@@ -348,19 +384,19 @@ fn of_all_causes_the_first_in_order_is_given() {
     let run = Kind::Run { across: 0, down: 1, stride: 9, horizon: above, order: vec![] };
     for kind in [Kind::March { horizon: above }, round, run] {
         let is_march = matches!(kind, Kind::March { .. });
-        let (mut call, mut lengths) = (Call { board: wrong.clone(), kind }, [11, 47]);
+        let mut call = Call { board: wrong.clone(), kind };
+        let mut lengths = Lengths { times: 11, sides: 13, work: 47 };
         for (cause, mend) in mends {
             if is_march && [11, 12].contains(&cause.number) {
                 continue;
             }
             let forms: &[Engine] = if cause.number <= 4 { &[play] } else { &[play, engine_records::play] };
             for engine in forms {
-                let reply = play_both(*engine, &call, &vec![5; lengths[0]], &vec![6; lengths[1]], 0).0;
-                assert_eq!(reply, Reply::refused(cause), "{:?}", call);
+                assert_eq!(played(*engine, &call, lengths), Reply::refused(cause), "{:?}", call);
             }
             mend(&mut call, &mut lengths);
         }
-        assert_eq!(play_both(play, &call, &[5; 12], &[6; 48], 0).0.number, 0);
+        assert_eq!((lengths, played(play, &call, lengths).number), (Lengths::of(12), 0));
     }
 }
 
@@ -370,7 +406,7 @@ fn sides_whose_product_wraps_are_refused_by_2() {
     let sides = [(65_536, 65_536, 0), (1 << 31, 2, 0), (65_537, 65_535, 0), (0, 0, 0), (0, 5, 0), (3, 0, 0)];
     for (width, height, size) in sides.into_iter().chain([(1_431_655_766, 3, 2), (257, 1, 257), (1, 257, 257)]) {
         let board = Board { width, height, storeys: 1, slow: vec![equal(10); size], cells: vec![], begins: vec![] };
-        assert_eq!(number(board, Kind::March { horizon: 1 }, size, 4 * size), 2, "{} by {}", width, height);
+        assert_eq!(number(board, Kind::March { horizon: 1 }, Lengths::of(size)), 2, "{} by {}", width, height);
     }
 }
 
@@ -384,7 +420,7 @@ fn an_order_of_65536_tiles_is_judged_to_its_last_entry() {
     let round = |order: &[u32]| {
         let call =
             Call { board: board.clone(), kind: Kind::Round { across: 1, down: 1, bound: 1, order: order.to_vec() } };
-        play_both(play, &call, &vec![NEVER; 65_536], &vec![1; 4 * 65_536], 5).0
+        play_both(play, &call, &Front::holding(vec![NEVER; 65_536]), &vec![1; 4 * 65_536], 5).0
     };
     assert_eq!(round(&order), Reply::accepted(0));
     for (at, value) in [(65_535, order[0]), (0, order[65_535]), (40_000, order[39_999]), (7, 65_536)] {

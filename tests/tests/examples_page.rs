@@ -29,10 +29,9 @@ fn the_commands_run() {
         lines += &told(&output);
     }
     let shown: Vec<String> = blocks(&read("examples/README.md")).into_iter().map(|(_, block)| block).collect();
-    assert_eq!(shown.len(), 1, "a block that nothing prints");
-    assert!(lines.contains(&shown[0]), "{} is not in\n{}", shown[0], lines);
-    for due in ["\n9: start on a wall\n", "\nrefused 9: start on a wall\n", "\n60000 rounds\n", "\nusage: shell FILE "]
-    {
+    assert_eq!(shown.len(), 2, "the sides of a board, and a progress in rounds");
+    let typed = ["\n9: start on a wall\n", "\nrefused 9: start on a wall\n", "\n60000 rounds\n", "\nusage: shell "];
+    for due in shown.iter().map(String::as_str).chain(typed) {
         assert!(lines.contains(due), "{} is not in\n{}", due.trim(), lines);
     }
 }

@@ -69,6 +69,9 @@ fn the_header_compiles_alone_as_c_and_as_cpp() {
     let folder = empty_folder(env!("CARGO_TARGET_TMPDIR"), "header");
     let include = "#include \"murgolab.h\"\n".repeat(2);
     let main = "int main(void) { return MURGOLAB_PAIR(10, 4095) == 10 + 65536 * 4095u
+        && MURGOLAB_LEFT == 1 && MURGOLAB_RIGHT == 2 && MURGOLAB_ABOVE == 4 && MURGOLAB_BELOW == 4 * 2
+        && MURGOLAB_OVER == 16 && MURGOLAB_UNDER == 16 * 2
+        && murgolab_local_rule(10, 10, 0, 0, 0, 0, 0, 0).sides == (MURGOLAB_LEFT | MURGOLAB_ABOVE | MURGOLAB_OVER)
         && murgolab_diagonal(4096).number == MURGOLAB_SLOWNESS ? 0 : 1; }\n";
     for (compiler, standard, ending) in
         [("cc", "-std=c99", "c"), ("cc", "-std=c11", "c"), ("c++", "-std=c++11", "cpp"), ("c++", "-std=c++17", "cpp")]

@@ -47,7 +47,7 @@ fn assert_found(test: &str, prefix: &Path) {
     let mut sh = Command::new("sh");
     sh.args(["-euc", compile]).current_dir(&folder).env("PKG_CONFIG_PATH", prefix.join("lib/pkgconfig"));
     printed(&mut sh, &[]);
-    assert_eq!(printed(&mut Command::new(folder.join("a.out")), &[]), "9 cells; the last at 34\n");
+    assert_eq!(printed(&mut Command::new(folder.join("a.out")), &[]), "9 cells; the last at 34\nfrom left and above\n");
 }
 
 fn is_installed(folder: &Path) -> [bool; 3] {

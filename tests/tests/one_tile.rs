@@ -1,10 +1,10 @@
 //! Runs in which one tile covers the board: the rounds are those of card 8, exactly, for each call that runs tiles.
 
 use second_solver::board::{Board, Grid};
-use second_solver::calls::{Call, Kind};
+use second_solver::calls::{Call, Kind, Lengths};
 use second_solver::compare::{play_both, tablet_both};
 use second_solver::ffi::{engine, engine_records, tablet};
-use second_solver::generate::{self, garbage, snake, stairs};
+use second_solver::generate::{self, garbage_lists, snake, stairs};
 use second_solver::march::solved;
 use second_solver::random::Random;
 use second_solver::rule::equal;
@@ -22,12 +22,11 @@ const GARBAGE: u64 = 92_000_000;
 fn run(board: &Board, [across, down]: [u32; 2], stride: u32, horizon: u32) -> (u64, Vec<u32>) {
     let order = (0..tile_count(board.width, board.height, across, down)).collect();
     let call = Call { board: board.clone(), kind: Kind::Run { across, down, stride, horizon, order } };
-    let mut r = Random::new(GARBAGE);
-    let (times, work) = (garbage(&mut r, board.size()), garbage(&mut r, 4 * board.size() + 3));
-    let plain = play_both(engine::play, &call, &times, &work, GARBAGE);
-    let records = play_both(engine_records::play, &call, &times, &work, GARBAGE);
+    let (front, work) = garbage_lists(&mut Random::new(GARBAGE), Lengths::of(board.size()).longer(3));
+    let plain = play_both(engine::play, &call, &front, &work, GARBAGE);
+    let records = play_both(engine_records::play, &call, &front, &work, GARBAGE);
     assert!(plain == records && plain.0.number == 0, "refused, or not the same in both forms: {:?}", call);
-    (plain.0.count.into(), plain.1)
+    (plain.0.count.into(), plain.1.times)
 }
 
 /// The rounds are the formula's, by the second solver's times and by those that the call left.

@@ -3,7 +3,7 @@
 //! judges in parts may get wrong.
 
 use second_solver::board::Board;
-use second_solver::calls::{Call, Kind};
+use second_solver::calls::{Call, Kind, Lengths};
 use second_solver::compare::{play_both, read_both, write_both, Engine, Lists, Reader, Tally, Writer};
 use second_solver::damage::{spoil_call, spoil_writing, CALL_CAUSES, WRITER_CAUSES};
 use second_solver::drafts::{Draft, FILE_CAUSES};
@@ -42,7 +42,8 @@ fn judged(board: &Board, seed: u64) -> Cause {
     for kind in [Kind::March { horizon: 900 }, round, run] {
         let call = Call { board: board.clone(), kind };
         for engine in ENGINES {
-            let reply = play_both(engine, &call, &vec![7; size], &vec![9; 4 * size + 1], seed).0;
+            let (front, work) = Lengths::of(size).longer(1).filled();
+            let reply = play_both(engine, &call, &front, &work, seed).0;
             causes.push(Cause { number: reply.number, place: reply.place });
         }
     }
@@ -321,10 +322,10 @@ fn every_other_number_has_the_place_0_though_a_start_is_at_fault() {
         let (size, held) = (board.size(), generate::scenario(&mut r, board.clone()));
 
         let causes = some_of(&mut r, &CALL_CAUSES);
-        let (mut call, mut times, mut work) = (generate::call(&mut r, board), size, 4 * size);
-        causes.iter().for_each(|&cause| spoil_call(&mut r, &mut call, &mut times, &mut work, cause));
-        let form = form_for(&call.board, seed);
-        let reply = play_both(ENGINES[form], &call, &vec![7; times], &vec![9; work], seed).0;
+        let (mut call, mut lengths) = (generate::call(&mut r, board), Lengths::of(size));
+        causes.iter().for_each(|&cause| spoil_call(&mut r, &mut call, &mut lengths, cause));
+        let (form, (front, work)) = (form_for(&call.board, seed), lengths.filled());
+        let reply = play_both(ENGINES[form], &call, &front, &work, seed).0;
         calls.note(&causes, reply.number, reply.place);
 
         let causes = some_of(&mut r, &FILE_CAUSES);

@@ -1,13 +1,14 @@
 //! The calls over start records beside those over plain lists: the same answers, and the same in every lent list.
 
 use second_solver::board::Board;
-use second_solver::calls::{Call, Kind};
+use second_solver::calls::{Call, Kind, Lengths};
 use second_solver::compare::{assert_same, engine_alone, play_both, Tally};
 use second_solver::damage::{spoil_call, CALL_CAUSES, WRITER_CAUSES};
 use second_solver::drafts::{spoil_byte, Draft, FILE_CAUSES};
 use second_solver::ffi::{engine, engine_records, scenario, scenario_records};
-use second_solver::generate::{self, garbage};
+use second_solver::generate::{self, garbage, garbage_bytes, garbage_lists};
 use second_solver::lent::Lent;
+use second_solver::march::Front;
 use second_solver::random::Random;
 use second_solver::rule::{equal, pair};
 use second_solver::scenario::{Held, Scenario};
@@ -15,35 +16,36 @@ use second_solver::tiles::tile_count;
 use second_solver::{Reply, Start, LARGEST};
 
 /// Plays the call in both forms and answers what both answer.
-fn play_in_both_forms(call: &Call, times: &[u32], work: &[u32], seed: u64) -> Reply {
-    let plain = engine_alone(engine::play, call, times, work);
-    let records = engine_alone(engine_records::play, call, times, work);
+fn play_in_both_forms(call: &Call, front: &Front, work: &[u32], seed: u64) -> Reply {
+    let plain = engine_alone(engine::play, call, front, work);
+    let records = engine_alone(engine_records::play, call, front, work);
     let told = || format!("seed {}: {:?}", seed, call);
     assert_eq!(records.0, plain.0, "the answer, {}", told());
-    assert_same("times", &records.1, &plain.1, told);
+    assert_same("times", &records.1.times, &plain.1.times, told);
+    assert_same("sides", &records.1.sides, &plain.1.sides, told);
     assert_same("work", &records.2, &plain.2, told);
     plain.0
 }
 
 /// A call, good or spoilt; none where its start lists are not as long as each other, which records cannot be.
-fn random_call(seed: u64, longest: u32, causes: u32) -> Option<(Call, Vec<u32>, Vec<u32>)> {
+fn random_call(seed: u64, longest: u32, causes: u32) -> Option<(Call, Front, Vec<u32>)> {
     let mut r = Random::new(seed);
     let board = generate::board(&mut r, longest);
-    let (mut times, mut work) = (board.size(), 4 * board.size() + r.below(5) as usize);
+    let mut lengths = Lengths::of(board.size()).longer(r.below(5));
     let mut call = generate::call(&mut r, board);
     for _ in 0..causes {
         let cause = r.pick(&CALL_CAUSES);
-        spoil_call(&mut r, &mut call, &mut times, &mut work, cause);
+        spoil_call(&mut r, &mut call, &mut lengths, cause);
     }
-    let (times, work) = (garbage(&mut r, times), garbage(&mut r, work));
-    Some((call, times, work)).filter(|(call, _, _)| call.board.cells.len() == call.board.begins.len())
+    let (front, work) = garbage_lists(&mut r, lengths);
+    Some((call, front, work)).filter(|(call, _, _)| call.board.cells.len() == call.board.begins.len())
 }
 
 #[test]
 fn good_calls_give_the_same_in_both_forms() {
     for seed in 50_000_000..50_008_000 {
-        let (call, times, work) = random_call(seed, 16, 0).expect("a good call");
-        assert_eq!(play_in_both_forms(&call, &times, &work, seed).number, 0, "seed {}", seed);
+        let (call, front, work) = random_call(seed, 16, 0).expect("a good call");
+        assert_eq!(play_in_both_forms(&call, &front, &work, seed).number, 0, "seed {}", seed);
     }
 }
 
@@ -51,8 +53,8 @@ fn good_calls_give_the_same_in_both_forms() {
 fn spoilt_calls_give_the_same_in_both_forms() {
     let mut tally = Tally::default();
     for seed in 51_000_000..51_012_000 {
-        if let Some((call, times, work)) = random_call(seed, 8, 1 + seed as u32 % 3) {
-            tally.note(play_in_both_forms(&call, &times, &work, seed).number);
+        if let Some((call, front, work)) = random_call(seed, 8, 1 + seed as u32 % 3) {
+            tally.note(play_in_both_forms(&call, &front, &work, seed).number);
         }
     }
     tally.assert_each(&CALL_CAUSES, 100);
@@ -62,8 +64,8 @@ fn spoilt_calls_give_the_same_in_both_forms() {
 fn calls_over_records_are_the_second_solvers() {
     let mut played = 0;
     for seed in 52_000_000..52_003_000 {
-        if let Some((call, times, work)) = random_call(seed, 12, seed as u32 % 3) {
-            play_both(engine_records::play, &call, &times, &work, seed);
+        if let Some((call, front, work)) = random_call(seed, 12, seed as u32 % 3) {
+            play_both(engine_records::play, &call, &front, &work, seed);
             played += 1;
         }
     }
@@ -121,8 +123,8 @@ fn every_start_of_a_long_list_is_judged_and_used() {
             1 => Kind::Round { across, down, bound: 30_000, order },
             _ => Kind::Run { across, down, stride: 500, horizon: 30_000, order },
         };
-        let (times, work) = (garbage(&mut r, 1_024), garbage(&mut r, 4_100));
-        let number = play_in_both_forms(&Call { board, kind }, &times, &work, seed).number;
+        let (front, work) = garbage_lists(&mut r, Lengths::of(1_024).longer(4));
+        let number = play_in_both_forms(&Call { board, kind }, &front, &work, seed).number;
         refused += u32::from(number != 0);
         accepted += u32::from(number == 0);
     }
@@ -143,7 +145,8 @@ fn a_start_in_every_cell_of_the_largest_boards_gives_the_same() {
         for (board, want) in [(board, 0), (late, 8)] {
             for kind in [Kind::March { horizon: LARGEST }, run.clone()] {
                 let call = Call { board: board.clone(), kind };
-                assert_eq!(play_in_both_forms(&call, &vec![7; 65_536], &vec![9; 4 * 65_536], 0).number, want);
+                let (front, work) = Lengths::of(65_536).filled();
+                assert_eq!(play_in_both_forms(&call, &front, &work, 0).number, want);
             }
         }
     }
@@ -243,7 +246,8 @@ fn files_are_written_the_same_in_both_forms() {
             }
             _ => {}
         }
-        let out: Vec<u8> = (0..about(&mut r, need)).map(|_| r.any() as u8).collect();
+        let length = about(&mut r, need);
+        let out = garbage_bytes(&mut r, length);
         let (mut plain, mut records) = (Lent::new(&out), Lent::new(&out));
         let want = scenario::write(&board, ticks, ground, plain.lend());
         let got = scenario_records::write(&board, ticks, ground, records.lend());

@@ -2,12 +2,12 @@
 //! document 01 prints. No function of the engine is called here.
 
 use second_solver::board::{judge_starts, judge_storeys, Board, Grid, OFF};
-use second_solver::calls::{Call, Kind, MOST_WORKED};
+use second_solver::calls::{Call, Kind, Lengths, MOST_WORKED};
 use second_solver::generate;
 use second_solver::leap::run_by_leaps;
-use second_solver::march::{cut, met, solved_by_front, solved_by_passes};
+use second_solver::march::{cut, march, met, solved_by_front, solved_by_passes, Front};
 use second_solver::random::Random;
-use second_solver::rule::{diagonal_step, equal, local, local_by_search, pair, parts};
+use second_solver::rule::{diagonal_step, equal, local, local_by_search, pair, parts, sides};
 use second_solver::scenario::{file_of, judge};
 use second_solver::shown::rings;
 use second_solver::tiles::{altered, round, run_every_round, Tiling};
@@ -20,6 +20,13 @@ fn three_by_three() -> Board {
 }
 
 const SOLVED: [u32; 9] = [0, 10, 20, 10, 18, 26, 20, 26, 34];
+
+/// Left is 1, above is 4.
+const SIDES: [u8; 9] = [0, 1, 1, 4, 5, 5, 4, 5, 5];
+
+fn solved_front() -> Front {
+    Front { times: SOLVED.to_vec(), sides: SIDES.to_vec() }
+}
 
 /// The third axis is for equal pairs.
 #[test]
@@ -143,14 +150,66 @@ fn rounds_of_the_three_by_three_board_are_those_worked_by_hand() {
     assert_eq!(cut(SOLVED.to_vec(), 33)[8], NEVER);
     let tiling = Tiling::new(&grid, 2, 2);
     let first = round(&grid, &tiling, 20, &[NEVER; 9]);
-    assert_eq!(first, [0, 10, NEVER, 10, 18, NEVER, NEVER, NEVER, NEVER]);
-    let second = round(&grid, &tiling, 34, &first);
-    assert_eq!(second, [0, 10, 20, 10, 18, 26, 20, 26, NEVER]);
-    let third = round(&grid, &tiling, 34, &second);
-    assert_eq!(third, SOLVED);
-    assert_eq!(altered(&second, &third), 1);
-    assert_eq!(run_every_round(&grid, &tiling, 20, 34), (4, SOLVED.to_vec()));
-    assert_eq!(run_every_round(&grid, &Tiling::new(&grid, 3, 3), 20, 34), (3, SOLVED.to_vec()));
+    assert_eq!(first.times, [0, 10, NEVER, 10, 18, NEVER, NEVER, NEVER, NEVER]);
+    assert_eq!(first.sides, [0, 1, 0, 4, 5, 0, 0, 0, 0]);
+    let second = round(&grid, &tiling, 34, &first.times);
+    assert_eq!(second.times, [0, 10, 20, 10, 18, 26, 20, 26, NEVER]);
+    assert_eq!(second.sides, [0, 1, 1, 4, 5, 5, 4, 5, 0]);
+    let third = round(&grid, &tiling, 34, &second.times);
+    assert_eq!(third, solved_front());
+    assert_eq!(altered(&second.times, &third.times), 1);
+    assert_eq!(march(&grid, 34), solved_front());
+    assert_eq!(run_every_round(&grid, &tiling, 20, 34), (4, solved_front()));
+    assert_eq!(run_every_round(&grid, &Tiling::new(&grid, 3, 3), 20, 34), (3, solved_front()));
+}
+
+/// One axis after another: the first of two if both are as early, the second only if it is earlier, none that is not
+/// before the answer; and none at all where the answer is never.
+#[test]
+fn sides_are_those_worked_by_hand() {
+    let n = NEVER;
+    for (near, answer, byte) in [
+        ([0, n, n, n, n, n], 10, 1),
+        ([n, 0, n, n, n, n], 10, 2),
+        ([3, 3, n, n, n, n], 13, 1),
+        ([4, 3, n, n, n, n], 13, 2),
+        ([3, 4, n, n, n, n], 13, 1),
+        ([0, n, 10, n, n, n], 10, 1),
+        ([0, n, 9, n, n, n], 10, 5),
+        ([0, n, 9, 9, n, n], 10, 5),
+        ([0, n, 10, 9, n, n], 10, 9),
+        ([10, 10, 0, 0, n, n], 10, 4),
+        ([n, 5, n, 5, n, 5], 11, 42),
+        ([5, 5, 5, 5, 5, 5], 11, 21),
+        ([n, n, n, n, 7, 6], 16, 32),
+        ([n, n, n, n, 7, 7], 17, 16),
+        ([0, 0, 0, 0, 0, 0], n, 0),
+        ([n, n, n, n, n, n], n, 0),
+    ] {
+        assert_eq!(sides(near, answer), byte, "{:?} and the answer {}", near, answer);
+    }
+}
+
+/// Card 6's trap: a round that alters sides and no time. Round 2 brings cell 2 its time from the right; cell 1, which is
+/// reached in that round, is as early as cell 3, and round 3, which sees it, names the left.
+#[test]
+fn a_round_turns_sides_and_alters_no_time() {
+    let board =
+        Board { width: 4, height: 1, storeys: 1, slow: vec![equal(1); 4], cells: vec![0, 3], begins: vec![0, 1] };
+    let grid = Grid::new(&board);
+    let tiling = Tiling::new(&grid, 1, 1);
+    let mut times = vec![NEVER; 4];
+    for (want, sides) in [
+        ([0, NEVER, NEVER, 1], [0, 0, 0, 0]),
+        ([0, 1, 2, 1], [0, 1, 2, 0]),
+        ([0, 1, 2, 1], [0, 1, 1, 0]),
+        ([0, 1, 2, 1], [0, 1, 1, 0]),
+    ] {
+        let after = round(&grid, &tiling, 10, &times);
+        assert_eq!(after, Front { times: want.to_vec(), sides: sides.to_vec() });
+        times = after.times;
+    }
+    assert_eq!(run_every_round(&grid, &tiling, 10, 10), (3, march(&grid, 10)));
 }
 
 #[test]
@@ -166,9 +225,9 @@ fn leaps_count_the_rounds_that_are_worked_out() {
         let stride = generate::stride(&mut r, board.size(), horizon);
         let (count, times) = run_by_leaps(&grid, &tiling, stride, horizon);
         if count * board.size() as u64 <= MOST_WORKED {
-            let worked = run_every_round(&grid, &tiling, stride, horizon);
+            let (worked, left) = run_every_round(&grid, &tiling, stride, horizon);
             let told = format!("seed {}, tiles {} by {}, stride {}, horizon {}", seed, across, down, stride, horizon);
-            assert_eq!(worked, (count, times), "{}: {:?}", told, board);
+            assert_eq!((worked, left.times), (count, times), "{}: {:?}", told, board);
             many += u32::from(count > 1_000);
         }
     }
@@ -186,13 +245,23 @@ fn three_hundred_million_rounds_are_counted() {
 fn a_refused_call_alters_nothing_and_an_accepted_one_clears_its_work() {
     let kind = Kind::March { horizon: 33 };
     let call = Call { board: three_by_three(), kind };
-    let (mut times, mut work) = (vec![7; 9], vec![9; 40]);
-    assert_eq!(call.play(&mut times[..8], &mut work), Reply::refused(13));
-    assert_eq!(call.play(&mut times, &mut work[..35]), Reply::refused(14));
-    assert_eq!((&times, &work), (&vec![7; 9], &vec![9; 40]));
-    assert_eq!(call.play(&mut times, &mut work), Reply::accepted(8));
-    assert_eq!(times, cut(SOLVED.to_vec(), 33));
-    assert_eq!(work, [vec![0; 36], vec![9; 4]].concat());
+    let good = Lengths::of(9).longer(4);
+    for (lengths, number) in [
+        (Lengths { times: 8, ..good }, 13),
+        (Lengths { times: 10, sides: 8, ..good }, 13),
+        (Lengths { sides: 8, ..good }, 14),
+        (Lengths { sides: 10, ..good }, 14),
+        (Lengths { work: 35, ..good }, 14),
+    ] {
+        let (mut front, mut work) = lengths.filled();
+        assert_eq!(call.play(&mut front, &mut work), Reply::refused(number), "{:?}", lengths);
+        assert_eq!((front, work), lengths.filled());
+    }
+    let (mut front, mut work) = good.filled();
+    let later = work[36..].to_vec();
+    assert_eq!(call.play(&mut front, &mut work), Reply::accepted(8));
+    assert_eq!(front, Front { times: cut(SOLVED.to_vec(), 33), sides: [&SIDES[..8], &[0]].concat() });
+    assert_eq!(work, [vec![0; 36], later].concat());
 }
 
 /// What card 2 has for lists of starts on nine cells, the last of which is a wall, by hand: number and place.
@@ -239,9 +308,9 @@ fn rings_of_the_three_by_three_board_are_those_worked_by_hand() {
 
 /// What a march gives to the second solver, with lists as long as they must be.
 fn marched(board: Board, times: usize) -> (Reply, Vec<u32>) {
-    let (mut times, mut work) = (vec![7; times], vec![9; 4 * times]);
-    let reply = Call { board, kind: Kind::March { horizon: LARGEST } }.play(&mut times, &mut work);
-    (reply, times)
+    let (mut front, mut work) = Lengths::of(times).filled();
+    let reply = Call { board, kind: Kind::March { horizon: LARGEST } }.play(&mut front, &mut work);
+    (reply, front.times)
 }
 
 #[test]

@@ -2,7 +2,7 @@
 //! boards of all sizes, and under valgrind.
 
 use second_solver::board::{Board, Grid};
-use second_solver::calls::rounds;
+use second_solver::calls;
 use second_solver::declared::{files, refusals, repository};
 use second_solver::generate;
 use second_solver::march::{cut, solved};
@@ -12,6 +12,7 @@ use second_solver::rule::{equal, pair};
 use second_solver::scenario::{file_of, judge, Held};
 use second_solver::shown::{tablet, turns, SHOWN_HORIZON, SHOWN_SIDE};
 use second_solver::tiles::{bound_of, round, Tiling};
+use second_solver::typed::open_house;
 use second_solver::NEVER;
 use std::fs;
 use std::path::{Path, PathBuf};
@@ -30,11 +31,41 @@ fn example(name: &str) -> PathBuf {
     repository().join("examples").join(name)
 }
 
-/// What the shell must print.
-fn lines(held: &Held, stride: u32, across: u32, down: u32, horizon: u32) -> String {
+/// What the shell must print: the lines of `rings`, those of the sides, and the rounds.
+struct Lines {
+    turns: String,
+    sides: String,
+    rounds: String,
+}
+
+fn lines(held: &Held, stride: u32, across: u32, down: u32, horizon: u32) -> Lines {
     let grid = Grid::new(&held.board);
-    let rounds = rounds(&grid, &Tiling::new(&grid, across, down), stride, horizon);
-    format!("{}{} rounds\n", turns(held, horizon), rounds)
+    let (rounds, left) = calls::run(&grid, &Tiling::new(&grid, across, down), stride, horizon);
+    let mut sides = String::new();
+    for (times, bytes) in left.times.chunks(grid.width).zip(left.sides.chunks(grid.width)) {
+        let fields: Vec<String> = times.iter().zip(bytes).map(|(&time, &byte)| letters(time, byte)).collect();
+        sides += &(fields.join(" ") + "\n");
+    }
+    Lines { turns: turns(held, horizon), sides, rounds: format!("{} rounds\n", rounds) }
+}
+
+impl Lines {
+    fn without_sides(&self) -> String {
+        format!("{}{}", self.turns, self.rounds)
+    }
+
+    fn with_sides(&self) -> String {
+        format!("{}{}{}", self.turns, self.sides, self.rounds)
+    }
+}
+
+/// A cell's sides, one letter an axis.
+fn letters(time: u32, byte: u8) -> String {
+    if time == NEVER || byte == 0 {
+        return if time == NEVER { "-" } else { "." }.to_string();
+    }
+    let letter = |part: u8, of_axis: [&str; 3]| of_axis[usize::from(part)].to_string();
+    letter(byte % 4, ["", "l", "r"]) + &letter(byte / 4 % 4, ["", "a", "b"]) + &letter(byte / 16, ["", "o", "u"])
 }
 
 #[test]
@@ -44,13 +75,29 @@ fn the_shell_plays_the_examples_as_rings_does() {
     for path in files(&repository().join("examples"), ".scenario") {
         if let Ok(held) = judge(&fs::read(&path).expect("a scenario"), None) {
             let want = lines(&held, 65_536, 8, 8, SHOWN_HORIZON);
-            assert_eq!(printed(Command::new(&shell).arg(&path), &[]), want, "{}", path.display());
-            let rings = fs::read_to_string(path.with_extension("rings")).expect("the lines of rings");
-            assert!(want.starts_with(&rings) && want.lines().count() == rings.lines().count() + 1);
+            assert_eq!(printed(Command::new(&shell).arg(&path), &[]), want.without_sides(), "{}", path.display());
+            let with_sides = printed(Command::new(&shell).arg("--sides").arg(&path), &[]);
+            assert_eq!(with_sides, want.with_sides(), "{}", path.display());
+            assert_eq!(fs::read_to_string(path.with_extension("rings")).expect("the lines of rings"), want.turns);
             played += 1;
         }
     }
     assert!(played >= 6, "{} examples", played);
+}
+
+/// Typed: a row of letters to each row of turns. The last cell of the house is reached on three axes.
+#[test]
+fn the_shell_says_the_sides_of_its_cells() {
+    let shell = shell("shell_sides");
+    let path = shell.with_extension("scenario");
+    fs::write(&path, file_of(&open_house(), 10, equal(10))).expect("a file");
+    for (path, want) in [
+        (example("three-by-three.scenario"), "3 3 10\n0 1 2\n1 2 3\n2 3 4\n. l l\na la la\na la la\n92 rounds\n"),
+        (path, "2 2 10\n0 1\n1 2\n1 2\n2 3\n. l\na la\nu lu\nau lau\n92 rounds\n"),
+    ] {
+        assert_eq!(printed(Command::new(&shell).arg("--sides").arg(path), &[]), want);
+    }
+    assert_eq!(run(Command::new(&shell).arg("--sides"), &[]).status.code(), Some(2));
 }
 
 #[test]
@@ -68,8 +115,9 @@ fn the_shell_plays_boards_of_all_sizes() {
         let stride = generate::stride(&mut r, held.board.size(), horizon);
         fs::write(&path, file_of(&held.board, held.ticks, held.ground)).expect("a file");
         let mut command = Command::new(&shell);
-        command.arg(&path).args([stride, across, down, horizon].map(|number| number.to_string()));
-        assert_eq!(printed(&mut command, &[]), lines(&held, stride, across, down, horizon), "seed {}", seed);
+        command.arg("--sides").arg(&path).args([stride, across, down, horizon].map(|number| number.to_string()));
+        let want = lines(&held, stride, across, down, horizon).with_sides();
+        assert_eq!(printed(&mut command, &[]), want, "seed {}", seed);
     }
 }
 
@@ -104,7 +152,7 @@ fn the_shell_says_what_is_wrong() {
         .expect("a file");
     let (wall, maze) = (example("start-on-a-wall.scenario"), example("maze.scenario"));
     let (map, missing) = (example("maze.map"), example("nothing"));
-    let cases: [(&Path, &[&str], i32, &str); 13] = [
+    let cases: [(&Path, &[&str], i32, &str); 14] = [
         (&beyond, &[], 1, &refused_at(7, 2)),
         (&falling, &[], 1, &refused_at(18, 3)),
         (&half, &[], 1, &refused_by(21)),
@@ -117,6 +165,7 @@ fn the_shell_says_what_is_wrong() {
         (&maze, &["1", "8", "8", "300000001"], 1, &refused_by(10)),
         (&maze, &["1", "8"], 2, "usage: "),
         (&maze, &["4294967296"], 2, "usage: "),
+        (&maze, &["--sides"], 2, "usage: "),
         (&missing, &[], 1, "nothing: "),
     ];
     for (path, words, status, why) in cases {
@@ -130,7 +179,7 @@ fn the_shell_says_what_is_wrong() {
 #[test]
 fn the_shell_says_what_it_is_called_with() {
     let shell = shell("shell_help");
-    assert!(printed(Command::new(shell).arg("--help"), &[]).starts_with("usage: shell FILE [STRIDE "));
+    assert!(printed(Command::new(shell).arg("--help"), &[]).starts_with("usage: shell [--sides] FILE [STRIDE "));
 }
 
 #[test]
@@ -148,7 +197,7 @@ fn progress(grid: &Grid) -> Vec<usize> {
     let (tiling, end) = (Tiling::new(grid, SHOWN_SIDE, SHOWN_SIDE), cut(solved(grid), SHOWN_HORIZON));
     let (mut times, mut reached) = (vec![NEVER; grid.size()], vec![0]);
     while times != end {
-        times = round(grid, &tiling, bound_of(reached.len() as u64, 100, SHOWN_HORIZON), &times);
+        times = round(grid, &tiling, bound_of(reached.len() as u64, 100, SHOWN_HORIZON), &times).times;
         reached.push(times.iter().filter(|&&t| t != NEVER).count());
     }
     reached
@@ -205,7 +254,9 @@ fn valgrind_has_nothing_against_the_shell() {
     let shell = shell("shell_valgrind");
     let maze = example("maze.scenario");
     let held = judge(&fs::read(&maze).expect("a scenario"), None).expect("a good one");
-    assert_eq!(printed(valgrind(&shell).arg(&maze), &[]), lines(&held, 65_536, 8, 8, SHOWN_HORIZON));
+    let want = lines(&held, 65_536, 8, 8, SHOWN_HORIZON);
+    assert_eq!(printed(valgrind(&shell).arg(&maze), &[]), want.without_sides());
+    assert_eq!(printed(valgrind(&shell).arg("--sides").arg(&maze), &[]), want.with_sides());
     let refused = run(valgrind(&shell).arg(example("start-on-a-wall.scenario")), &[]);
     assert_eq!(refused.status.code(), Some(1), "{}", told(&refused));
 }

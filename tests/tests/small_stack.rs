@@ -14,7 +14,7 @@ use second_solver::scenario::{file_of, Scenario};
 use second_solver::shown::SHOWN_FILE;
 use second_solver::stacks::{on_a_stack_of, stack_of};
 use second_solver::tiles::tile_count;
-use second_solver::{Reply, Start, LARGEST, NEVER};
+use second_solver::{LocalReply, Reply, Start, LARGEST, NEVER};
 use std::collections::BTreeSet;
 
 /// The most that a call may take.
@@ -98,10 +98,10 @@ fn engine_cases() -> Vec<Case> {
             };
             for (name, play) in engine_names(&kind).into_iter().zip([engine::play, engine_records::play]) {
                 let call = Call { board: board.clone(), kind: kind.clone() };
-                let (mut times, mut work) = (vec![NEVER; 65_536], vec![1; 4 * 65_536]);
+                let (mut times, mut sides, mut work) = (vec![NEVER; 65_536], vec![0; 65_536], vec![1; 4 * 65_536]);
                 cases.push(Case::new(name, told.clone(), move || {
                     times.fill(NEVER);
-                    one(play(&call, &mut times, &mut work))
+                    one(play(&call, &mut times, &mut sides, &mut work))
                 }));
             }
         }
@@ -160,16 +160,21 @@ fn tablet_cases() -> Vec<Case> {
     cases
 }
 
+/// A local rule's.
+fn one_local(reply: LocalReply) -> u64 {
+    one(Reply { number: reply.number, count: reply.time ^ reply.sides, place: 0 })
+}
+
 fn number_cases() -> Vec<Case> {
     vec![
         Case::new("murgolab_local_rule", "an equal pair".to_string(), || {
-            one(local_rule([4_095, 4_095], [LARGEST, NEVER, LARGEST - 7, NEVER, NEVER, NEVER]))
+            one_local(local_rule([4_095, 4_095], [LARGEST, NEVER, LARGEST - 7, NEVER, NEVER, NEVER]))
         }),
         Case::new("murgolab_local_rule", "three axes".to_string(), || {
-            one(local_rule([4_095, 4_095], [LARGEST, NEVER, LARGEST - 7, NEVER, LARGEST - 11, NEVER]))
+            one_local(local_rule([4_095, 4_095], [LARGEST, NEVER, LARGEST - 7, NEVER, LARGEST - 11, NEVER]))
         }),
         Case::new("murgolab_local_rule", "an unequal pair".to_string(), || {
-            one(local_rule([4_095, 4_094], [LARGEST, NEVER, LARGEST - 7, NEVER, NEVER, NEVER]))
+            one_local(local_rule([4_095, 4_094], [LARGEST, NEVER, LARGEST - 7, NEVER, NEVER, NEVER]))
         }),
         Case::new("murgolab_diagonal", "kept".to_string(), || one(diagonal(255))),
         Case::new("murgolab_diagonal", "worked out".to_string(), || one(diagonal(4_095))),

@@ -13,9 +13,12 @@
 //! assert_eq!(front.times, [0, 10, 20, 10, 18, 26, 20, 26, 34]);
 //! assert_eq!(front.reached, 9);
 //!
+//! // whence the front came: to the second cell from the left, to the last from two sides
+//! assert_eq!([1, 8].map(|cell| front.sides[cell].to_string()), ["left", "left and above"]);
+//!
 //! // the same tile by tile, in rounds
 //! let run = tile_run(&board, Tiles { across: 2, down: 2 }, 20, 34)?;
-//! assert_eq!((run.times, run.rounds), (front.times, 4));
+//! assert_eq!((run.times, run.sides, run.rounds), (front.times, front.sides, 4));
 //!
 //! // the last cell is reached 6 ticks before turn 4, of 10 ticks, closes
 //! let last = turn(34, 10)?;
@@ -41,12 +44,14 @@
 
 mod refusal;
 mod scenario;
+mod sides;
 mod slowness;
 mod sys;
 mod work;
 
 pub use refusal::Refusal;
-pub use scenario::{read_scenario, tablet_run, write_scenario, Scenario};
+pub use scenario::{read_scenario, tablet_run, write_scenario, Scenario, TabletRun};
+pub use sides::{Column, Row, Sides, Storey};
 pub use slowness::Slowness;
 pub use work::{march, one_round, tile_run, March, Run, Work};
 
@@ -142,24 +147,47 @@ fn answer(reply: sys::Reply) -> Result<u32, Refusal> {
     accepted(reply.number, Some(reply.place)).map(|()| reply.count)
 }
 
-/// The time at a cell from its neighbours' times: the least whole t, not below the earliest of a, b and z, with
-/// p² × h² + q² × g² + r² × g² ≥ g² × h². Here g is the slowness along the row and h that down the column; a is the
-/// earlier of left and right, b of above and below, z of over and under; p, q and r are what t is later than a, than b
-/// and than z. On a flat board over and under are never. Times above 300,000,000 count as never.
+/// What the local rule answers. Later versions may give more.
+#[derive(Clone, Copy, Debug, PartialEq, Eq, Hash)]
+#[non_exhaustive]
+pub struct Arrival {
+    /// When the front reaches the cell, [`NEVER`] where none comes.
+    pub time: u32,
+    /// From which sides: neighbours that are earlier than this time.
+    pub sides: Sides,
+}
+
+/// The time at a cell from its neighbours' times, and from which sides it comes. The time is the least whole t, not
+/// below the earliest of a, b and z, with p² × h² + q² × g² + r² × g² ≥ g² × h². Here g is the slowness along the row
+/// and h that down the column; a is the earlier of left and right, b of above and below, z of over and under; p, q and
+/// r are what t is later than a, than b and than z. On a flat board over and under are never. Times above 300,000,000
+/// count as never.
 ///
 /// ```
-/// use murgolab::{local_rule, Refusal, Slowness, NEVER};
+/// use murgolab::{local_rule, Column, Refusal, Row, Slowness, NEVER};
 /// let ten = Slowness::equal(10);
-/// assert_eq!(local_rule(ten, 0, NEVER, 4, NEVER, NEVER, NEVER), Ok(9));
-/// assert_eq!(local_rule(Slowness::WALL, 0, 0, 0, 0, 0, 0), Ok(NEVER));
+/// let arrival = local_rule(ten, 0, NEVER, NEVER, 4, NEVER, NEVER)?;
+/// assert_eq!(arrival.time, 9);
+/// assert_eq!((arrival.sides.row(), arrival.sides.column()), (Some(Row::Left), Some(Column::Below)));
+///
 /// let furrow = Slowness::new(10, 20);
-/// assert_eq!(local_rule(furrow, 0, NEVER, NEVER, NEVER, NEVER, NEVER), Ok(10));
-/// assert_eq!(local_rule(furrow, NEVER, NEVER, 0, NEVER, NEVER, NEVER), Ok(20));
-/// assert_eq!(local_rule(furrow, 0, NEVER, 0, NEVER, NEVER, NEVER), Ok(9));
+/// for (slowness, [left, right, above, below, over, under], time, sides) in [
+///     (ten, [0, 0, 4, 4, NEVER, NEVER], 9, "left and above"),
+///     (furrow, [NEVER, 0, NEVER, NEVER, NEVER, NEVER], 10, "right"),
+///     (furrow, [NEVER, NEVER, 0, NEVER, NEVER, NEVER], 20, "above"),
+///     (furrow, [0, NEVER, 0, NEVER, NEVER, NEVER], 9, "left and above"),
+///     (ten, [0, NEVER, 0, NEVER, 0, NEVER], 6, "left and above and over"),
+///     (ten, [0, NEVER, 0, NEVER, NEVER, 7], 8, "left and above and under"),
+///     (ten, [0, NEVER, 0, NEVER, NEVER, 8], 8, "left and above"),
+///     (Slowness::WALL, [0; 6], NEVER, "none"),
+/// ] {
+///     let arrival = local_rule(slowness, left, right, above, below, over, under)?;
+///     assert_eq!((arrival.time, arrival.sides.to_string().as_str()), (time, sides));
+/// }
+///
 /// // in a house slownesses are equal both ways
-/// assert_eq!(local_rule(ten, 0, NEVER, 0, NEVER, 0, NEVER), Ok(6));
-/// assert_eq!(local_rule(ten, 0, NEVER, 0, NEVER, NEVER, 7), Ok(8));
 /// assert_eq!(local_rule(furrow, 0, NEVER, 0, NEVER, 0, NEVER), Err(Refusal::Storeys));
+/// # Ok::<(), Refusal>(())
 /// ```
 ///
 /// # Errors
@@ -174,10 +202,12 @@ pub fn local_rule(
     below: u32,
     over: u32,
     under: u32,
-) -> Result<u32, Refusal> {
+) -> Result<Arrival, Refusal> {
     let (g, h) = (slowness.along().into(), slowness.down().into());
     // SAFETY: numbers alone
-    answer(unsafe { sys::murgolab_local_rule(g, h, left, right, above, below, over, under) })
+    let reply = unsafe { sys::murgolab_local_rule(g, h, left, right, above, below, over, under) };
+    // the library answers a byte of sides as a number of 32 bits
+    accepted(reply.number, None).map(|()| Arrival { time: reply.time, sides: (reply.sides as u8).into() })
 }
 
 /// D: what the rule adds to a where a and b are equal, the slowness is this number both ways and z is not earlier than

@@ -110,7 +110,7 @@ refusals! {
     11 => SidesOfTile, "tile width or height not 1 to 256";
     12 => Order, "order does not name every tile once";
     13 => TimesLength, "times list not N long";
-    14 => Room, "work list under 4N long, or a list to be filled too short";
+    14 => Room, "work list under 4N long, sides list not N long, or a list to be filled too short";
     15 => SmallBoard, "tablet or rings: a side above 32, N above 1,024, or for rings a file above 20,500 bytes";
     18 => StartOrder, "start not above the one before", place;
     21 => HalfWall, "one number of a slowness, the ground's too, 0 and the other not";

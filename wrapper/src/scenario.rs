@@ -1,6 +1,6 @@
 //! Scenario files: reader, writer and the tablet's call.
 
-use crate::{accepted, answer, sys, Board, Refusal, Run, Slowness, Start, Tiles, MOST_CELLS};
+use crate::{accepted, answer, sys, Board, Refusal, Slowness, Start, Tiles, MOST_CELLS};
 
 /// What a scenario file holds. Callers build it, so it is not `#[non_exhaustive]`: see [`Board`].
 #[derive(Clone, Debug, PartialEq, Eq, Hash)]
@@ -88,6 +88,16 @@ pub fn write_scenario(scenario: &Scenario) -> Result<Vec<u8>, Refusal> {
     Ok(out)
 }
 
+/// What the tablet's call gives. Later versions may give more.
+#[derive(Clone, Debug, PartialEq, Eq, Hash)]
+#[non_exhaustive]
+pub struct TabletRun {
+    /// The times that a march gives.
+    pub times: Vec<u32>,
+    /// The number of rounds, the last, which alters no time, among them.
+    pub rounds: u32,
+}
+
 /// The tablet's call: the tile run of a scenario file whose board has sides to 32 and 1,024 cells at most, up to
 /// 6,000,000.
 ///
@@ -112,7 +122,7 @@ pub fn write_scenario(scenario: &Scenario) -> Result<Vec<u8>, Refusal> {
 /// Those of [`read_scenario`], without the place of a start, [`SmallBoard`](Refusal::SmallBoard) for a side above 32 or
 /// more than 1,024 cells, [`Range`](Refusal::Range) for the stride and [`SidesOfTile`](Refusal::SidesOfTile) for the
 /// tiles.
-pub fn tablet_run(file: &[u8], stride: u32, tiles: Tiles) -> Result<Run, Refusal> {
+pub fn tablet_run(file: &[u8], stride: u32, tiles: Tiles) -> Result<TabletRun, Refusal> {
     let mut out = [0; 4 * 32 * 32];
     // SAFETY: the lists are as long as said, and the one lent for writing is borrowed alone
     #[rustfmt::skip]
@@ -126,5 +136,5 @@ pub fn tablet_run(file: &[u8], stride: u32, tiles: Tiles) -> Result<Run, Refusal
     let rounds = (said / 256) as u32;
     let two = |at: usize| usize::from(u16::from_le_bytes([file[at], file[at + 1]]));
     let times = out.chunks_exact(4).map(|four| u32::from_le_bytes([four[0], four[1], four[2], four[3]]));
-    Ok(Run { times: times.take(two(0) * two(2) * two(4)).collect(), rounds })
+    Ok(TabletRun { times: times.take(two(0) * two(2) * two(4)).collect(), rounds })
 }

@@ -10,6 +10,13 @@ pub struct Reply {
 }
 
 #[repr(C)]
+pub struct LocalReply {
+    pub number: u32,
+    pub time: u32,
+    pub sides: u32,
+}
+
+#[repr(C)]
 pub struct TurnReply {
     pub number: u32,
     pub turn: u32,
@@ -32,26 +39,26 @@ pub struct Scenario {
 extern "C" {
     pub fn murgolab_local_rule(
         g: u32, h: u32, left: u32, right: u32, above: u32, below: u32, over: u32, under: u32,
-    ) -> Reply;
+    ) -> LocalReply;
     pub fn murgolab_diagonal(slowness: u32) -> Reply;
     pub fn murgolab_turn(time: u32, ticks: u32) -> TurnReply;
     pub fn murgolab_march(
         width: u32, height: u32, storeys: u32,
         slow: *const u32, slow_len: usize, starts: *const Start, starts_len: usize,
         horizon: u32,
-        times: *mut u32, times_len: usize, work: *mut u32, work_len: usize,
+        times: *mut u32, times_len: usize, sides: *mut u8, sides_len: usize, work: *mut u32, work_len: usize,
     ) -> Reply;
     pub fn murgolab_one_round(
         width: u32, height: u32, storeys: u32,
         slow: *const u32, slow_len: usize, starts: *const Start, starts_len: usize,
         across: u32, down: u32, bound: u32, order: *const u32, order_len: usize,
-        times: *mut u32, times_len: usize, work: *mut u32, work_len: usize,
+        times: *mut u32, times_len: usize, sides: *mut u8, sides_len: usize, work: *mut u32, work_len: usize,
     ) -> Reply;
     pub fn murgolab_tile_run(
         width: u32, height: u32, storeys: u32,
         slow: *const u32, slow_len: usize, starts: *const Start, starts_len: usize,
         across: u32, down: u32, stride: u32, horizon: u32, order: *const u32, order_len: usize,
-        times: *mut u32, times_len: usize, work: *mut u32, work_len: usize,
+        times: *mut u32, times_len: usize, sides: *mut u8, sides_len: usize, work: *mut u32, work_len: usize,
     ) -> Reply;
     pub fn murgolab_read_scenario(
         file: *const u8, file_len: usize,

@@ -29,12 +29,12 @@ const TILES: Tiles = Tiles { across: 2, down: 1 };
 
 /// What march, run, round and writer say of a board.
 fn refusals(board: &Board) -> [Option<Refusal>; 4] {
-    let mut times = vec![NEVER; board.slow.len()];
+    let (mut times, mut sides) = (vec![NEVER; board.slow.len()], vec![Sides::NONE; board.slow.len()]);
     let scenario = Scenario { ticks: 10, ground: TEN, board: board.clone() };
     [
         march(board, 100).err(),
         tile_run(board, TILES, 10, 100).err(),
-        one_round(board, TILES, 100, &mut times).err(),
+        one_round(board, TILES, 100, &mut times, &mut sides).err(),
         write_scenario(&scenario).err(),
     ]
 }
@@ -90,10 +90,19 @@ fn numbers_and_tiles_are_judged_by_the_library() {
     for (across, down) in [(0, 1), (1, 0), (257, 1), (1, u32::MAX)] {
         let tiles = Tiles { across, down };
         assert_eq!(tile_run(&board, tiles, 1, 1), Err(Refusal::SidesOfTile));
-        assert_eq!(one_round(&board, tiles, 1, &mut [NEVER; 6]), Err(Refusal::SidesOfTile));
+        assert_eq!(one_round(&board, tiles, 1, &mut [NEVER; 6], &mut [Sides::NONE; 6]), Err(Refusal::SidesOfTile));
     }
-    assert_eq!(one_round(&board, TILES, 1, &mut []), Err(Refusal::TimesLength));
-    assert_eq!(one_round(&board, TILES, 1, &mut [NEVER; 7]), Err(Refusal::TimesLength));
+    for (times, sides, refusal) in [
+        (0, 6, Refusal::TimesLength),
+        (7, 6, Refusal::TimesLength),
+        (7, 7, Refusal::TimesLength),
+        (6, 0, Refusal::Room),
+        (6, 5, Refusal::Room),
+        (6, 7, Refusal::Room),
+    ] {
+        let (mut times, mut sides) = (vec![NEVER; times], vec![Sides::NONE; sides]);
+        assert_eq!(one_round(&board, TILES, 1, &mut times, &mut sides), Err(refusal), "{:?} {:?}", times, sides);
+    }
 }
 
 #[test]
@@ -144,16 +153,22 @@ fn a_house_has_slownesses_that_are_equal_both_ways() {
     for (over, under) in [(0, NEVER), (NEVER, 0), (300_000_000, 300_000_001)] {
         assert_eq!(local_rule(furrow, 0, 0, 0, 0, over, under), Err(Refusal::Storeys));
     }
-    assert_eq!(local_rule(furrow, 0, 0, 0, 0, 300_000_001, NEVER), Ok(9));
+    let flat = local_rule(furrow, 0, 0, 0, 0, 300_000_001, NEVER).expect("never over and under");
+    assert_eq!((flat.time, flat.sides), (9, Sides::from(1 + 4)));
 }
 
-/// The tablet and the tile run name the times of the march, tiles spanning both storeys.
+/// The tablet and the tile run name the times of the march, tiles spanning both storeys, and the run its sides.
 #[test]
 fn a_house_is_played_as_it_is_marched() {
     let scenario = Scenario { ticks: 10, ground: TEN, board: house() };
-    let times = march(&scenario.board, 1_000).expect("a good house").times;
+    let March { times, sides, .. } = march(&scenario.board, 1_000).expect("a good house");
     assert_eq!(times, [0, 10, NEVER, 10, 18, 28, 10, 18, NEVER, 18, 24, 33]);
-    assert_eq!(tile_run(&scenario.board, TILES, 7, 1_000).expect("a good house").times, times);
+    let (left, above, under) = (1, 4, 32);
+    let lower = [0, left, 0, above, left + above, left];
+    let upper = [under, left + under, 0, above + under, left + above + under, left + under];
+    assert_eq!(sides.iter().copied().map(u8::from).collect::<Vec<_>>(), [lower, upper].concat());
+    let run = tile_run(&scenario.board, TILES, 7, 1_000).expect("a good house");
+    assert_eq!((&run.times, run.sides), (&times, sides));
     let file = write_scenario(&scenario).expect("a good house");
     assert_eq!(tablet_run(&file, 100, TILES).expect("a small house").times, times);
 }

@@ -57,6 +57,11 @@ const SIDES: [(u32, u32, u32); 10] = [
 ];
 const TILES: Tiles = Tiles { across: 3, down: 2 };
 
+/// Sides that no call leaves.
+fn odd() -> Sides {
+    Sides::from(0xAA)
+}
+
 /// Large boards behind small ones and small ones behind large ones.
 #[test]
 fn lists_that_are_kept_give_what_new_ones_give() {
@@ -65,58 +70,65 @@ fn lists_that_are_kept_give_what_new_ones_give() {
         let board = board(sides);
         let (marched, ran) = (march(&board, 900), tile_run(&board, TILES, 50, 900));
         let (marched, ran) = (marched.expect("a good board"), ran.expect("a good board"));
-        let mut times = vec![7; board.size()];
-        assert_eq!(work.march(&board, 900, &mut times), Ok(marched.reached));
-        assert_eq!(times, marched.times);
+        let (mut times, mut sides) = (vec![7; board.size()], vec![odd(); board.size()]);
+        assert_eq!(work.march(&board, 900, &mut times, &mut sides), Ok(marched.reached));
+        assert_eq!((&times, &sides), (&marched.times, &marched.sides));
         times.fill(8);
-        assert_eq!(work.tile_run(&board, TILES, 50, 900, &mut times), Ok(ran.rounds));
-        assert_eq!(times, ran.times);
-        let mut others = vec![400; board.size()];
+        sides.fill(odd());
+        assert_eq!(work.tile_run(&board, TILES, 50, 900, &mut times, &mut sides), Ok(ran.rounds));
+        assert_eq!((&times, &sides), (&ran.times, &ran.sides));
+        assert_eq!((ran.times, ran.sides), (marched.times, marched.sides));
+        let (mut other_times, mut other_sides) = (vec![400; board.size()], vec![odd(); board.size()]);
         times.fill(400);
-        let altered = one_round(&board, TILES, 500, &mut others);
-        assert_eq!(work.one_round(&board, TILES, 500, &mut times), altered);
-        assert!(times == others && altered.expect("a good board") > 0);
+        let altered = one_round(&board, TILES, 500, &mut other_times, &mut other_sides);
+        assert_eq!(work.one_round(&board, TILES, 500, &mut times, &mut sides), altered);
+        assert!(times == other_times && sides == other_sides && altered.expect("a good board") > 0);
+        assert!(!sides.contains(&odd()), "a byte is not written");
     }
 }
 
 #[test]
-fn a_refused_call_leaves_the_times_and_the_lists_can_be_used_again() {
+fn a_refused_call_leaves_times_and_sides_and_the_lists_can_be_used_again() {
     let (mut work, board) = (Work::new(), board((5, 4, 1)));
-    for length in [0, 1, 19, 21, 400] {
-        let mut times = vec![7; length];
-        let refused = Err(Refusal::TimesLength);
-        assert_eq!(work.march(&board, 900, &mut times), refused);
-        assert_eq!(work.tile_run(&board, TILES, 50, 900, &mut times), refused);
-        assert_eq!(work.one_round(&board, TILES, 900, &mut times), refused);
-        assert_eq!(times, vec![7; length]);
+    let wrong = [0, 1, 19, 21, 400];
+    let wrong_times = wrong.map(|length| (length, 20, Refusal::TimesLength));
+    let wrong_sides = wrong.map(|length| (20, length, Refusal::Room));
+    let wrong_both = wrong.map(|length| (length, length, Refusal::TimesLength));
+    for (times_length, sides_length, refusal) in wrong_times.into_iter().chain(wrong_sides).chain(wrong_both) {
+        let (mut times, mut sides) = (vec![7; times_length], vec![odd(); sides_length]);
+        assert_eq!(work.march(&board, 900, &mut times, &mut sides), Err(refusal));
+        assert_eq!(work.tile_run(&board, TILES, 50, 900, &mut times, &mut sides), Err(refusal));
+        assert_eq!(work.one_round(&board, TILES, 900, &mut times, &mut sides), Err(refusal));
+        assert_eq!((times, sides), (vec![7; times_length], vec![odd(); sides_length]));
     }
-    let (mut times, no_board) = (vec![7; 20], Board { width: 0, ..board.clone() });
+    let (mut times, mut sides) = (vec![7; 20], vec![odd(); 20]);
+    let no_board = Board { width: 0, ..board.clone() };
     let no_house = Board { storeys: 0, slow: vec![], ..board.clone() };
     let no_tiles = Tiles { across: 0, ..TILES };
-    assert_eq!(work.march(&no_board, 900, &mut times), Err(Refusal::SidesOfBoard));
-    assert_eq!(work.tile_run(&no_board, TILES, 50, 900, &mut times), Err(Refusal::SidesOfBoard));
-    assert_eq!(work.march(&no_house, 900, &mut times), Err(Refusal::Storeys));
-    assert_eq!(work.one_round(&no_house, TILES, 900, &mut times), Err(Refusal::Storeys));
-    assert_eq!(work.one_round(&board, no_tiles, 900, &mut times), Err(Refusal::SidesOfTile));
-    assert_eq!(times, vec![7; 20]);
+    assert_eq!(work.march(&no_board, 900, &mut times, &mut sides), Err(Refusal::SidesOfBoard));
+    assert_eq!(work.tile_run(&no_board, TILES, 50, 900, &mut times, &mut sides), Err(Refusal::SidesOfBoard));
+    assert_eq!(work.march(&no_house, 900, &mut times, &mut sides), Err(Refusal::Storeys));
+    assert_eq!(work.one_round(&no_house, TILES, 900, &mut times, &mut sides), Err(Refusal::Storeys));
+    assert_eq!(work.one_round(&board, no_tiles, 900, &mut times, &mut sides), Err(Refusal::SidesOfTile));
+    assert_eq!((&times, &sides), (&vec![7; 20], &vec![odd(); 20]));
     let reached = march(&board, 900).expect("a good board").reached;
-    assert_eq!(work.march(&board, 900, &mut times), Ok(reached));
+    assert_eq!(work.march(&board, 900, &mut times, &mut sides), Ok(reached));
 }
 
 #[test]
 fn a_loop_allocates_once() {
     let boards = SIDES.map(board);
     let (largest, most) = (board((256, 256, 1)), 65_536);
-    let (mut work, mut times) = (Work::new(), vec![NEVER; most]);
+    let (mut work, mut times, mut sides) = (Work::new(), vec![NEVER; most], vec![Sides::NONE; most]);
     let single = Tiles { across: 1, down: 1 };
-    let first = asked_for(|| assert!(work.one_round(&largest, single, 9, &mut times).is_ok()));
+    let first = asked_for(|| assert!(work.one_round(&largest, single, 9, &mut times, &mut sides).is_ok()));
     assert_eq!(first, 4 * most * 4 + most * 4);
     let later = asked_for(|| {
         for board in boards.iter().chain([&largest]) {
-            let times = &mut times[..board.size()];
-            assert!(work.march(board, 900, times).is_ok());
-            assert!(work.one_round(board, TILES, 900, times).is_ok());
-            assert!(work.tile_run(board, TILES, 50, 900, times).is_ok());
+            let (times, sides) = (&mut times[..board.size()], &mut sides[..board.size()]);
+            assert!(work.march(board, 900, times, sides).is_ok());
+            assert!(work.one_round(board, TILES, 900, times, sides).is_ok());
+            assert!(work.tile_run(board, TILES, 50, 900, times, sides).is_ok());
         }
     });
     assert_eq!(later, 0);
@@ -134,7 +146,7 @@ fn what_is_allocated_is_bounded_by_the_largest_board() {
     let starts = vec![Start { cell: 0, time: 0 }; 1_000_000];
     let long = Board { starts, slow: vec![Slowness::equal(1); 1_000_000], ..board((2, 2, 1)) };
     let marching = asked_for(|| assert_eq!(march(&long, 9), Err(Refusal::ListLength)));
-    assert_eq!(marching, 4 * (1 + 4) * 4);
+    assert_eq!(marching, 4 * (1 + 4) * 4 + 4);
     let scenario = Scenario { ticks: 1, ground: Slowness::equal(1), board: long };
     let writing = asked_for(|| assert_eq!(write_scenario(&scenario), Err(Refusal::ListLength)));
     assert_eq!(writing, 20 + 20 * 4);

@@ -1,18 +1,20 @@
-// The arrival time of a front at a cell, from the times of its six neighbours: the local rule.
+// The arrival time of a front at a cell, from the times of its six neighbours: the local rule. And from which sides it came.
 // Of two axes, left or right and above or below, one comes first and the other `apart` ticks after it. A straight step from the first takes x
 // ticks, from the second y. `past` ticks after the second are enough if ((apart + past) y)² + (past x)² reaches (x y)².
 // Over or under is the third axis, of equal numbers alone. Where it counts, the last of the three comes `far` and `near` ticks after the others, and
 // `past` ticks after the last are enough if (far + past)² + (near + past)² + past² reaches the square of the slowness.
 ghost use mathlib.Core.Path.{_≡_};
 ghost use Prim.Native.Nat.{_+_, _-_, _*_, _≤_, _<_, min, max};
-ghost use lib.Dec.{ltb};
-ghost use Rattle.eikonal.specs.Board.{never, earlier, local-of};
+ghost use mathlib.Core.Bool.{cond};
+ghost use lib.Dec.{ltb, leb};
+ghost use Rattle.eikonal.specs.Board.{never, earlier, local-of, local};
+ghost use Rattle.eikonal.specs.Sides.{side, sides-of};
 ghost use Rattle.eikonal.specs.Entry.{seen, pair-refusal, local-refusal, Local-says};
 ghost use Rattle.eikonal.specs.Inner.Weighed.{weighed, three-squares};
 use eikonal::LARGEST;
+use eikonal::LocalReply;
 use eikonal::NEVER;
 use eikonal::Refusal;
-use eikonal::Reply;
 use eikonal::cause;
 use eikonal::refusals::is_half_wall;
 use eikonal::refusals::is_steep;
@@ -282,7 +284,66 @@ fn local_refusal(g: u32, h: u32, over: u32, under: u32) -> Refusal
     or_else(pair, by_23)
 }
 
-// The local rule: 5, 21, 23, or the time.
+// The time, of numbers that are not refused.
+fn local_time(
+    g: u32,
+    h: u32,
+    left: u32,
+    right: u32,
+    above: u32,
+    below: u32,
+    over: u32,
+    under: u32,
+) -> u32
+    requires { ⌜ local-refusal g h over under .number ≡ 0 ⌝ }
+    ensures { λ r. ⌜ r ≡ local g h (seen left) (seen right) (seen above) (seen below) (seen over) (seen under) ⌝ }
+{
+    let across = axis(left, right);
+    let down = axis(above, below);
+    if g != h {
+        return of_unequal(NEVER, g, h, across, down);
+    }
+    let storey = axis(over, under);
+    if storey == NEVER {
+        return of_equal(NEVER, g, across, down);
+    }
+    of_three(NEVER, g, across, down, storey)
+}
+
+// On one axis: 1 for the first of two times, if it is below t and not above the second; else 2 for the second, if it is below t; else 0.
+pub fn side(first: u32, second: u32, t: u32) -> u8
+    ensures is { λ r. ⌜ r ≡ side first second t ⌝ }
+    ensures most { λ r. ⌜ r ≤ 2 ⌝ }
+{
+    if (first < t) | (second < t) {
+        if first <= second { 1 } else { 2 }
+    } else {
+        0
+    }
+}
+
+// The byte, of the axes of row and column, and of all three. Of the time 0 there are none.
+pub fn flat_sides(left: u32, right: u32, above: u32, below: u32, t: u32) -> u8
+    ensures is { λ r. ⌜ r ≡ side left right t + 4 * side above below t ⌝ }
+    ensures most { λ r. ⌜ r ≤ 10 ⌝ }
+{
+    side(left, right, t) + 4 * side(above, below, t)
+}
+
+fn sides_of(left: u32, right: u32, above: u32, below: u32, over: u32, under: u32, t: u32) -> u8
+    ensures { λ r. ⌜ r ≡ sides-of left right above below over under t ⌝ }
+{
+    flat_sides(left, right, above, below, t) + 16 * side(over, under, t)
+}
+
+// A time up to the bound, else 0, which has no sides.
+pub fn shown(t: u32, bound: u32) -> u32
+    ensures { λ r. ⌜ r ≡ cond (leb t bound) t 0 ⌝ }
+{
+    if t <= bound { t } else { 0 }
+}
+
+// The local rule: 5, 21, 23, or the time and its sides.
 pub fn local_rule(
     g: u32,
     h: u32,
@@ -292,21 +353,30 @@ pub fn local_rule(
     below: u32,
     over: u32,
     under: u32,
-) -> Reply
+) -> LocalReply
     ensures { λ x. ⌜ Local-says g h left right above below over under x ⌝ }
 {
     let refusal = local_refusal(g, h, over, under);
     if refusal.number != 0 {
-        return eikonal::refused(refusal);
+        return LocalReply {
+            number: refusal.number,
+            time: 0,
+            sides: 0,
+        };
     }
-    let across = axis(left, right);
-    let down = axis(above, below);
-    if g != h {
-        return eikonal::counted(of_unequal(NEVER, g, h, across, down));
+    let t = local_time(g, h, left, right, above, below, over, under);
+    let sides = sides_of(
+        known(left),
+        known(right),
+        known(above),
+        known(below),
+        known(over),
+        known(under),
+        shown(t, NEVER - 1),
+    );
+    LocalReply {
+        number: 0,
+        time: t,
+        sides: sides as u32,
     }
-    let storey = axis(over, under);
-    if storey == NEVER {
-        return eikonal::counted(of_equal(NEVER, g, across, down));
-    }
-    eikonal::counted(of_three(NEVER, g, across, down, storey))
 }

@@ -45,6 +45,14 @@ clip-never h = go (clipped h never)
     go (kept i p) = p
     go (lost i p) = p
 
+-- a later bound keeps what an earlier one kept
+pub clip-again : (k h x : ℕ) → h ≤ k → clip k (clip h x) ≡ clip h x
+clip-again k h x l = go (clipped h x)
+  where
+    go : Clipped h x → clip k (clip h x) ≡ clip h x
+    go (kept i p) = rw p (clip-keeps k x (omega arith))
+    go (lost i p) = rw p (clip-never k)
+
 pub clip-agree : (h t x y : ℕ) → t ≤ never → min t x ≡ min t y → min t (clip h x) ≡ min t (clip h y)
 clip-agree h t x y k e = go (clipped h x) (clipped h y)
   where

@@ -6,14 +6,15 @@ use Prim.Native.Nat.{ℕ, suc, _≤_, _<_, min}
 use native.Mathlib.Omega.{arith}
 use lib.ListN.{length}
 use lib.Seq.{ext-getD}
-use Rattle.eikonal.specs.Board.{Board, never, largest, size, met, time, cut}
+use Rattle.eikonal.specs.Board.{Board, never, largest, size, met, time, cut, marched}
 use Rattle.eikonal.specs.Tiles.{tiled, solved-in-tiles, round}
 use Rattle.eikonal.specs.Inner.Good.{Good}
 use Rattle.eikonal.specs.Inner.Clip.{clip}
 use Rattle.eikonal.proofs.Levels.{order, Agree, Causal, one-fixed}
 use Rattle.eikonal.proofs.Clip.{clip-never, clip-agree, clip-low, clip-same, clip-most, cut-time, cut-length}
-use Rattle.eikonal.proofs.Lattices.{Look, Sound}
+use Rattle.eikonal.proofs.Lattices.{Look, Sound, plain, plain-sound}
 use Rattle.eikonal.proofs.Passes.{rule, rule-on, rule-off, rule-causal, solved-by, solved-length, solved-fixed, time-off}
+use Rattle.eikonal.proofs.Solution.{solved-plain}
 use Rattle.eikonal.proofs.Ghosts.{tiled-sound}
 
 module _ (b : Board) (look : Look) (sound : Sound look) (g : Good b) (m : ℕ) (low : m < never) where
@@ -26,7 +27,7 @@ module _ (b : Board) (look : Look) (sound : Sound look) (g : Good b) (m : ℕ) (
       clip-agree m (suc t) (rule b look f c) (rule b look h c) k (rule-causal b look g sound t f h k a c)
 
   -- the cut solution meets the cut rule
-  pub cut-meets : (c : ℕ) → time (cut m (solved-by b look)) c ≡ clip m (rule b look (time (cut m (solved-by b look))) c)
+  cut-meets : (c : ℕ) → time (cut m (solved-by b look)) c ≡ clip m (rule b look (time (cut m (solved-by b look))) c)
   cut-meets c =
       cut-time m (solved-by b look) c low
       ∙ clip-same m (time (solved-by b look) c) (rule b look (time (cut m (solved-by b look))) c)
@@ -65,9 +66,21 @@ module _ (b : Board) (look : Look) (sound : Sound look) (g : Good b) (m : ℕ) (
             clip-most m (rule b look (time (cut m (solved-by b look))) c) (omega arith),
           )
 
--- TIMES THAT MEET THE TILED RULE UP TO THE BOUND ARE THE ROUND
-pub round-by-rule : (b : Board) → Good b → (tw th m : ℕ) → m ≤ largest → (stored ts : List ℕ) → length ts ≡ size b
-    → ((c : ℕ) → c < size b → time ts c ≡ clip m (met b c (tiled b tw th stored (time ts) c))) → ts ≡ round b tw th m stored
-unfolding round solved-in-tiles solved-by
-round-by-rule b g tw th m k stored ts l meets =
-    cut-by-rule b (tiled b tw th stored) (tiled-sound b tw th stored) g m (omega arith) ts l meets
+-- A MARCH MEETS THE RULE up to its horizon, A ROUND THE TILED RULE up to its bound
+module _ (b : Board) (g : Good b) where
+  pub march-meets : (m : ℕ) → m ≤ largest → (c : ℕ) → c < size b → time (marched b m) c ≡ clip m (met b c (time (marched b m)))
+  unfolding marched
+  march-meets m k c on = rw (solved-plain b) (cut-meets b plain plain-sound g m (omega arith) c ∙ ap (clip m) (rule-on b plain _ c on))
+
+  module _ (tw th m : ℕ) (k : m ≤ largest) (stored : List ℕ) where
+    pub round-meets : (c : ℕ) → c < size b → time (round b tw th m stored) c ≡ clip m (met b c (tiled b tw th stored (time (round b tw th m stored)) c))
+    unfolding round solved-in-tiles solved-by
+    round-meets c on =
+        let look = tiled b tw th stored in
+        cut-meets b look (tiled-sound b tw th stored) g m (omega arith) c ∙ ap (clip m) (rule-on b look _ c on)
+
+    -- and times that do are the round
+    pub round-by-rule : (ts : List ℕ) → length ts ≡ size b
+        → ((c : ℕ) → c < size b → time ts c ≡ clip m (met b c (tiled b tw th stored (time ts) c))) → ts ≡ round b tw th m stored
+    unfolding round solved-in-tiles solved-by
+    round-by-rule ts l meets = cut-by-rule b (tiled b tw th stored) (tiled-sound b tw th stored) g m (omega arith) ts l meets

@@ -9,7 +9,8 @@ use native.Mathlib.Nat.{suc-mod, mod-lt, mod-eq-of-lt, mod-self, zero-mod, div-a
 use lib.Dec.{eqb}
 use lib.ListN.{length}
 use borrow.Author.Tests.{eqb-false, ne-eqb}
-use Rattle.eikonal.specs.Axes.{Axis, place, sight, sights, Next, Next-on, here, there, Near, Spans, All-span, also, never, earlier, earliest}
+use Rattle.eikonal.specs.Axes.{Axis, place, before, behind, sight, sights, Next, Next-on, here, there, Near, Spans, All-span, also}
+use Rattle.eikonal.specs.Axes.{never, earlier, earliest}
 use Rattle.eikonal.proofs.Levels.{order}
 use Rattle.eikonal.proofs.Local.{earlier-min}
 
@@ -78,11 +79,24 @@ module _ {n : ℕ} {a : Axis} (sp : Spans n a) where
       omega (arith, mul-le-mul-right u next, div-add-mod' c u, mod-lt c (sp .unit-low), sp .whole)
 
   -- ---- the two neighbours on it
-  pub before : (c : ℕ) → c < n → place a c ≢ 0 → (c - a .unit < n) × Next a (c - a .unit) c
-  before c l q = (omega arith, record { step = back-on c q; inner = not-last c q })
+  cell-before : (c : ℕ) → c < n → place a c ≢ 0 → (c - a .unit < n) × Next a (c - a .unit) c
+  cell-before c l q = (omega arith, record { step = back-on c q; inner = not-last c q })
 
-  pub behind : (c : ℕ) → c < n → suc (place a c) ≢ a .count → (c + a .unit < n) × Next a c (c + a .unit)
-  behind c l q = (on-cell c l q, record { step = refl; inner = q })
+  cell-behind : (c : ℕ) → c < n → suc (place a c) ≢ a .count → (c + a .unit < n) × Next a c (c + a .unit)
+  cell-behind c l q = (on-cell c l q, record { step = refl; inner = q })
+
+  -- what holds of their times, and of never, holds of what is seen before and behind
+  module _ (P : ℕ → ℕ → Type 0) (off : P never never) (c : ℕ) (on : c < n) (f g : ℕ → ℕ)
+      (beside : (e : ℕ) → e < n → Next a c e ⊎ Next a e c → P (f e) (g e)) where
+    side-by : (p : Bool) (x y : ℕ) → (p ≡ false → P x y) → P (cond p never x) (cond p never y)
+    side-by true x y h = off
+    side-by false x y h = h refl
+
+    pub before-by : P (before a c f) (before a c g)
+    before-by = side-by _ _ _ (λ z. let b = cell-before c on (eqb-false (place a c) 0 z) in beside _ (b .0) (inr (b .1)))
+
+    pub behind-by : P (behind a c f) (behind a c g)
+    behind-by = side-by _ _ _ (λ z. let b = cell-behind c on (eqb-false (suc (place a c)) (a .count) z) in beside _ (b .0) (inl (b .1)))
 
   pub next-first : {c e : ℕ} → Next a c e → place a e ≢ 0
   next-first {c} {e} k z = omega (arith, sym (place-on c (k .inner)) ∙ ap (place a) (k .step) ∙ z)
@@ -111,19 +125,19 @@ module _ {n : ℕ} {a : Axis} (sp : Spans n a) where
             → sight a c f ≡ earlier (cond p never (f (c - a .unit))) (cond q never (f (c + a .unit))) → Seen c
         go true e true d k s = absurd (omega (arith, earlier-min never never))
         go true e false d k s =
-            let b = behind c l (eqb-false (suc (place a c)) (a .count) d) in
+            let b = cell-behind c l (eqb-false (suc (place a c)) (a .count) d) in
             one (c + a .unit) (b .0) (inl (b .1)) (omega (arith, earlier-min never (f (c + a .unit))))
         go false e true d k s =
-            let b = before c l (eqb-false (place a c) 0 e) in
+            let b = cell-before c l (eqb-false (place a c) 0 e) in
             one (c - a .unit) (b .0) (inr (b .1)) (omega (arith, earlier-min (f (c - a .unit)) never))
         go false e false d k s = by (order (f (c - a .unit)) (f (c + a .unit)))
           where
             by : (f (c - a .unit) < f (c + a .unit)) ⊎ (f (c + a .unit) ≤ f (c - a .unit)) → Seen c
             by (inl i) =
-                let b = before c l (eqb-false (place a c) 0 e) in
+                let b = cell-before c l (eqb-false (place a c) 0 e) in
                 one (c - a .unit) (b .0) (inr (b .1)) (omega (arith, earlier-min (f (c - a .unit)) (f (c + a .unit))))
             by (inr i) =
-                let b = behind c l (eqb-false (suc (place a c)) (a .count) d) in
+                let b = cell-behind c l (eqb-false (suc (place a c)) (a .count) d) in
                 one (c + a .unit) (b .0) (inl (b .1)) (omega (arith, earlier-min (f (c - a .unit)) (f (c + a .unit))))
 
 -- ---- SEVERAL AXES: a neighbour on one of them is one on the first, or on a later one

@@ -1,35 +1,28 @@
 -- On a lattice of any number of axes the rule is causal and monotone, and goes by a cell's neighbours alone; so exactly one set of times fits.
 use mathlib.Core.Path.{_≡_, refl, sym, ap, ap₂, _∙_, fun-ext}
-use mathlib.Core.Bool.{Bool, true, false, cond}
+use mathlib.Core.Bool.{cond}
 use mathlib.Core.List.{List, [], _∷_}
 use mathlib.Core.Logic.{_⊎_, inl, inr, _≢_}
 use Prim.Native.Nat.{ℕ, zero, suc, _+_, _≤_, _<_, min}
 use native.Mathlib.Omega.{arith}
 use lib.Dec.{ltb}
-use borrow.Author.Tests.{eqb-false, lt-ltb, le-ltb}
-use Rattle.eikonal.specs.Axes.{never, earlier, Axis, place, sight, sights, Next, Near, Spans, All-span, none, also, earliest, Lattice, given-on, met-on}
+use borrow.Author.Tests.{lt-ltb, le-ltb}
+use Rattle.eikonal.specs.Axes.{never, earlier, Axis, sight, sights, Next, Near, Spans, All-span, none, also, earliest, Lattice, given-on, met-on}
 use Rattle.eikonal.specs.Promise.{Earlier-no-later, One-set, Fits}
 use Rattle.eikonal.proofs.Levels.{order, Agree, Under, Causal, Monotone, worked, count-most, one-fixed, reached-limit}
 use Rattle.eikonal.proofs.Axes.{axes-under, axes-agree, axes-late, axes-step, Answers-axes, axes-answers}
 use Rattle.eikonal.proofs.Local.{earlier-min, earlier-agree, earlier-under}
-use Rattle.eikonal.proofs.Grid.{before, behind, near-here, near-there}
+use Rattle.eikonal.proofs.Grid.{before-by, behind-by, near-here, near-there}
 
 -- a relation of times that the earlier of two keeps
 abbrev pub Kept : (ℕ → ℕ → Type 0) → Type 0
 Kept P = (P never never) × ((a b x y : ℕ) → P a x → P b y → P (earlier a b) (earlier x y))
 
 module _ (P : ℕ → ℕ → Type 0) (kept : Kept P) where
-  side-by : (p : Bool) (x y : ℕ) → (p ≡ false → P x y) → P (cond p never x) (cond p never y)
-  side-by true x y h = kept .0
-  side-by false x y h = h refl
-
   sight-by : {n : ℕ} {a : Axis} → Spans n a → (c : ℕ) → c < n → (f g : ℕ → ℕ) → ((e : ℕ) → e < n → Next a c e ⊎ Next a e c → P (f e) (g e))
       → P (sight a c f) (sight a c g)
   unfolding sight
-  sight-by {a = a} sp c on f g h =
-      kept .1 _ _ _ _
-      (side-by _ _ _ (λ z. let b = before sp c on (eqb-false (place a c) 0 z) in h _ (b .0) (inr (b .1))))
-      (side-by _ _ _ (λ z. let b = behind sp c on (eqb-false (suc (place a c)) (a .count) z) in h _ (b .0) (inl (b .1))))
+  sight-by sp c on f g h = kept .1 _ _ _ _ (before-by sp P (kept .0) c on f g h) (behind-by sp P (kept .0) c on f g h)
 
   -- what holds of a cell's neighbours holds of what it sees along each axis
   pub sights-by : {n : ℕ} (xs : List Axis) → All-span n xs → (c : ℕ) → c < n → (f g : ℕ → ℕ) → ((e : ℕ) → e < n → Near xs c e → P (f e) (g e))

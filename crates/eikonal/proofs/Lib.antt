@@ -22,6 +22,7 @@ pub mod Ghosts
 pub mod LastRound
 pub mod Rounds
 pub mod CutRule
+pub mod Sides
 pub mod Accepted
 pub mod Answers
 pub mod Ledger

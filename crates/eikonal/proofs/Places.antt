@@ -19,7 +19,7 @@ use Rattle.eikonal.specs.Refusals.{Handed, cause, cause-at, none, or-els
 use Rattle.eikonal.specs.Refusals.{steep, half-wall, uneven, any-pair, pairs-refusal, slows-refusal, ill-stacked, storeys-refusal, house-refusal}
 use Rattle.eikonal.specs.Refusals.{sides-good, order-good}
 use Rattle.eikonal.specs.Refusals.{records-refusal, starts-refusal, handed-refusal, tiles-refusal, job-refusal, lists-refusal}
-use Rattle.eikonal.specs.Ledger.{Call, call-board, refusal, answer, answered, ledger-answer}
+use Rattle.eikonal.specs.Ledger.{Sheet, Call, call-board, refusal, answer, answered, ledger-answer}
 use Rattle.eikonal.specs.Promise.{cell-at, All-on, All-rise, First-at-fault, Place-is-first, Steps, All-place, Every-place}
 use Rattle.eikonal.proofs.Faults.{least-at, there, before}
 use Rattle.eikonal.proofs.Good.{and-true, or-false}
@@ -182,9 +182,9 @@ module _ (n : ℕ) (xs : List Start) where
     tells-job b (Round tw th m) ys = tested r (ltb largest m) _ _ refl (tells-tiles b tw th ys)
     tells-job b (Run tw th s z) ys = tested r (ltb largest z || (eqb s 0 || ltb largest s)) _ _ refl (tells-tiles b tw th ys)
 
-    tells-lists : (m t w : ℕ) → Tells (lists-refusal m t w)
+    tells-lists : (m t s w : ℕ) → Tells (lists-refusal m t s w)
     unfolding lists-refusal
-    tells-lists m t w = tested r (not (eqb t m)) _ _ refl (tested r (ltb w (4 * m)) _ none refl (passes r))
+    tells-lists m t s w = tested r (not (eqb t m)) _ _ refl (tested r (not (eqb s m) || ltb w (4 * m)) _ none refl (passes r))
 
 -- the starts of a board
 pub tells-starts : (b : Board) → Tells (size b) (b .starts) (starts-refusal b)
@@ -208,19 +208,19 @@ tells-handed p =
 -- THE PLACE in the answer of a call
 pub place-is-first : Place-is-first
 unfolding Place-is-first ledger-answer refusal
-place-is-first c ts =
+place-is-first c q =
     let b = call-board c in
     let n = size b in
     let xs = b .starts in
     tells-answer n xs _ _
     (after n xs _ _ (tells-handed (c .handed))
-    (λ r. after n xs _ _ (tells-job n xs r b (c .job) (c .order)) (λ q. tells-lists n xs q n (length ts) (c .work))))
+    (λ r. after n xs _ _ (tells-job n xs r b (c .job) (c .order)) (λ r. tells-lists n xs r n (length (q .times)) (length (q .sides)) (c .work))))
 
 -- and all along a list of calls
 pub every-place : Every-place
 unfolding Every-place Place-is-first
 every-place _ _ _ _ s = along s
   where
-    along : {cs : List Call} {xs : List Reply} {a z : List ℕ} → Steps a cs xs z → All-place cs xs
+    along : {cs : List Call} {xs : List Reply} {a z : Sheet} → Steps a cs xs z → All-place cs xs
     along (Steps.done a) = All-place.done
-    along (Steps.then l m z c x cs xs s rest) = All-place.then c x cs xs (rw (s .answers) (place-is-first c (l .times))) (along rest)
+    along (Steps.then l m z c x cs xs s rest) = All-place.then c x cs xs (rw (s .answers) (place-is-first c (l .sheet))) (along rest)

@@ -1,13 +1,14 @@
 -- THE PROMISES, gathered: each statement of specs/Promise.antt with its proof.
 use Rattle.eikonal.specs.Promise.{Place-is-first, Local-least, Old-rule, Diagonal-step, One-solution, Times-below, Never-past-horizon, Never-unjoined}
 use Rattle.eikonal.specs.Promise.{Round-is-solution, Run-is-march, Rounds-least, Few-rounds, Order-free, Run-order-free, Run-is-rounds, Every-list}
-use Rattle.eikonal.specs.Promise.{Every-place, Lists-keep, Earlier-no-later, One-set}
+use Rattle.eikonal.specs.Promise.{Sides-order-free, Every-place, Lists-keep, Earlier-no-later, One-set}
 use Rattle.eikonal.specs.Promise.{Same-handed, Lists-are-records, Same-answers, Third-condition}
 use Rattle.eikonal.proofs.LocalRule as local-rule
 use Rattle.eikonal.proofs.Lattices as lattices
 use Rattle.eikonal.proofs.Solution as solution
 use Rattle.eikonal.proofs.Never as never
 use Rattle.eikonal.proofs.Rounds as rounds
+use Rattle.eikonal.proofs.Sides as sides
 use Rattle.eikonal.proofs.Ledger as ledger
 use Rattle.eikonal.proofs.Places as places
 
@@ -50,7 +51,7 @@ pub round-is-solution : Round-is-solution
 round-is-solution = rounds.round-is-solution
 
 pub run-is-march : Run-is-march
-run-is-march = rounds.run-is-march
+run-is-march = sides.run-is-march
 
 pub rounds-least : Rounds-least
 rounds-least = rounds.rounds-least
@@ -63,6 +64,9 @@ order-free = ledger.order-free
 
 pub run-order-free : Run-order-free
 run-order-free = ledger.run-order-free
+
+pub sides-order-free : Sides-order-free
+sides-order-free = ledger.sides-order-free
 
 pub run-is-rounds : Run-is-rounds
 run-is-rounds = ledger.run-is-rounds
@@ -87,6 +91,7 @@ third-condition = record {
   run-is-rounds = run-is-rounds;
   order-free = order-free;
   run-order-free = run-order-free;
+  sides-order-free = sides-order-free;
 }
 
 -- records and plain lists

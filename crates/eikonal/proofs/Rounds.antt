@@ -1,5 +1,4 @@
--- A round over tiles solves a board that is seen in part as stored, and rounds come to the march: Round-is-solution, Run-is-march, Rounds-least and
--- Few-rounds.
+-- A round over tiles solves a board that is seen in part as stored, and rounds come to the march: Round-is-solution, Rounds-least and Few-rounds.
 use mathlib.Core.Path.{_≡_, refl, sym, ap, _∙_}
 use mathlib.Core.Bool.{Bool, true, false, cond, true≢false}
 use mathlib.Core.List.{List}
@@ -14,13 +13,14 @@ use borrow.Author.Tests.{eqb-true}
 use Rattle.eikonal.specs.Board.{Board, never, largest, size, slowness, time, solved, least-from, marched, reached, all-never}
 use Rattle.eikonal.specs.Tiles.{tile-of, counts-as, tiled, Meets-in-tiles, solved-in-tiles, round}
 use Rattle.eikonal.specs.Tiles.{after-rounds, last-round, rounds, rounds-from, up}
-use Rattle.eikonal.specs.Promise.{Round-is-solution, Run-is-march, Rounds-least, Few-rounds}
+use Rattle.eikonal.specs.Promise.{Round-is-solution, Rounds-least, Few-rounds}
 use Rattle.eikonal.specs.Inner.Good.{Good}
 use Rattle.eikonal.specs.Inner.Clip.{clip}
 use Rattle.eikonal.proofs.Levels.{order, lower, Agree, Under, worked, count, count-most, settles}
 use Rattle.eikonal.proofs.Least.{Least, least, least-bound}
 use Rattle.eikonal.proofs.Up.{up-enough}
-use Rattle.eikonal.proofs.Clip.{clip-agree, clip-under, clip-late, clip-low, clip-same, clip-most, cut-time, cut-length, reached-count}
+use Rattle.eikonal.proofs.Clip.{clip-never, clip-agree, clip-under, clip-late, clip-low, clip-same, clip-again, clip-most}
+use Rattle.eikonal.proofs.Clip.{cut-time, cut-length, reached-count}
 use Rattle.eikonal.proofs.Altered.{altered-same}
 use Rattle.eikonal.proofs.Good.{good}
 use Rattle.eikonal.proofs.Lattices.{plain, plain-sound}
@@ -79,26 +79,37 @@ module _ (b : Board) (g : Good b) (tw th : ℕ) where
   unfolding marched
   march-time h c k = cut-time h (solved b) c k
 
+  -- the march's times count as they are
+  pub march-counts : (h : ℕ) → h ≤ largest → (e : ℕ) → counts-as b (marched b h) e ≡ time (marched b h) e
+  march-counts h l e = stored b (marched b h) e ∙ rw (march-time h e (omega arith)) (go (eqb (slowness b e) 0) refl)
+    where
+      go : (p : Bool) → eqb (slowness b e) 0 ≡ p → cond p never (clip largest (clip h (whole e))) ≡ clip h (whole e)
+      go true k = rw (wall-never e (eqb-true (slowness b e) 0 k)) (sym (clip-never h))
+      go false k = clip-again largest h (whole e) l
+
   -- tiles that see the march have the march's times
   march-tiles : (h : ℕ) → h ≤ largest → Agree (suc h) (tiles (marched b h)) whole
   march-tiles h l =
       rule-levels g (tiled b tw th (marched b h)) plain (tiles (marched b h)) whole h (omega arith) (tiles-fixed (marched b h)) whole-fixed see
       (suc h) (omega arith)
     where
-      other : (p : Bool) (u e : ℕ) → u ≤ h → eqb (slowness b e) 0 ≡ p → min u (cond p never (clip largest (time (marched b h) e))) ≡ min u (whole e)
-      other true u e i k = rw (wall-never e (eqb-true (slowness b e) 0 k)) refl
-      other false u e i k =
-          clip-low largest u (time (marched b h) e) (omega arith) (omega arith)
-          ∙ ap (min u) (march-time h e (omega arith))
-          ∙ clip-low h u (whole e) (omega arith) (omega arith)
-
       pick : (p : Bool) (u e : ℕ) → u ≤ h → min u (tiles (marched b h) e) ≡ min u (whole e)
           → min u (cond p (tiles (marched b h) e) (counts-as b (marched b h) e)) ≡ min u (whole e)
       pick true u e i k = k
-      pick false u e i k = rw (stored b (marched b h) e) (other (eqb (slowness b e) 0) u e i refl)
+      pick false u e i k = rw (march-counts h l e, march-time h e (omega arith)) (clip-low h u (whole e) (omega arith) (omega arith))
 
       see : (u : ℕ) → u ≤ h → Agree u (tiles (marched b h)) whole → (c : ℕ) → Agree u (tiled b tw th (marched b h) (tiles (marched b h)) c) whole
       see u i k c e = pick (eqb (tile-of b tw th c) (tile-of b tw th e)) u e i (k e)
+
+  march-again : (h : ℕ) → h ≤ largest → (c : ℕ) → clip h (tiles (marched b h) c) ≡ time (marched b h) c
+  march-again h l c = clip-same h (tiles (marched b h) c) (whole c) (march-tiles h l c) ∙ sym (march-time h c (omega arith))
+
+  -- so a round to the horizon that is lent the march leaves it
+  pub march-stays : (h : ℕ) → h ≤ largest → round b tw th h (marched b h) ≡ marched b h
+  unfolding time
+  march-stays h l =
+      ext-getD never (round b tw th h (marched b h)) (marched b h) (round-length h (marched b h) ∙ sym (marched-long b h))
+      (λ c i. round-time h (marched b h) c (omega arith) ∙ march-again h l c)
 
   -- A ROUND AT THE HORIZON has one level more of the march than it was lent
   round-step : (h t : ℕ) (ts : List ℕ) → h ≤ largest → t < never → Agree t (time ts) (time (marched b h))
@@ -106,7 +117,7 @@ module _ (b : Board) (g : Good b) (tw th : ℕ) where
   round-step h t ts l k a c =
       ap (min (suc t)) (round-time h ts c (omega arith))
       ∙ clip-agree h (suc t) (tiles ts c) (tiles (marched b h) c) k (tiles-agree t ts (marched b h) k a c)
-      ∙ ap (min (suc t)) (clip-same h (tiles (marched b h) c) (whole c) (march-tiles h l c) ∙ sym (march-time h c (omega arith)))
+      ∙ ap (min (suc t)) (march-again h l c)
 
   -- NO ROUND goes below the march
   whole-tiles : (ts : List ℕ) → Under never whole (time ts) → Under never whole (tiles ts)
@@ -202,10 +213,13 @@ module _ (b : Board) (g : Good b) (tw th : ℕ) where
         let more : after (suc (k + j)) ≡ marched b h = rw add-suc at (soon-march k (suc j) i (omega arith)) in
         is-last b tw th s h (k + j) (omega arith) (more ∙ sym (soon-march k j i r))
 
-    march-last : (k : ℕ) → last-round b tw th s h (suc k) ≡ true → after (suc k) ≡ marched b h
+    -- it saw the march and left it
+    pub march-last : (k : ℕ) → last-round b tw th s h (suc k) ≡ true → (after k ≡ marched b h) × (after (suc k) ≡ marched b h)
     march-last k e =
         let last = last-says b tw th s h k e in
-        still-march k (last .0) (altered-same (after k) (after (suc k)) (after-length k ∙ sym (after-length (suc k))) (last .1))
+        let same = altered-same (after k) (after (suc k)) (after-length k ∙ sym (after-length (suc k))) (last .1) in
+        let left = still-march k (last .0) same in
+        (same ∙ left, left)
 
     rounds-from-least : (f k : ℕ) → rounds-from f k b tw th s h ≡ least-from f k (λ k. last-round b tw th s h k)
     unfolding rounds-from least-from
@@ -233,7 +247,7 @@ module _ (b : Board) (g : Good b) (tw th : ℕ) where
       where
         go : (k : ℕ) → 1 ≤ k → last-round b tw th s h k ≡ true → after k ≡ marched b h
         go zero i e = absurd (omega arith)
-        go (suc k) i e = march-last k e
+        go (suc k) i e = march-last k e .1
 
     -- the first round that is a last one is the number of rounds
     pub rounds-is : (k : ℕ) → 1 ≤ k → last-round b tw th s h k ≡ true → ((j : ℕ) → 1 ≤ j → j < k → last-round b tw th s h j ≡ false) → rounds b tw th s h ≡ k
@@ -246,12 +260,6 @@ module _ (b : Board) (g : Good b) (tw th : ℕ) where
 pub round-is-solution : Round-is-solution
 unfolding Round-is-solution Meets-in-tiles solved-in-tiles solved-by
 round-is-solution b tw th ts e = one-solution-by b (tiled b tw th ts) (tiled-sound b tw th ts) (good b e)
-
--- THE THIRD CONDITION's weight
-pub run-is-march : Run-is-march
-unfolding Run-is-march
-run-is-march b tw th s h e w1 w2 t1 t2 low s2 high =
-    (rounds-last b (good b e) tw th s h low high, rounds-march b (good b e) tw th s h low high)
 
 pub rounds-least : Rounds-least
 unfolding Rounds-least

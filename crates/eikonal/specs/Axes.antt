@@ -25,10 +25,16 @@ axis u n = record { unit = u; count = n }
 unfoldable pub place : Axis → (c : ℕ) → ℕ
 place a c = c / a .unit % a .count
 
--- what a cell sees along an axis: the earlier of the cells before and behind it; off the axis is never
+-- what a cell sees of the cells before and behind it on an axis; off the axis is never
+abbrev pub before : Axis → (c : ℕ) → (seen : ℕ → ℕ) → ℕ
+before a c f = cond (eqb (place a c) 0) never (f (c - a .unit))
+
+abbrev pub behind : Axis → (c : ℕ) → (seen : ℕ → ℕ) → ℕ
+behind a c f = cond (eqb (suc (place a c)) (a .count)) never (f (c + a .unit))
+
+-- and along it: the earlier of the two
 unfoldable pub sight : Axis → (c : ℕ) → (seen : ℕ → ℕ) → ℕ
-sight a c f =
-    earlier (cond (eqb (place a c) 0) never (f (c - a .unit))) (cond (eqb (suc (place a c)) (a .count)) never (f (c + a .unit)))
+sight a c f = earlier (before a c f) (behind a c f)
 
 -- along each of several, by its number
 abbrev pub sights : List Axis → (c : ℕ) → (seen : ℕ → ℕ) → (i : ℕ) → ℕ

@@ -4,3 +4,4 @@ pub mod Judge
 pub mod Good
 pub mod Clip
 pub mod Weighed
+pub mod Sides

@@ -12,7 +12,8 @@ use Rattle.eikonal.specs.Board.{all-never, least-from, square, passes, e
 use Rattle.eikonal.specs.declared.Start.{Start}
 use Rattle.eikonal.specs.Tiles.{Meets-in-tiles, solved-in-tiles, after-rounds, last-round, rounds, up}
 use Rattle.eikonal.specs.Refusals.{Handed, by-lists, by-records, starts-of, cells-of, begins-of, board-refusal, order-good}
-use Rattle.eikonal.specs.Ledger.{Call, call, call-board, refusal, ledger-answer, ledger-after, Book, book, ledger}
+use Rattle.eikonal.specs.Sides.{march-sides, sides-after}
+use Rattle.eikonal.specs.Ledger.{Sheet, sheet, Call, call, call-board, refusal, ledger-answer, ledger-after, Book, book, ledger}
 use Rattle.eikonal.specs.Entry.{Lent, Says}
 use Rattle.eikonal.specs.declared.Reply.{Reply}
 use Rattle.eikonal.specs.declared.Job.{Job}
@@ -49,7 +50,7 @@ abbrev pub Places : Call → Reply → Type 0
 Places c x = First-at-fault (size (call-board c)) (call-board c .starts) (x .number) (x .place)
 
 unfoldable pub Place-is-first : Type 0
-Place-is-first = (c : Call) (ts : List ℕ) → Places c (ledger-answer c ts)
+Place-is-first = (c : Call) (q : Sheet) → Places c (ledger-answer c q)
 
 -- ---- THE LOCAL RULE: its answer passes, and no earlier time does; it is at most a straight step away from each axis
 unfoldable pub Local-least : Type 0
@@ -144,11 +145,12 @@ Round-is-solution =
     Meets-in-tiles b tw th stored (solved-in-tiles b tw th stored)
     × ((ts : List ℕ) → Meets-in-tiles b tw th stored ts → ts ≡ solved-in-tiles b tw th stored)
 
--- a tile run's rounds come to the march, whatever its tiles and stride; its last round is the first that can be, and they are few
+-- a tile run's rounds come to the march, in times and sides, whatever its tiles and stride; its last round is the first that can be, and they are few
 unfoldable pub Run-is-march : Type 0
 Run-is-march =
     (b : Board) (tw th s h : ℕ) → board-good b ≡ true → 1 ≤ tw → tw ≤ 256 → 1 ≤ th → th ≤ 256 → 1 ≤ s → s ≤ 300000000 → h ≤ 300000000 →
     (last-round b tw th s h (rounds b tw th s h) ≡ true) × (after-rounds (rounds b tw th s h) b tw th s h ≡ marched b h)
+    × (sides-after (rounds b tw th s h) b tw th s h ≡ march-sides b h)
 
 unfoldable pub Rounds-least : Type 0
 Rounds-least =
@@ -169,8 +171,8 @@ ordered b (Run tw th s z) xs = order-good b tw th xs
 
 unfoldable pub Order-free : Type 0
 Order-free =
-    (p : Handed) (j : Job) (w : ℕ) (xs ys ts : List ℕ) → ordered (p .board) j xs ≡ true → ordered (p .board) j ys ≡ true →
-    (ledger-after (call p j xs w) ts ≡ ledger-after (call p j ys w) ts) × (ledger-answer (call p j xs w) ts ≡ ledger-answer (call p j ys w) ts)
+    (p : Handed) (j : Job) (w : ℕ) (xs ys : List ℕ) (q : Sheet) → ordered (p .board) j xs ≡ true → ordered (p .board) j ys ≡ true →
+    (ledger-after (call p j xs w) q ≡ ledger-after (call p j ys w) q) × (ledger-answer (call p j xs w) q ≡ ledger-answer (call p j ys w) q)
 
 -- j single rounds with a tile run's arguments and bounds
 unfoldable pub single-rounds : (j : ℕ) → Handed → (tw th stride horizon : ℕ) → (order : List ℕ) → (work : ℕ) → List Call
@@ -178,28 +180,35 @@ single-rounds zero p tw th s h xs w = []
 single-rounds (suc j) p tw th s h xs w =
     single-rounds j p tw th s h xs w ++ (call p (Round tw th (min (suc j * s) h)) xs w ∷ [])
 
--- what a tile run holds after its round j is what j single rounds leave, called in turn from all never
+-- what a tile run holds after its round j is what j single rounds leave, called in turn from all never, whatever sides are lent to the first
 unfoldable pub Run-is-rounds : Type 0
 Run-is-rounds =
-    (p : Handed) (tw th s h w j : ℕ) (xs : List ℕ) → refusal (call p (Run tw th s h) xs w) (size (p .board)) .number ≡ 0 →
-    ledger (single-rounds j p tw th s h xs w) [] (all-never (p .board)) .times ≡ after-rounds j (p .board) tw th s h
+    (p : Handed) (tw th s h w j : ℕ) (xs ss : List ℕ) → refusal (call p (Run tw th s h) xs w) (size (p .board)) (length ss) .number ≡ 0 →
+    let left = ledger (single-rounds j p tw th s h xs w) [] (sheet (all-never (p .board)) ss) .sheet in
+    (left .times ≡ after-rounds j (p .board) tw th s h) × (1 ≤ j → left .sides ≡ sides-after j (p .board) tw th s h)
 
--- and two runs that differ in the order alone hold the same times after every round
+-- two runs that differ in the order alone hold the same after every round,
 unfoldable pub Run-order-free : Type 0
 Run-order-free =
-    (p : Handed) (tw th s h w : ℕ) (xs ys ts : List ℕ) → order-good (p .board) tw th xs ≡ true → order-good (p .board) tw th ys ≡ true →
-    (j : ℕ) → ledger (single-rounds j p tw th s h xs w) [] ts ≡ ledger (single-rounds j p tw th s h ys w) [] ts
+    (p : Handed) (tw th s h w : ℕ) (xs ys : List ℕ) (q : Sheet) → order-good (p .board) tw th xs ≡ true → order-good (p .board) tw th ys ≡ true →
+    (j : ℕ) → ledger (single-rounds j p tw th s h xs w) [] q ≡ ledger (single-rounds j p tw th s h ys w) [] q
 
--- a list of calls, each of which meets its contract and is lent the times that the one before left
-pub data Steps : (times : List ℕ) → List Call → List Reply → (last : List ℕ) → Type 0 where
-  done : (a : List ℕ) → Steps a [] [] a
-  then : (l m : Lent) (z : List ℕ) (c : Call) (x : Reply) (cs : List Call) (xs : List Reply)
-      → Says c x l m → Steps (m .times) cs xs z → Steps (l .times) (c ∷ cs) (x ∷ xs) z
+-- equal sides among it: TWO ORDERS OF TILES GIVE EQUAL SIDES AFTER EACH ROUND
+unfoldable pub Sides-order-free : Type 0
+Sides-order-free =
+    (p : Handed) (tw th s h w : ℕ) (xs ys : List ℕ) (q : Sheet) → order-good (p .board) tw th xs ≡ true → order-good (p .board) tw th ys ≡ true →
+    (j : ℕ) → ledger (single-rounds j p tw th s h xs w) [] q .sheet .sides ≡ ledger (single-rounds j p tw th s h ys w) [] q .sheet .sides
 
--- A SINGLE CLAIM ABOUT THE WHOLE LIST: answers, with counts and places, and times are the ledger's
+-- a list of calls, each of which meets its contract and is lent the times and sides that the one before left
+pub data Steps : Sheet → List Call → List Reply → (last : Sheet) → Type 0 where
+  done : (a : Sheet) → Steps a [] [] a
+  then : (l m : Lent) (z : Sheet) (c : Call) (x : Reply) (cs : List Call) (xs : List Reply)
+      → Says c x l m → Steps (m .sheet) cs xs z → Steps (l .sheet) (c ∷ cs) (x ∷ xs) z
+
+-- A SINGLE CLAIM ABOUT THE WHOLE LIST: answers, with counts and places, times and sides are the ledger's
 unfoldable pub Every-list : Type 0
 Every-list =
-    (cs : List Call) (xs : List Reply) (a z : List ℕ) → Steps a cs xs z → book xs z ≡ ledger cs [] a
+    (cs : List Call) (xs : List Reply) (a z : Sheet) → Steps a cs xs z → book xs z ≡ ledger cs [] a
 
 -- and each place is that of the first start at fault
 pub data All-place : List Call → List Reply → Type 0 where
@@ -207,21 +216,21 @@ pub data All-place : List Call → List Reply → Type 0 where
   then : (c : Call) (x : Reply) (cs : List Call) (xs : List Reply) → Places c x → All-place cs xs → All-place (c ∷ cs) (x ∷ xs)
 
 unfoldable pub Every-place : Type 0
-Every-place = (cs : List Call) (xs : List Reply) (a z : List ℕ) → Steps a cs xs z → All-place cs xs
+Every-place = (cs : List Call) (xs : List Reply) (a z : Sheet) → Steps a cs xs z → All-place cs xs
 
 -- the same of a program as a function: one that keeps the ledger in each call keeps it along every list
 pub record Done : Type 0 where
   pub answered : Reply
-  pub left : List ℕ
+  pub left : Sheet
 
-unfoldable pub played : (program : Call → List ℕ → Done) → List Call → (so-far : List Reply) → (times : List ℕ) → Book
-played f [] xs ts = book xs ts
-played f (c ∷ cs) xs ts = played f cs (xs ++ (f c ts .answered ∷ [])) (f c ts .left)
+unfoldable pub played : (program : Call → Sheet → Done) → List Call → (so-far : List Reply) → Sheet → Book
+played f [] xs q = book xs q
+played f (c ∷ cs) xs q = played f cs (xs ++ (f c q .answered ∷ [])) (f c q .left)
 
 unfoldable pub Lists-keep : Type 0
 Lists-keep =
-    (f : Call → List ℕ → Done) (cs : List Call) (ts : List ℕ) →
-    ((c : Call) (xs : List ℕ) → (f c xs .answered ≡ ledger-answer c xs) × (f c xs .left ≡ ledger-after c xs)) → played f cs [] ts ≡ ledger cs [] ts
+    (f : Call → Sheet → Done) (cs : List Call) (q : Sheet) →
+    ((c : Call) (p : Sheet) → (f c p .answered ≡ ledger-answer c p) × (f c p .left ≡ ledger-after c p)) → played f cs [] q ≡ ledger cs [] q
 
 -- RECORDS AND PLAIN LISTS get the same answers: a board is the same, handed in as records or as the plain lists of their cells and times,
 unfoldable pub Same-handed : Type 0
@@ -249,6 +258,7 @@ pub record Third-condition : Type 0 where
   pub few-rounds : Few-rounds
   -- what it holds after each round is what single rounds leave
   pub run-is-rounds : Run-is-rounds
-  -- and the order of tiles never shows, in the times or in the answers
+  -- and the order of tiles never shows, in the times, in the sides or in the answers
   pub order-free : Order-free
   pub run-order-free : Run-order-free
+  pub sides-order-free : Sides-order-free

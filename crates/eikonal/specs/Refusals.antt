@@ -166,6 +166,6 @@ job-refusal b (March z) xs = cond (ltb largest z) (cause 10) none
 job-refusal b (Round tw th m) xs = cond (ltb largest m) (cause 10) (tiles-refusal b tw th xs)
 job-refusal b (Run tw th s z) xs = cond (ltb largest z || (eqb s 0 || ltb largest s)) (cause 10) (tiles-refusal b tw th xs)
 
--- 13, 14: for N cells the list of times is N long, the work list 4 N at least
-unfoldable pub lists-refusal : (n times work : ℕ) → Refusal
-lists-refusal n t w = cond (not (eqb t n)) (cause 13) (cond (ltb w (4 * n)) (cause 14) none)
+-- 13, 14: for N cells the list of times is N long; the list of sides is too, and the work list 4 N at least
+unfoldable pub lists-refusal : (n times sides work : ℕ) → Refusal
+lists-refusal n t s w = cond (not (eqb t n)) (cause 13) (cond (not (eqb s n) || ltb w (4 * n)) (cause 14) none)

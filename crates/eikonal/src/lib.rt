@@ -65,6 +65,14 @@ pub struct Reply {
     pub place: usize,
 }
 
+// The local rule's answer: number 0, the time and its sides, or a refusal's number and zeros.
+#[repr(C)]
+pub struct LocalReply {
+    pub number: u32,
+    pub time: u32,
+    pub sides: u32,
+}
+
 pub fn refused(refusal: Refusal) -> Reply
     ensures { λ r. ⌜ r ≡ answer refusal 0 ⌝ }
 {

@@ -1,4 +1,5 @@
 pub mod Rounds
 pub mod Running
+pub mod Clearing
 pub mod Calls
 pub mod Steps

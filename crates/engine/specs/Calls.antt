@@ -3,12 +3,14 @@ use mathlib.Core.Path.{_≡_}
 use mathlib.Core.Bool.{true}
 use mathlib.Core.Logic.{_≢_}
 use mathlib.Core.List.{List, [], _++_}
-use Prim.Native.Nat.{ℕ, _*_, _≤_}
-use lib.ListN.{length, drop, replicate}
-use Rattle.eikonal.specs.Board.{largest}
+use Prim.Native.Nat.{ℕ, _*_, _≤_, _<_}
+use lib.ListN.{length, getD, drop, replicate}
+use Rattle.eikonal.specs.Board.{Board, largest, time, marched}
+use Rattle.eikonal.specs.Tiles.{tiled, round}
 use Rattle.eikonal.specs.Refusals.{none, order-good}
-use Rattle.eikonal.specs.Ledger.{Call, call-board, refusal, entered, counted, answer}
+use Rattle.eikonal.specs.Ledger.{Sheet, Call, call-board, refusal, entered, counted, answer}
 use Rattle.eikonal.specs.Inner.Good.{Good}
+use Rattle.eikonal.specs.Inner.Sides.{sides-by}
 use Rattle.eikonal.specs.Inner.Judge.{starts-rise, judge, nothing-judged}
 use Rattle.eikonal.specs.declared.Start.{Start}
 use Rattle.eikonal.specs.declared.Reply.{Reply}
@@ -18,12 +20,13 @@ use Rattle.eikonal.specs.declared.refusals.Judged.{Judged}
 use Rattle.front.specs.Board.{land}
 use Rattle.front.specs.State.{Placed, Empty, Seeded, Standing}
 use Rattle.front.specs.declared.Shape.{Shape}
+use Rattle.sides.specs.Clear.{Cleared}
 use Rattle.engine.specs.Run.{whole}
 use Rattle.engine.specs.declared.calls.Task.{Task}
 
 -- ---- THE JOB, from starts that stand in the work list
 -- a legal board with its starts, and lists with room for it
-pub record Fit (s : Shape) (slow : List ℕ) (xs : List Start) (times work : List ℕ) : Type 0 where
+pub record Fit (s : Shape) (slow : List ℕ) (xs : List Start) (times sides work : List ℕ) : Type 0 where
   pub good : Good (whole s slow xs)
   pub size : s .cells ≡ s .width * s .height * s .storeys
   pub across-low : 1 ≤ s .across
@@ -31,25 +34,40 @@ pub record Fit (s : Shape) (slow : List ℕ) (xs : List Start) (times work : Lis
   pub down-low : 1 ≤ s .down
   pub down-high : s .down ≤ 256
   pub many : length times ≡ s .cells
+  pub sided : length sides ≡ s .cells
   pub room : 4 * s .cells ≤ length work
 
 -- some starts stand in the work list that make it one
-pub record Some-standing (s : Shape) (slow times work : List ℕ) : Type 0 where
+pub record Some-standing (s : Shape) (slow times sides work : List ℕ) : Type 0 where
   pub starts : List Start
-  pub fit : Fit s slow starts times work
+  pub fit : Fit s slow starts times sides work
   pub stands : Standing (s .cells) starts work
 
--- an accepted call has gone through: its count, the times that it enters, the work list wiped
-pub record Through (n counted : ℕ) (entered : List ℕ) (count : ℕ) (times' work work' : List ℕ) : Type 0 where
-  pub counts : count ≡ counted
-  pub enters : times' ≡ entered
+-- up to which time it goes, and what a cell c sees of e when it is done
+abbrev pub bound-of : Job → ℕ
+bound-of (March z) = z
+bound-of (Round tw th m) = m
+bound-of (Run tw th d z) = z
+
+abbrev pub sees : Board → Job → (times : List ℕ) → (c e : ℕ) → ℕ
+sees b (March z) ts c e = time (marched b z) e
+sees b (Round tw th m) ts c e = tiled b tw th ts (λ d. time (round b tw th m ts) d) c e
+sees b (Run tw th d z) ts c e = time (marched b z) e
+
+-- an accepted call has gone through, but for its starts' sides: its count, the times that it enters, each cell's sides by its time, whatever its start,
+-- the work list wiped
+pub record Through (b : Board) (j : Job) (times : List ℕ) (n count : ℕ) (now : Sheet) (work work' : List ℕ) : Type 0 where
+  pub counts : count ≡ counted b j times
+  pub enters : now .times ≡ entered b j times .times
+  pub timed : length (now .times) ≡ n
+  pub sided : length (now .sides) ≡ n
+  pub sides : (c : ℕ) → c < n → getD (now .sides) c 0 ≡ sides-by b (bound-of j) c (λ e. sees b j times c e) (time (now .times) c)
   pub wipes : work' ≡ replicate (4 * n) 0 ++ drop (4 * n) work
 
 -- WHATEVER STARTS are placed, the job is done
-abbrev pub Goes : Job → Shape → (slow : List ℕ) → (count : ℕ) → (times times' work work' : List ℕ) → Type 0
-Goes j s ss r ts ts' v v' =
-    (xs : List Start) → Fit s ss xs ts v → Standing (s .cells) xs v →
-    Through (s .cells) (counted (whole s ss xs) j ts) (entered (whole s ss xs) j ts) r ts' v v'
+abbrev pub Goes : Job → Shape → (slow : List ℕ) → (count : ℕ) → (times sides : List ℕ) → (now : Sheet) → (work work' : List ℕ) → Type 0
+Goes j s ss r ts us p v v' =
+    (xs : List Start) → Fit s ss xs ts us v → Standing (s .cells) xs v → Through (whole s ss xs) j ts (s .cells) r p v v'
 
 -- what the job asks of its numbers, for tiles of that shape
 unfoldable pub Doable : Job → Shape → (order : List ℕ) → Type 0
@@ -74,8 +92,8 @@ pub record Some-judged (slow : List ℕ) (j : Judged) : Type 0 where
   pub is : j ≡ judge slow starts nothing-judged
 
 -- the call is refused and the work list kept, or it is emptied for the call's board
-pub record Opened (c : Call) (times : ℕ) (t : Task) (work work' : List ℕ) : Type 0 where
-  pub judged : t .refusal ≡ refusal c times
+pub record Opened (c : Call) (times sides : ℕ) (t : Task) (work work' : List ℕ) : Type 0 where
+  pub judged : t .refusal ≡ refusal c times sides
   pub kept : t .refusal .number ≢ 0 → work' ≡ work
   pub shape-is : t .refusal .number ≡ 0 → t .shape ≡ shaped (call-board c .wide) (call-board c .high) (call-board c .storeys) (c .job)
   pub emptied : t .refusal .number ≡ 0 → Empty (t .shape .cells) work work'
@@ -90,9 +108,19 @@ pub record Sown (t : Task) (xs : List Start) (work work' : List ℕ) : Type 0 wh
   pub sown : t .refusal .number ≡ 0 → Seeded (t .shape .cells) xs work work'
 
 -- the job can be done, and is: unless the call is refused; then the refusal is the answer, and the lists are as they were
-abbrev pub Endable : Task → Job → (slow order times work : List ℕ) → Type 0
-Endable t j ss xs ts v = t .refusal .number ≡ 0 → Some-standing (t .shape) ss ts v × Doable j (t .shape) xs
+abbrev pub Endable : Task → Job → (slow order times sides work : List ℕ) → Type 0
+Endable t j ss xs ts us v = t .refusal .number ≡ 0 → Some-standing (t .shape) ss ts us v × Doable j (t .shape) xs
 
-pub record Ended (t : Task) (j : Job) (slow : List ℕ) (x : Reply) (times times' work work' : List ℕ) : Type 0 where
-  pub turned-down : t .refusal .number ≢ 0 → (x ≡ answer (t .refusal) 0) × (times' ≡ times) × (work' ≡ work)
-  pub gone-through : t .refusal .number ≡ 0 → (x ≡ answer none (x .count)) × Goes j (t .shape) slow (x .count) times times' work work'
+pub record Ended (t : Task) (j : Job) (slow : List ℕ) (x : Reply) (before after : Sheet) (work work' : List ℕ) : Type 0 where
+  pub turned-down : t .refusal .number ≢ 0 → (x ≡ answer (t .refusal) 0) × (after ≡ before) × (work' ≡ work)
+  pub gone-through : t .refusal .number ≡ 0
+      → (x ≡ answer none (x .count)) × Goes j (t .shape) slow (x .count) (before .times) (before .sides) after work work'
+
+-- the sides of the starts that are their cells' times can be cleared, and are: unless the call is refused
+abbrev pub Clearable : Task → List Start → (times sides : List ℕ) → Type 0
+Clearable t xs ts us =
+    t .refusal .number ≡ 0 → (length us ≡ length ts) × (length ts ≤ 65536) × (starts-rise (length ts) 0 xs ≡ true)
+
+pub record Clear (t : Task) (xs : List Start) (times sides sides' : List ℕ) : Type 0 where
+  pub kept : t .refusal .number ≢ 0 → sides' ≡ sides
+  pub cleared : t .refusal .number ≡ 0 → Cleared xs times sides sides'

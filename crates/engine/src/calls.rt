@@ -1,5 +1,5 @@
-// Every call on the front has one form: its starts are judged, it begins, they are placed, it ends. Here the starts are plain lists; where they are
-// records, only judging and placing differ. A refused call touches no list.
+// Every call on the front has one form: its starts are judged, it begins, they are placed, it ends, and the sides of those that no front came before
+// are cleared. Here the starts are plain lists; where they are records, only judging, placing and clearing differ. A refused call touches no list.
 ghost use mathlib.Core.Path.{_≡_};
 ghost use mathlib.Core.List.{List, []};
 ghost use Prim.Native.Nat.{_*_, _≤_};
@@ -7,12 +7,12 @@ ghost use lib.Dec.{eqb};
 ghost use lib.ListN.{length};
 ghost use Rattle.eikonal.specs.Board.{board-of};
 ghost use Rattle.eikonal.specs.Refusals.{handed, by-lists, starts-of};
-ghost use Rattle.eikonal.specs.Ledger.{call};
+ghost use Rattle.eikonal.specs.Ledger.{sheet, call};
 ghost use Rattle.eikonal.specs.Entry.{lent, Says};
 ghost use Rattle.eikonal.specs.Inner.Judge.{judge, nothing-judged};
 ghost use Rattle.eikonal.specs.declared.Start.{Start};
 ghost use Rattle.eikonal.specs.declared.Job.the-variants.{March, Round, Run};
-ghost use Rattle.engine.specs.Calls.{shape-with, shaped, Some-judged, Opened, Sowable, Sown, Endable, Ended};
+ghost use Rattle.engine.specs.Calls.{shape-with, shaped, Some-judged, Opened, Sowable, Sown, Endable, Ended, Clearable, Clear};
 use eikonal::Job;
 use eikonal::Refusal;
 use eikonal::Reply;
@@ -76,12 +76,13 @@ pub fn begin(
     job: Job,
     order: &[u32],
     times: usize,
+    sides: usize,
     work: &mut [u32],
 ) -> Task
     requires { ⌜ Some-judged (now slow) judged ⌝ }
     ensures { λ r. ⌜ ((xs : List Start) → judged ≡ judge (now (slow .entry)) xs nothing-judged
         → Opened (call (handed (board-of width height storeys (now (slow .entry)) xs) (eqb cells begins)) job (now (order .entry)) (length (now (work .entry))))
-        times r (now (work .entry)) (now (work .exit))) ⌝ }
+        times sides r (now (work .entry)) (now (work .exit))) ⌝ }
 {
     let board = eikonal::refusals::handed_refusal(
         width,
@@ -100,6 +101,7 @@ pub fn begin(
         job,
         order,
         times,
+        sides,
         work.len(),
     );
     if refusal.number != 0 {
@@ -133,15 +135,29 @@ pub fn end(
     slow: &[u32],
     order: &[u32],
     times: &mut [u32],
+    sides: &mut [u8],
     work: &mut [u32],
 ) -> Reply
-    requires { ⌜ Endable task job (now slow) (now order) (now times) (now work) ⌝ }
-    ensures { λ x. ⌜ Ended task job (now (slow .entry)) x (now (times .entry)) (now (times .exit)) (now (work .entry)) (now (work .exit)) ⌝ }
+    requires { ⌜ Endable task job (now slow) (now order) (now times) (now sides) (now work) ⌝ }
+    ensures { λ x. ⌜ Ended task job (now (slow .entry)) x (sheet (now (times .entry)) (now (sides .entry))) (sheet (now (times .exit)) (now (sides .exit)))
+        (now (work .entry)) (now (work .exit)) ⌝ }
 {
     if task.refusal.number != 0 {
         return eikonal::refused(task.refusal);
     }
-    eikonal::counted(super::seeded::job(task.shape, job, slow, order, times, work))
+    eikonal::counted(super::seeded::job(task.shape, job, slow, order, times, sides, work))
+}
+
+// Clears the sides of the starts of an accepted call whose times are their cells'.
+fn clear(task: Task, cells: &[u32], begins: &[u32], times: &[u32], sides: &mut [u8])
+    requires { ⌜ (Clearable task (starts-of (now cells) (now begins)) (now times) (now sides))
+        × (task .refusal .number ≡ 0 → length (now cells) ≡ length (now begins)) ⌝ }
+    ensures { λ r. ⌜ Clear task (starts-of (now (cells .entry)) (now (begins .entry))) (now (times .entry)) (now (sides .entry)) (now (sides .exit)) ⌝ }
+{
+    if task.refusal.number != 0 {
+        return;
+    }
+    sides::clear::clear(times, sides, cells, begins);
 }
 
 fn play(
@@ -154,11 +170,12 @@ fn play(
     job: Job,
     order: &[u32],
     times: &mut [u32],
+    sides: &mut [u8],
     work: &mut [u32],
 ) -> Reply
     ensures { λ x. ⌜ Says (call (by-lists width height storeys (now (slow .entry)) (now (cells .entry)) (now (begins .entry))) job (now (order .entry))
         (length (now (work .entry))))
-        x (lent (now (times .entry)) (now (work .entry))) (lent (now (times .exit)) (now (work .exit))) ⌝ }
+        x (lent (now (times .entry)) (now (sides .entry)) (now (work .entry))) (lent (now (times .exit)) (now (sides .exit)) (now (work .exit))) ⌝ }
 {
     let judged = judge_starts(slow, cells, begins, nothing_judged());
     let task = begin(
@@ -172,10 +189,13 @@ fn play(
         job,
         order,
         times.len(),
+        sides.len(),
         work,
     );
     seed(task, cells, begins, work);
-    end(task, job, slow, order, times, work)
+    let reply = end(task, job, slow, order, times, sides, work);
+    clear(task, cells, begins, times, sides);
+    reply
 }
 
 // The times of the solution up to the horizon. Counts the cells reached. It has no order of tiles.
@@ -188,11 +208,12 @@ pub fn march(
     begins: &[u32],
     horizon: u32,
     times: &mut [u32],
+    sides: &mut [u8],
     work: &mut [u32],
 ) -> Reply
     ensures { λ x. ⌜ Says (call (by-lists width height storeys (now (slow .entry)) (now (cells .entry)) (now (begins .entry))) (March horizon) []
         (length (now (work .entry))))
-        x (lent (now (times .entry)) (now (work .entry))) (lent (now (times .exit)) (now (work .exit))) ⌝ }
+        x (lent (now (times .entry)) (now (sides .entry)) (now (work .entry))) (lent (now (times .exit)) (now (sides .exit)) (now (work .exit))) ⌝ }
 {
     let job = Job::March { horizon: horizon };
     play(
@@ -205,6 +226,7 @@ pub fn march(
         job,
         &slow[..0],
         times,
+        sides,
         work,
     )
 }
@@ -222,11 +244,12 @@ pub fn one_round(
     bound: u32,
     order: &[u32],
     times: &mut [u32],
+    sides: &mut [u8],
     work: &mut [u32],
 ) -> Reply
     ensures { λ x. ⌜ Says (call (by-lists width height storeys (now (slow .entry)) (now (cells .entry)) (now (begins .entry))) (Round across down bound)
         (now (order .entry)) (length (now (work .entry))))
-        x (lent (now (times .entry)) (now (work .entry))) (lent (now (times .exit)) (now (work .exit))) ⌝ }
+        x (lent (now (times .entry)) (now (sides .entry)) (now (work .entry))) (lent (now (times .exit)) (now (sides .exit)) (now (work .exit))) ⌝ }
 {
     let job = Job::Round {
         across: across,
@@ -243,6 +266,7 @@ pub fn one_round(
         job,
         order,
         times,
+        sides,
         work,
     )
 }
@@ -261,11 +285,12 @@ pub fn tile_run(
     horizon: u32,
     order: &[u32],
     times: &mut [u32],
+    sides: &mut [u8],
     work: &mut [u32],
 ) -> Reply
     ensures { λ x. ⌜ Says (call (by-lists width height storeys (now (slow .entry)) (now (cells .entry)) (now (begins .entry))) (Run across down stride horizon)
         (now (order .entry)) (length (now (work .entry))))
-        x (lent (now (times .entry)) (now (work .entry))) (lent (now (times .exit)) (now (work .exit))) ⌝ }
+        x (lent (now (times .entry)) (now (sides .entry)) (now (work .entry))) (lent (now (times .exit)) (now (sides .exit)) (now (work .exit))) ⌝ }
 {
     let job = Job::Run {
         across: across,
@@ -283,6 +308,7 @@ pub fn tile_run(
         job,
         order,
         times,
+        sides,
         work,
     )
 }

@@ -3,7 +3,7 @@ pub mod commit;
 pub mod drain;
 pub mod seams;
 pub mod seed;
-mod sight;
+pub mod sight;
 mod spread;
 pub mod strip;
 mod wake;

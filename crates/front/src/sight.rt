@@ -20,7 +20,7 @@ use eikonal::LARGEST;
 use eikonal::NEVER;
 
 // A stored time as a cell of another tile sees it.
-fn ghost_time(slow: &[u32], times: &[u32], shape: Shape, e: usize) -> u32
+pub fn ghost_time(slow: &[u32], times: &[u32], shape: Shape, e: usize) -> u32
     requires { ⌜ (e < length (now slow)) × (e < length (now times)) ⌝ }
     ensures { λ r. ⌜ r ≡ counts-as (land shape (now (slow .entry))) (now (times .entry)) e ⌝ }
 {

@@ -9,6 +9,7 @@ ghost use Rattle.eikonal.specs.declared.Job.the-variants.{March, Round, Run};
 ghost use Rattle.scenario.specs.Calls.{Reads, Writes};
 ghost use Rattle.scenario.specs.Turns.{Turn-says};
 ghost use Rattle.tablet.specs.Tablet.{Tablet-says};
+use eikonal::LocalReply;
 use eikonal::Reply;
 use eikonal::Start;
 use scenario::Scenario;
@@ -24,7 +25,7 @@ pub extern "C" fn murgolab_local_rule(
     below: u32,
     over: u32,
     under: u32,
-) -> Reply
+) -> LocalReply
     ensures { λ x. ⌜ Local-says g h left right above below over under x ⌝ }
 {
     arrival::local_rule(g, h, left, right, above, below, over, under)
@@ -47,11 +48,12 @@ pub extern "C" fn murgolab_march_plain(
     begins: &[u32],
     horizon: u32,
     times: &mut [u32],
+    sides: &mut [u8],
     work: &mut [u32],
 ) -> Reply
     ensures { λ x. ⌜ Says (call (by-lists width height storeys (now (slow .entry)) (now (cells .entry)) (now (begins .entry)))
         (March horizon) [] (length (now (work .entry))))
-        x (lent (now (times .entry)) (now (work .entry))) (lent (now (times .exit)) (now (work .exit))) ⌝ }
+        x (lent (now (times .entry)) (now (sides .entry)) (now (work .entry))) (lent (now (times .exit)) (now (sides .exit)) (now (work .exit))) ⌝ }
 {
     engine::calls::march(
         width,
@@ -62,6 +64,7 @@ pub extern "C" fn murgolab_march_plain(
         begins,
         horizon,
         times,
+        sides,
         work,
     )
 }
@@ -79,11 +82,12 @@ pub extern "C" fn murgolab_one_round_plain(
     bound: u32,
     order: &[u32],
     times: &mut [u32],
+    sides: &mut [u8],
     work: &mut [u32],
 ) -> Reply
     ensures { λ x. ⌜ Says (call (by-lists width height storeys (now (slow .entry)) (now (cells .entry)) (now (begins .entry)))
         (Round across down bound) (now (order .entry)) (length (now (work .entry))))
-        x (lent (now (times .entry)) (now (work .entry))) (lent (now (times .exit)) (now (work .exit))) ⌝ }
+        x (lent (now (times .entry)) (now (sides .entry)) (now (work .entry))) (lent (now (times .exit)) (now (sides .exit)) (now (work .exit))) ⌝ }
 {
     engine::calls::one_round(
         width,
@@ -97,6 +101,7 @@ pub extern "C" fn murgolab_one_round_plain(
         bound,
         order,
         times,
+        sides,
         work,
     )
 }
@@ -115,11 +120,12 @@ pub extern "C" fn murgolab_tile_run_plain(
     horizon: u32,
     order: &[u32],
     times: &mut [u32],
+    sides: &mut [u8],
     work: &mut [u32],
 ) -> Reply
     ensures { λ x. ⌜ Says (call (by-lists width height storeys (now (slow .entry)) (now (cells .entry)) (now (begins .entry)))
         (Run across down stride horizon) (now (order .entry)) (length (now (work .entry))))
-        x (lent (now (times .entry)) (now (work .entry))) (lent (now (times .exit)) (now (work .exit))) ⌝ }
+        x (lent (now (times .entry)) (now (sides .entry)) (now (work .entry))) (lent (now (times .exit)) (now (sides .exit)) (now (work .exit))) ⌝ }
 {
     engine::calls::tile_run(
         width,
@@ -134,6 +140,7 @@ pub extern "C" fn murgolab_tile_run_plain(
         horizon,
         order,
         times,
+        sides,
         work,
     )
 }
@@ -195,14 +202,26 @@ pub extern "C" fn murgolab_march(
     starts: &[Start],
     horizon: u32,
     times: &mut [u32],
+    sides: &mut [u8],
     work: &mut [u32],
 ) -> Reply
     ensures { λ x. ⌜ Says (call (by-records width height storeys (now (slow .entry)) (now (starts .entry))) (March horizon) [] (length (now (work .entry))))
-        x (lent (now (times .entry)) (now (work .entry))) (lent (now (times .exit)) (now (work .exit))) ⌝ }
+        x (lent (now (times .entry)) (now (sides .entry)) (now (work .entry))) (lent (now (times .exit)) (now (sides .exit)) (now (work .exit))) ⌝ }
 {
     // a march has no order of tiles, and reads none
     let job = record_calls::calls::march_job(horizon);
-    record_calls::calls::play_records(width, height, storeys, slow, starts, job, slow, times, work)
+    record_calls::calls::play_records(
+        width,
+        height,
+        storeys,
+        slow,
+        starts,
+        job,
+        slow,
+        times,
+        sides,
+        work,
+    )
 }
 
 #[no_mangle]
@@ -217,11 +236,12 @@ pub extern "C" fn murgolab_one_round(
     bound: u32,
     order: &[u32],
     times: &mut [u32],
+    sides: &mut [u8],
     work: &mut [u32],
 ) -> Reply
     ensures { λ x. ⌜ Says (call (by-records width height storeys (now (slow .entry)) (now (starts .entry)))
         (Round across down bound) (now (order .entry)) (length (now (work .entry))))
-        x (lent (now (times .entry)) (now (work .entry))) (lent (now (times .exit)) (now (work .exit))) ⌝ }
+        x (lent (now (times .entry)) (now (sides .entry)) (now (work .entry))) (lent (now (times .exit)) (now (sides .exit)) (now (work .exit))) ⌝ }
 {
     let job = record_calls::calls::round_job(across, down, bound);
     record_calls::calls::play_records(
@@ -233,6 +253,7 @@ pub extern "C" fn murgolab_one_round(
         job,
         order,
         times,
+        sides,
         work,
     )
 }
@@ -250,11 +271,12 @@ pub extern "C" fn murgolab_tile_run(
     horizon: u32,
     order: &[u32],
     times: &mut [u32],
+    sides: &mut [u8],
     work: &mut [u32],
 ) -> Reply
     ensures { λ x. ⌜ Says (call (by-records width height storeys (now (slow .entry)) (now (starts .entry)))
         (Run across down stride horizon) (now (order .entry)) (length (now (work .entry))))
-        x (lent (now (times .entry)) (now (work .entry))) (lent (now (times .exit)) (now (work .exit))) ⌝ }
+        x (lent (now (times .entry)) (now (sides .entry)) (now (work .entry))) (lent (now (times .exit)) (now (sides .exit)) (now (work .exit))) ⌝ }
 {
     let job = record_calls::calls::run_job(across, down, stride, horizon);
     record_calls::calls::play_records(
@@ -266,6 +288,7 @@ pub extern "C" fn murgolab_tile_run(
         job,
         order,
         times,
+        sides,
         work,
     )
 }

@@ -2,9 +2,8 @@
 use mathlib.Core.Path.{_≡_, sym, ap, _∙_}
 use Prim.Native.Nat.{_+_, _*_}
 use native.Mathlib.Omega.{arith}
-use lib.ListN.{length}
 use Rattle.eikonal.specs.Board.{size, solved, marched}
-use Rattle.eikonal.specs.Ledger.{call, answer, refusal, entered, counted, ledger-answer, ledger-after}
+use Rattle.eikonal.specs.Ledger.{Sheet, call, answer, refusal-on, entered, counted, ledger-answer, ledger-after}
 use Rattle.eikonal.specs.declared.Reply.{Reply}
 use Rattle.eikonal.specs.declared.Job.the-variants.{Run}
 use Rattle.eikonal.proofs.Good.{good}
@@ -13,17 +12,21 @@ use Rattle.eikonal.proofs.Accepted.{not-refused, fits, run-can}
 use Rattle.eikonal.proofs.Answers.{answered-zero}
 use Rattle.one_tile.specs.Rounds.{exact-rounds}
 use Rattle.one_tile.specs.Promise.{One-tile-round-is-march, One-tile-holds, One-tile-rounds, One-tile-beforehand, One-tile-run-counts}
-use Rattle.one_tile.proofs.March.{round-is-march, after-is}
+use Rattle.one_tile.proofs.March.{round-is-march, round-sides-is-march, after-is, after-sides-is}
 use Rattle.one_tile.proofs.LastSpan.{exact-cut, exact-early}
 use Rattle.one_tile.proofs.Counting.{exact}
 
 pub one-tile-round-is-march : One-tile-round-is-march
 unfolding One-tile-round-is-march
-one-tile-round-is-march b tw th m ts e wide high l = round-is-march b (good b e) tw th wide high m l ts
+one-tile-round-is-march b tw th m ts e wide high l =
+    let g = good b e in
+    (round-is-march b g tw th wide high m l ts, round-sides-is-march b g tw th wide high m l ts)
 
 pub one-tile-holds : One-tile-holds
 unfolding One-tile-holds
-one-tile-holds b tw th s h j e wide high far = after-is b (good b e) tw th wide high s h far j
+one-tile-holds b tw th s h j e wide high far =
+    let g = good b e in
+    (after-is b g tw th wide high s h far j, after-sides-is b g tw th wide high s h far j)
 
 pub one-tile-rounds : One-tile-rounds
 unfolding One-tile-rounds
@@ -40,10 +43,10 @@ unfolding One-tile-run-counts ledger-answer ledger-after entered counted answer 
 one-tile-run-counts p tw th s z w os x l m says n wide high =
     let c = call p (Run tw th s z) os w in
     let taken = not-refused c x l m says n in
-    let f = fits c (length (l .times)) taken in
+    let f = fits c _ _ taken in
     let r = run-can (p .board) os tw th s z (f .can) in
     let counts : x .count ≡ exact-rounds s z (solved (p .board)) =
-    ap (λ (y : Reply). y .count) (says .answers ∙ answered-zero (refusal c (length (l .times))) _ taken)
+    ap (λ (y : Reply). y .count) (says .answers ∙ answered-zero (refusal-on c (l .sheet)) _ taken)
     ∙ exact (p .board) (f .given .good) tw th wide high s z (r .1) (r .0) in
-    let left : m .times ≡ marched (p .board) z = says .leaves ∙ rw taken in
+    let left : m .sheet .times ≡ marched (p .board) z = ap (λ (q : Sheet). q .times) (says .leaves) ∙ rw taken in
     (counts, counts ∙ sym (exact-cut s z (omega (arith, r .0)) (solved (p .board))) ∙ ap (exact-rounds s z) (sym left))

@@ -5,3 +5,4 @@ pub mod Mending
 pub mod Pigeons
 pub mod Putting
 pub mod Seating
+pub mod Parts

@@ -1,4 +1,4 @@
-// Every call on the front whose starts are records, in the form of the plain calls: only judging and placing differ.
+// Every call on the front whose starts are records, in the form of the plain calls: only judging, placing and clearing differ.
 ghost use mathlib.Core.Path.{_≡_};
 ghost use lib.ListN.{length};
 ghost use Rattle.eikonal.specs.Refusals.{by-records};
@@ -45,11 +45,12 @@ pub fn play_records(
     job: Job,
     order: &[u32],
     times: &mut [u32],
+    sides: &mut [u8],
     work: &mut [u32],
 ) -> Reply
     ensures { λ x. ⌜ Says (call (by-records width height storeys (now (slow .entry)) (now (starts .entry))) job (now (order .entry))
         (length (now (work .entry))))
-        x (lent (now (times .entry)) (now (work .entry))) (lent (now (times .exit)) (now (work .exit))) ⌝ }
+        x (lent (now (times .entry)) (now (sides .entry)) (now (work .entry))) (lent (now (times .exit)) (now (sides .exit)) (now (work .exit))) ⌝ }
 {
     let judged = super::judge::judge_records(slow, starts);
     let task = engine::calls::begin(
@@ -63,8 +64,11 @@ pub fn play_records(
         job,
         order,
         times.len(),
+        sides.len(),
         work,
     );
     super::seed::seed_records(task, starts, work);
-    engine::calls::end(task, job, slow, order, times, work)
+    let reply = engine::calls::end(task, job, slow, order, times, sides, work);
+    super::clear::clear_records(task, starts, times, sides);
+    reply
 }

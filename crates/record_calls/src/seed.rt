@@ -11,8 +11,8 @@ use eikonal::Start;
 use engine::calls::Task;
 use records::parts::Part;
 
-// How many of a call's starts are to be placed: none if it is refused.
-fn to_place(task: Task, starts: usize) -> usize
+// How many of a call's starts are to be placed, and their sides cleared: none if it is refused.
+pub fn to_place(task: Task, starts: usize) -> usize
     ensures { λ r. ⌜ r ≡ cond (eqb (task .refusal .number) 0) starts 0 ⌝ }
 {
     if task.refusal.number == 0 { starts } else { 0 }

@@ -5,6 +5,7 @@
 --     passes       from tokens and arguments in order, and what the function asks, to its precondition
 --     calls-to     the call. Back come what it ensures, the result, what is last of its `&mut`s, and the tokens
 --     lends        a `&mut [T]` is lent for a lifetime that begins here.        takes-back     the lifetime is ended, and the list comes back as it was left
+--     lets-read    it is lent as a `&[T]`.        read-back      the lifetime is ended, and the list comes back as it was
 --     frees-full   a local that still holds a value is freed
 -- Assumes `Given`, as each walk does.
 use mathlib.Core.Path.{_≡_, sym, subst}
@@ -40,7 +41,7 @@ use denote.Triple.Clauses.{Ended, Clauses, Lasts, atExit, lasts, ensured, closin
 use denote.Triple.Call.{calls-at}
 use denote.Triple.Walked.{Stays, Fit, hasOf, AllGo, walkOf, ends-at, walked, walk-meets}
 use Rattle.records.proofs.Walk.{Allocated, alloc-all}
-use Rattle.records.proofs.Again.{LentAgain, lends-again, comes-back}
+use Rattle.records.proofs.Again.{LentAgain, lends-again, comes-back, LentShared, lends-shared, shared-back}
 
 -- a tuple, one component after the other: a & b & c & tt
 infixr 4 _&_
@@ -176,6 +177,13 @@ module _ (R : RattleType) (κ : Lft) (q : Share) (s : RefT (List (R .Denot))) (k
   abbrev held : ℕ → GName → List (R .Denot) → Fml
   held ν ε ys = LentAgain R κ (ν ∷ []) q (s .name) (s .ptr .0) (s .ptr .1) k ε ys
 
+  -- the same as a `&[T]`
+  abbrev read : ℕ → GName → List (R .Denot) → Fml
+  read ν ε ys = ShrSlice (named 0) (ν ∷ []) R .own (named-so s ε ys) (sliceVal (s .ptr) k ∷ [])
+
+  abbrev held-read : ℕ → List (R .Denot) → Fml
+  held-read ν ys = LentShared R κ (ν ∷ []) q (s .name) (s .ptr .0) (s .ptr .1) k ys
+
 module _ {M : Type 1} {𝓤 : URA M} {H : Heap 𝓤} {A : Atoms 𝓤} {K : Type 0} {W : Given 𝓤 H A} {Γ : List (Item 𝓤)} {G : Goal 𝓤 H} where
   pub lends : K → Soaks G → (R : RattleType) (κ : Lft) (q : Share) (s : RefT (List (R .Denot))) (k : ℕ) (ys : List (R .Denot))
       → ((ν : ℕ) (ε : GName) → Seq K W (‵ (flft (ν ∷ []) fullShare) ∷ ‵ (theirs R κ q s k ν ε ys) ∷ ‵ (held R κ q s k ν ε ys) ∷ Γ) G) → Seq K W
@@ -193,6 +201,23 @@ module _ {M : Type 1} {𝓤 : URA M} {H : Heap 𝓤} {A : Atoms 𝓤} {K : Type 
       step (λ go. lft-end t z $
       use3 W (later (‵ (mine R κ q s k zs) ⊛ ‵ (flft κ q))) (comes-back R κ (ν ∷ []) q (s .name) (s .ptr .0) (s .ptr .1) k 𝓤 H A W (named 0) (named 0) ys ε zs
       room e e′) $ await t z $ split t $ go)
+
+  pub lets-read : K → Soaks G → (R : RattleType) (κ : Lft) (q : Share) (s : RefT (List (R .Denot))) (k : ℕ) (ys : List (R .Denot))
+      → ((ν : ℕ) (ε : GName) → Seq K W (‵ (flft (ν ∷ []) fullShare) ∷ ‵ (read R κ q s k ν ε ys) ∷ ‵ (held-read R κ q s k ν ys) ∷ Γ) G) → Seq K W
+      (‵ (mine R κ q s k ys) ∷ ‵ (flft κ q) ∷ Γ) G
+  lets-read t z R κ q s k ys go =
+      lft-new t z (λ ν. move t (1 ∷ 2 ∷ []) $
+      use2 W (later (some (λ (ε : GName). ‵ (read R κ q s k ν ε ys) ⊛ ‵ (held-read R κ q s k ν ys)))) (lends-shared R κ (ν ∷ []) q (s .name) (s .ptr .0)
+      (s .ptr .1) k 𝓤 H A W (named 0) (named 0) ys) $ await t z $ pick t (λ ε.
+      split t $ move t (2 ∷ []) $ go ν ε))
+
+  pub read-back : K → Soaks G → (R : RattleType) (κ : Lft) (q : Share) (s : RefT (List (R .Denot))) (k : ℕ) (ν : ℕ) (ys : List (R .Denot)) → Room R k
+      → length ys ≡ k
+      → Step K W (‵ (mine R κ q s k ys) ∷ ‵ (flft κ q) ∷ Γ) G (‵ (flft (ν ∷ []) fullShare) ∷ ‵ (held-read R κ q s k ν ys) ∷ Γ) G
+  read-back t z R κ q s k ν ys room e =
+      step (λ go. lft-end t z $
+      use2 W (later (‵ (mine R κ q s k ys) ⊛ ‵ (flft κ q))) (shared-back R κ (ν ∷ []) q (s .name) (s .ptr .0) (s .ptr .1) k 𝓤 H A W (named 0) (named 0) ys
+      room e) $ await t z $ split t $ go)
 
 -- ---- what a walk says in one step
 module _ {M : Type 1} {𝓤 : URA M} {H : Heap 𝓤} {A : Atoms 𝓤} {K : Type 0} (W : Given 𝓤 H A) {Γ : List (Item 𝓤)} where

@@ -177,12 +177,15 @@ fn job_refusal(width: u32, height: u32, job: Job, order: &[u32]) -> Refusal
 }
 
 // 13 and 14, of a board of n cells.
-fn lists_refusal(n: usize, times: usize, work: usize) -> Refusal
+fn lists_refusal(n: usize, times: usize, sides: usize, work: usize) -> Refusal
     requires { ⌜ n ≤ 65536 ⌝ }
-    ensures { λ r. ⌜ r ≡ lists-refusal n times work ⌝ }
+    ensures { λ r. ⌜ r ≡ lists-refusal n times sides work ⌝ }
 {
     if times != n {
         return cause(13);
+    }
+    if sides != n {
+        return cause(14);
     }
     if work < 4 * n {
         return cause(14);
@@ -190,7 +193,7 @@ fn lists_refusal(n: usize, times: usize, work: usize) -> Refusal
     cause(0)
 }
 
-// A call on the front, of a board whose own refusal is `board`. Of the lists of times and work only the lengths matter here.
+// A call on the front, of a board whose own refusal is `board`. Of the lists of times, sides and work only the lengths matter here.
 pub fn call_refusal(
     board: Refusal,
     width: u32,
@@ -199,11 +202,12 @@ pub fn call_refusal(
     job: Job,
     order: &[u32],
     times: usize,
+    sides: usize,
     work: usize,
 ) -> Refusal
     requires { ⌜ (board .number ≡ 0 → (width ≤ 256) × (height ≤ 256) × (width * height * storeys ≤ 65536)) ⌝ }
     ensures { λ r. ⌜ ((slow : List ℕ) (xs : List Start) (paired : Bool) → board ≡ handed-refusal (handed (board-of width height storeys slow xs) paired)
-        → r ≡ refusal (call (handed (board-of width height storeys slow xs) paired) job (now (order .entry)) work) times) ⌝ }
+        → r ≡ refusal (call (handed (board-of width height storeys slow xs) paired) job (now (order .entry)) work) times sides) ⌝ }
 {
     if board.number != 0 {
         return board;
@@ -212,5 +216,5 @@ pub fn call_refusal(
     if own.number != 0 {
         return own;
     }
-    lists_refusal(house_size(width, height, storeys), times, work)
+    lists_refusal(house_size(width, height, storeys), times, sides, work)
 }

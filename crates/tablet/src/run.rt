@@ -1,4 +1,4 @@
-// The run of a small board, tiles in rising order. Every list that it needs is a local one: 32 KiB, beside the caller's times.
+// The run of a small board, tiles in rising order. Every list that it needs is a local one: 33 KiB, beside the caller's times.
 ghost use mathlib.Core.Path.{_≡_};
 ghost use Prim.Native.Nat.{ℕ, _*_, _≤_, _<_};
 ghost use lib.ListN.{length, getD};
@@ -25,6 +25,13 @@ fn work_entries() -> [u32; 4096]
     ensures { λ r. ⌜ length r ≡ 4096 ⌝ }
 {
     [0; 4096]
+}
+
+// The tablet's call has no use for the sides.
+fn side_entries() -> [u8; 1024]
+    ensures { λ r. ⌜ length r ≡ 1024 ⌝ }
+{
+    [0; 1024]
 }
 
 // 0, 1, 2, ..
@@ -64,6 +71,8 @@ fn run_board(
     let mut order = entries();
     let tiles = (tiles_along(width, across) * tiles_along(height, down)) as usize;
     rise(&mut order[..tiles]);
+    let n = times.len();
+    let mut sides = side_entries();
     let mut work = work_entries();
     let reply = engine::calls::tile_run(
         width,
@@ -78,6 +87,7 @@ fn run_board(
         HORIZON,
         &order[..tiles],
         times,
+        &mut sides[..n],
         &mut work,
     );
     reply.count

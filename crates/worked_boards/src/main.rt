@@ -1,11 +1,15 @@
-// Goes through the boards worked by hand that are not starred, those of document 01 and of Cards 3, 10 and 12 of document 02: what each gives,
+// Goes through the boards worked by hand that are not starred, those of document 01 and of Cards 3, 6, 10 and 12 of document 02: what each gives,
 // and whether it is what the pages say.
+use eikonal::LocalReply;
 use eikonal::NEVER;
 use eikonal::Reply;
 use libc::STDOUT_FILENO;
 
 // The pair (10, 10): 10 ticks along the row, 10 down the column.
 const TEN: u32 = 655370;
+
+// The pair (1, 1).
+const ONE: u32 = 65537;
 
 // A ploughed field, (10, 20): half as fast across the furrows, which run along the rows.
 const PLOUGHED: u32 = 1310730;
@@ -24,6 +28,14 @@ fn print_all(list: &[u32]) {
     let mut i = 0;
     while i < list.len() {
         print(list[i]);
+        i += 1;
+    }
+}
+
+fn print_sides(list: &[u8]) {
+    let mut i = 0;
+    while i < list.len() {
+        print(list[i] as u32);
         i += 1;
     }
 }
@@ -56,6 +68,12 @@ fn tell(name: &[u8], got: &[u32], want: &[u32]) {
     judge(same(got, want));
 }
 
+fn tell_sides(got: &[u8], want: &[u8]) {
+    io::write_all(STDOUT_FILENO, b"its sides: ");
+    print_sides(got);
+    judge(check::same(got, want));
+}
+
 fn tell_reply(name: &[u8], reply: Reply, number: u32, count: u32) {
     let got = [reply.number, reply.count];
     let want = [number, count];
@@ -63,11 +81,12 @@ fn tell_reply(name: &[u8], reply: Reply, number: u32, count: u32) {
 }
 
 // A round on the board of 3 by 3, slowness 10, start cell 0 at 0, in tiles of 2 by 2.
-fn round(name: &[u8], bound: u32, times: &mut [u32], want: &[u32]) {
+fn round(name: &[u8], bound: u32, times: &mut [u32], want: &[u32], want_sides: &[u8]) {
     let slow = [TEN; 9];
     let cell = [0u32; 1];
     let begin = [0u32; 1];
     let order = [0u32, 1, 2, 3];
+    let mut sides = [0u8; 9];
     let mut work = [0u32; 36];
     engine::calls::one_round(
         3,
@@ -81,9 +100,11 @@ fn round(name: &[u8], bound: u32, times: &mut [u32], want: &[u32]) {
         bound,
         &order,
         times,
+        &mut sides,
         &mut work,
     );
     tell(name, times, want);
+    tell_sides(&sides, want_sides);
 }
 
 // Bounds of stride 20 and horizon 34.
@@ -92,10 +113,67 @@ fn rounds() {
     let first = [0u32, 10, NEVER, 10, 18, NEVER, NEVER, NEVER, NEVER];
     let second = [0u32, 10, 20, 10, 18, 26, 20, 26, NEVER];
     let third = [0u32, 10, 20, 10, 18, 26, 20, 26, 34];
-    round(b"round 1: ", 20, &mut times, &first);
-    round(b"round 2: ", 34, &mut times, &second);
-    round(b"round 3: ", 34, &mut times, &third);
-    round(b"round 4: ", 34, &mut times, &third);
+    let sides1 = [0u8, 1, 0, 4, 5, 0, 0, 0, 0];
+    let sides2 = [0u8, 1, 1, 4, 5, 5, 4, 5, 0];
+    let sides3 = [0u8, 1, 1, 4, 5, 5, 4, 5, 5];
+    round(b"round 1: ", 20, &mut times, &first, &sides1);
+    round(b"round 2: ", 34, &mut times, &second, &sides2);
+    round(b"round 3: ", 34, &mut times, &third, &sides3);
+    round(b"round 4: ", 34, &mut times, &third, &sides3);
+}
+
+// A round on the board of 4 by 1, slowness 1, start cells 0 at 0 and 3 at 1, in tiles of 1 by 1, bound 10.
+fn narrow_round(name: &[u8], count: u32, times: &mut [u32], want: &[u32], want_sides: &[u8]) {
+    let slow = [ONE; 4];
+    let order = [0u32, 1, 2, 3];
+    let mut sides = [0u8; 4];
+    let mut work = [0u32; 16];
+    let reply = engine::calls::one_round(
+        4,
+        1,
+        1,
+        &slow,
+        &[0u32, 3],
+        &[0u32, 1],
+        1,
+        1,
+        10,
+        &order,
+        times,
+        &mut sides,
+        &mut work,
+    );
+    tell_reply(name, reply, 0, count);
+    tell(b"its times: ", times, want);
+    tell_sides(&sides, want_sides);
+}
+
+// The third alters sides and no time.
+fn narrow_rounds() {
+    let mut times = [NEVER; 4];
+    let first = [0u32, NEVER, NEVER, 1];
+    let all = [0u32, 1, 2, 1];
+    narrow_round(
+        b"4 by 1, round 1, refusal and cells altered: ",
+        2,
+        &mut times,
+        &first,
+        &[0u8; 4],
+    );
+    narrow_round(
+        b"4 by 1, round 2, refusal and cells altered: ",
+        2,
+        &mut times,
+        &all,
+        &[0u8, 1, 2, 0],
+    );
+    narrow_round(
+        b"4 by 1, round 3, refusal and cells altered: ",
+        0,
+        &mut times,
+        &all,
+        &[0u8, 1, 1, 0],
+    );
 }
 
 fn run(name: &[u8], side: u32, order: &[u32], rounds: u32) {
@@ -103,6 +181,7 @@ fn run(name: &[u8], side: u32, order: &[u32], rounds: u32) {
     let cell = [0u32; 1];
     let begin = [0u32; 1];
     let mut times = [0u32; 9];
+    let mut sides = [0u8; 9];
     let mut work = [0u32; 36];
     let reply = engine::calls::tile_run(
         3,
@@ -117,17 +196,28 @@ fn run(name: &[u8], side: u32, order: &[u32], rounds: u32) {
         34,
         order,
         &mut times,
+        &mut sides,
         &mut work,
     );
     tell_reply(name, reply, 0, rounds);
     let want = [0u32, 10, 20, 10, 18, 26, 20, 26, 34];
     tell(b"its times: ", &times, &want);
+    tell_sides(&sides, &[0u8, 1, 1, 4, 5, 5, 4, 5, 5]);
 }
 
 // A march over 3 by 3 cells of slowness 10 with the given starts.
-fn march(name: &[u8], cells: &[u32], begins: &[u32], number: u32, count: u32, want: &[u32]) {
+fn march(
+    name: &[u8],
+    cells: &[u32],
+    begins: &[u32],
+    number: u32,
+    count: u32,
+    want: &[u32],
+    want_sides: &[u8],
+) {
     let slow = [TEN; 9];
     let mut times = [0u32; 9];
+    let mut sides = [0u8; 9];
     let mut work = [0u32; 36];
     let reply = engine::calls::march(
         3,
@@ -138,10 +228,12 @@ fn march(name: &[u8], cells: &[u32], begins: &[u32], number: u32, count: u32, wa
         begins,
         300000000,
         &mut times,
+        &mut sides,
         &mut work,
     );
     tell_reply(name, reply, number, count);
     tell(b"its times: ", &times, want);
+    tell_sides(&sides, want_sides);
 }
 
 // A board of 256 cells, from cell 0 on.
@@ -150,6 +242,7 @@ fn side(name: &[u8], width: u32, height: u32, number: u32, count: u32) {
     let cell = [0u32; 1];
     let begin = [0u32; 1];
     let mut times = [0u32; 256];
+    let mut sides = [0u8; 256];
     let mut work = [0u32; 1024];
     let reply = engine::calls::march(
         width,
@@ -160,6 +253,7 @@ fn side(name: &[u8], width: u32, height: u32, number: u32, count: u32) {
         &begin,
         300000000,
         &mut times,
+        &mut sides,
         &mut work,
     );
     tell_reply(name, reply, number, count);
@@ -182,10 +276,46 @@ fn starts() {
     ];
     let cells = [0u32; 0];
     let begins = [0u32; 0];
-    march(b"no starts: ", &cells, &begins, 0, 0, &never);
-    march(b"cell 1 at 15: ", &[0u32, 1], &[0u32, 15], 0, 9, &front);
-    march(b"start at 1,000,000: ", &[0u32], &[1000000u32], 0, 9, &late);
-    march(b"start at 1,000,001: ", &[0u32], &[1000001u32], 8, 0, &zero);
+    let sides = [0u8, 1, 1, 4, 5, 5, 4, 5, 5];
+    let none = [0u8; 9];
+    march(b"no starts: ", &cells, &begins, 0, 0, &never, &none);
+    march(
+        b"cell 1 at 15: ",
+        &[0u32, 1],
+        &[0u32, 15],
+        0,
+        9,
+        &front,
+        &sides,
+    );
+    // at the time that the front would have come: it began there
+    march(
+        b"cell 1 at 10: ",
+        &[0u32, 1],
+        &[0u32, 10],
+        0,
+        9,
+        &front,
+        &[0u8, 0, 1, 4, 5, 5, 4, 5, 5],
+    );
+    march(
+        b"start at 1,000,000: ",
+        &[0u32],
+        &[1000000u32],
+        0,
+        9,
+        &late,
+        &sides,
+    );
+    march(
+        b"start at 1,000,001: ",
+        &[0u32],
+        &[1000001u32],
+        8,
+        0,
+        &zero,
+        &none,
+    );
 }
 
 fn tell_turn(name: &[u8], time: u32, turn: u32, to_go: u32) {
@@ -199,6 +329,7 @@ fn tell_turn(name: &[u8], time: u32, turn: u32, to_go: u32) {
 fn turns() {
     let slow = [TEN; 9];
     let mut times = [0u32; 9];
+    let mut sides = [0u8; 9];
     let mut work = [0u32; 36];
     engine::calls::march(
         3,
@@ -209,6 +340,7 @@ fn turns() {
         &[0u32],
         300000000,
         &mut times,
+        &mut sides,
         &mut work,
     );
     tell_turn(
@@ -232,11 +364,25 @@ fn ploughed() {
     let begin = [0u32; 1];
     let order = [0u32, 1, 2, 3];
     let want = [0u32, 10, 20, 20, 26, 34, 40, 45, 51];
+    let want_sides = [0u8, 1, 1, 4, 5, 5, 4, 5, 5];
     let mut times = [0u32; 9];
+    let mut sides = [0u8; 9];
     let mut work = [0u32; 36];
-    let march = engine::calls::march(3, 3, 1, &slow, &cell, &begin, 51, &mut times, &mut work);
+    let march = engine::calls::march(
+        3,
+        3,
+        1,
+        &slow,
+        &cell,
+        &begin,
+        51,
+        &mut times,
+        &mut sides,
+        &mut work,
+    );
     tell_reply(b"ploughed, refusal and cells reached: ", march, 0, 9);
     tell(b"its times: ", &times, &want);
+    tell_sides(&sides, &want_sides);
     let run = engine::calls::tile_run(
         3,
         3,
@@ -250,28 +396,36 @@ fn ploughed() {
         51,
         &order,
         &mut times,
+        &mut sides,
         &mut work,
     );
     tell_reply(b"ploughed in 2 by 2 tiles, refusal and rounds: ", run, 0, 5);
     tell(b"its times: ", &times, &want);
+    tell_sides(&sides, &want_sides);
+}
+
+fn tell_local(name: &[u8], reply: LocalReply, number: u32, time: u32, sides: u32) {
+    let got = [reply.number, reply.time, reply.sides];
+    let want = [number, time, sides];
+    tell(name, &got, &want);
 }
 
 // What a cell is given from its left and from above, with 10 ticks along its row and 20 down its column.
-fn furrow(name: &[u8], left: u32, above: u32, number: u32, time: u32) {
+fn furrow(name: &[u8], left: u32, above: u32, time: u32, sides: u32) {
     let reply = arrival::local_rule(10, 20, left, NEVER, above, NEVER, NEVER, NEVER);
-    tell_reply(name, reply, number, time);
+    tell_local(name, reply, 0, time, sides);
 }
 
 fn furrows() {
-    furrow(b"(10, 20) from the left alone: ", 0, NEVER, 0, 10);
-    furrow(b"(10, 20) from above alone: ", NEVER, 0, 0, 20);
-    furrow(b"(10, 20) from both at once: ", 0, 0, 0, 9);
+    furrow(b"(10, 20) from the left alone: ", 0, NEVER, 10, 1);
+    furrow(b"(10, 20) from above alone: ", NEVER, 0, 20, 4);
+    furrow(b"(10, 20) from both at once: ", 0, 0, 9, 5);
 }
 
 // What a cell of slowness 10 is given from its left, from above and from under it.
 fn corner(name: &[u8], left: u32, above: u32, under: u32, time: u32) {
     let reply = arrival::local_rule(10, 10, left, NEVER, above, NEVER, NEVER, under);
-    tell_reply(name, reply, 0, time);
+    tell_local(name, reply, 0, time, 37);
 }
 
 fn corners() {
@@ -286,11 +440,25 @@ fn house() {
     let begin = [0u32; 1];
     let order = [0u32, 1, 2, 3];
     let want = [0u32, 10, 10, 18, 10, 18, 18, 24];
+    let want_sides = [0u8, 1, 4, 5, 32, 33, 36, 37];
     let mut times = [0u32; 8];
+    let mut sides = [0u8; 8];
     let mut work = [0u32; 32];
-    let march = engine::calls::march(2, 2, 2, &slow, &cell, &begin, 24, &mut times, &mut work);
+    let march = engine::calls::march(
+        2,
+        2,
+        2,
+        &slow,
+        &cell,
+        &begin,
+        24,
+        &mut times,
+        &mut sides,
+        &mut work,
+    );
     tell_reply(b"house, refusal and cells reached: ", march, 0, 8);
     tell(b"its times: ", &times, &want);
+    tell_sides(&sides, &want_sides);
     let run = engine::calls::tile_run(
         2,
         2,
@@ -304,14 +472,24 @@ fn house() {
         24,
         &order,
         &mut times,
+        &mut sides,
         &mut work,
     );
     tell_reply(b"house in 1 by 1 tiles, refusal and rounds: ", run, 0, 4);
     tell(b"its times: ", &times, &want);
+    tell_sides(&sides, &want_sides);
 }
 
 // A house of 1 by 1 with as many storeys as there are slownesses.
-fn tower(name: &[u8], storeys: u32, slow: &[u32], times: &mut [u32], number: u32, count: u32) {
+fn tower(
+    name: &[u8],
+    storeys: u32,
+    slow: &[u32],
+    times: &mut [u32],
+    sides: &mut [u8],
+    number: u32,
+    count: u32,
+) {
     let mut work = [0u32; 36];
     let reply = engine::calls::march(
         1,
@@ -322,6 +500,7 @@ fn tower(name: &[u8], storeys: u32, slow: &[u32], times: &mut [u32], number: u32
         &[0u32],
         300000000,
         times,
+        sides,
         &mut work,
     );
     tell_reply(name, reply, number, count);
@@ -330,8 +509,11 @@ fn tower(name: &[u8], storeys: u32, slow: &[u32], times: &mut [u32], number: u32
 fn towers() {
     let mut eight = [0u32; 8];
     let mut nine = [0u32; 9];
-    tower(b"8 storeys: ", 8, &[TEN; 8], &mut eight, 0, 8);
-    tower(b"9 storeys: ", 9, &[TEN; 9], &mut nine, 23, 0);
+    let mut sides8 = [0u8; 8];
+    let mut sides9 = [0u8; 9];
+    tower(b"8 storeys: ", 8, &[TEN; 8], &mut eight, &mut sides8, 0, 8);
+    tell_sides(&sides8, &[0u8, 32, 32, 32, 32, 32, 32, 32]);
+    tower(b"9 storeys: ", 9, &[TEN; 9], &mut nine, &mut sides9, 23, 0);
 }
 
 // 3 by 3, 10 ticks, ground (10, 10), no runs, start cell 0 at 0.
@@ -347,6 +529,7 @@ fn rings() {
 
 fn main() {
     rounds();
+    narrow_rounds();
     run(
         b"2 by 2 tiles, refusal and rounds: ",
         2,

@@ -10,19 +10,19 @@ extern "C" {
         width: u32, height: u32, storeys: u32, slow: *const u32, slow_len: usize,
         starts: *const Start, starts_len: usize,
         horizon: u32,
-        times: *mut u32, times_len: usize, work: *mut u32, work_len: usize,
+        times: *mut u32, times_len: usize, sides: *mut u8, sides_len: usize, work: *mut u32, work_len: usize,
     ) -> Reply;
     fn murgolab_one_round(
         width: u32, height: u32, storeys: u32, slow: *const u32, slow_len: usize,
         starts: *const Start, starts_len: usize,
         across: u32, down: u32, bound: u32, order: *const u32, order_len: usize,
-        times: *mut u32, times_len: usize, work: *mut u32, work_len: usize,
+        times: *mut u32, times_len: usize, sides: *mut u8, sides_len: usize, work: *mut u32, work_len: usize,
     ) -> Reply;
     fn murgolab_tile_run(
         width: u32, height: u32, storeys: u32, slow: *const u32, slow_len: usize,
         starts: *const Start, starts_len: usize,
         across: u32, down: u32, stride: u32, horizon: u32, order: *const u32, order_len: usize,
-        times: *mut u32, times_len: usize, work: *mut u32, work_len: usize,
+        times: *mut u32, times_len: usize, sides: *mut u8, sides_len: usize, work: *mut u32, work_len: usize,
     ) -> Reply;
 }
 
@@ -30,7 +30,7 @@ extern "C" {
 #[rustfmt::skip]
 pub fn march(
     b: &Board, horizon: u32,
-    times: &mut [u32], work: &mut [u32],
+    times: &mut [u32], sides: &mut [u8], work: &mut [u32],
 ) -> Reply {
     let starts = b.starts();
     // SAFETY: the lists are as long as said, and those lent for writing are borrowed alone
@@ -39,16 +39,17 @@ pub fn march(
             b.width, b.height, b.storeys, b.slow.as_ptr(), b.slow.len(),
             starts.as_ptr(), starts.len(),
             horizon,
-            times.as_mut_ptr(), times.len(), work.as_mut_ptr(), work.len(),
+            times.as_mut_ptr(), times.len(), sides.as_mut_ptr(), sides.len(), work.as_mut_ptr(), work.len(),
         )
     }
 }
 
 #[inline]
 #[rustfmt::skip]
+#[allow(clippy::too_many_arguments)]
 pub fn one_round(
     b: &Board, across: u32, down: u32, bound: u32, order: &[u32],
-    times: &mut [u32], work: &mut [u32],
+    times: &mut [u32], sides: &mut [u8], work: &mut [u32],
 ) -> Reply {
     let starts = b.starts();
     // SAFETY: the lists are as long as said, and those lent for writing are borrowed alone
@@ -57,7 +58,7 @@ pub fn one_round(
             b.width, b.height, b.storeys, b.slow.as_ptr(), b.slow.len(),
             starts.as_ptr(), starts.len(),
             across, down, bound, order.as_ptr(), order.len(),
-            times.as_mut_ptr(), times.len(), work.as_mut_ptr(), work.len(),
+            times.as_mut_ptr(), times.len(), sides.as_mut_ptr(), sides.len(), work.as_mut_ptr(), work.len(),
         )
     }
 }
@@ -67,7 +68,7 @@ pub fn one_round(
 #[allow(clippy::too_many_arguments)]
 pub fn tile_run(
     b: &Board, across: u32, down: u32, stride: u32, horizon: u32, order: &[u32],
-    times: &mut [u32], work: &mut [u32],
+    times: &mut [u32], sides: &mut [u8], work: &mut [u32],
 ) -> Reply {
     let starts = b.starts();
     // SAFETY: the lists are as long as said, and those lent for writing are borrowed alone
@@ -76,7 +77,7 @@ pub fn tile_run(
             b.width, b.height, b.storeys, b.slow.as_ptr(), b.slow.len(),
             starts.as_ptr(), starts.len(),
             across, down, stride, horizon, order.as_ptr(), order.len(),
-            times.as_mut_ptr(), times.len(), work.as_mut_ptr(), work.len(),
+            times.as_mut_ptr(), times.len(), sides.as_mut_ptr(), sides.len(), work.as_mut_ptr(), work.len(),
         )
     }
 }
@@ -84,12 +85,12 @@ pub fn tile_run(
 /// The call over start records; its board's plain lists are as long as each other.
 #[inline]
 #[rustfmt::skip]
-pub fn play(call: &Call, times: &mut [u32], work: &mut [u32]) -> Reply {
+pub fn play(call: &Call, times: &mut [u32], sides: &mut [u8], work: &mut [u32]) -> Reply {
     let b = &call.board;
     match &call.kind {
-        Kind::March { horizon } => march(b, *horizon, times, work),
-        Kind::Round { across, down, bound, order } => one_round(b, *across, *down, *bound, order, times, work),
+        Kind::March { horizon } => march(b, *horizon, times, sides, work),
+        Kind::Round { across, down, bound, order } => one_round(b, *across, *down, *bound, order, times, sides, work),
         Kind::Run { across, down, stride, horizon, order } =>
-            tile_run(b, *across, *down, *stride, *horizon, order, times, work),
+            tile_run(b, *across, *down, *stride, *horizon, order, times, sides, work),
     }
 }

@@ -1,6 +1,6 @@
 //! The local rule and D.
 
-use crate::Reply;
+use crate::{LocalReply, Reply};
 
 extern "C" {
     fn murgolab_local_rule(
@@ -12,12 +12,12 @@ extern "C" {
         below: u32,
         over: u32,
         under: u32,
-    ) -> Reply;
+    ) -> LocalReply;
     fn murgolab_diagonal(slowness: u32) -> Reply;
 }
 
 #[inline]
-pub fn local_rule([g, h]: [u32; 2], [left, right, above, below, over, under]: [u32; 6]) -> Reply {
+pub fn local_rule([g, h]: [u32; 2], [left, right, above, below, over, under]: [u32; 6]) -> LocalReply {
     // SAFETY: numbers alone
     unsafe { murgolab_local_rule(g, h, left, right, above, below, over, under) }
 }

@@ -3,30 +3,40 @@ use mathlib.Core.Path.{_≡_, refl, sym, ap, subst, _∙_}
 use mathlib.Core.Bool.{Bool, true, false, cond, _||_}
 use mathlib.Core.Logic.{inl}
 use mathlib.Core.List.{List, [], _∷_, _++_}
-use Prim.Native.Nat.{ℕ, _+_, _*_, _-_, _≤_, _<_, min}
+use Prim.Native.Nat.{ℕ, suc, _+_, _*_, _-_, _≤_, _<_, min}
 use native.Mathlib.Omega.{arith}
+use native.Mathlib.Nat.{mul-le-mul-right}
 use lib.Dec.{ltb, leb, eqb}
 use lib.ListN.{length, getD, drop, replicate, length-drop, length-replicate, getD-replicate}
 use lib.Seq.{ext-getD, getD-drop}
 use borrow.Author.Tests.{lt-leb}
 use Rattle.eikonal.specs.Board.{Board, never, largest, size, slowness, start-time, arrival, time, solved, cut, marched, reached, all-never}
 use Rattle.eikonal.specs.declared.Start.{Start}
-use Rattle.eikonal.specs.Tiles.{tile-of, counts-as, round, altered, after-rounds, rounds}
+use Rattle.eikonal.specs.Tiles.{tile-of, counts-as, tiled, round, altered, after-rounds}
+use Rattle.eikonal.specs.Sides.{sides-seen}
+use Rattle.eikonal.specs.Ledger.{sheet, entered, counted}
 use Rattle.eikonal.specs.Promise.{Neighbour}
 use Rattle.eikonal.specs.Inner.Clip.{clip}
 use Rattle.eikonal.specs.Inner.Good.{Good}
+use Rattle.eikonal.specs.Inner.Sides.{sides-by}
+use Rattle.eikonal.specs.declared.Job.the-variants.{March, Round, Run}
 use Rattle.eikonal.proofs.Good.{size-most}
+use Rattle.eikonal.proofs.Clip.{clip-low}
 use Rattle.eikonal.proofs.Passes.{never-time}
+use Rattle.eikonal.proofs.Sides.{sides-agree}
 use Rattle.one_tile.proofs.March.{round-is-march}
 use Rattle.front.specs.Front.{ghosted, heard, Tied, Upheld, Drift}
 use Rattle.front.specs.Board.{land, rule-by, rule-at, tentative, Work, keys, Marked, Ground}
 use Rattle.front.specs.State.{Standing, Gathered, Worked}
+use Rattle.front.proofs.Theory.Reading.{time-at}
+use Rattle.sides.specs.Pass.{Some-land, Found-whole, Found-round}
 use Rattle.rows.specs.Rows.{Wrote}
 use Rattle.queue.specs.Lists.{Filled}
 use Rattle.rows.specs.Lists.{due, Finished}
 use Rattle.engine.specs.Run.{starts, whole, At-round, Ran}
 use Rattle.engine.specs.Calls.{Fit, Through}
 use Rattle.front.specs.declared.Shape.{Shape}
+use Rattle.engine.proofs.Theory.Clearing.{sides-clip}
 use Rattle.engine.proofs.Theory.Rounds.{met-round}
 use Rattle.rows.proofs.Theory.Lists.{filled-front}
 use Rattle.engine.proofs.Theory.Running.{size-whole, run-counts, run-marches}
@@ -43,7 +53,7 @@ wiped : (n : ℕ) (v u w : List ℕ) → 4 * n ≤ length v → length u ≡ len
 wiped n v u w r l h fi = filled-front (omega arith) fi ∙ ap (λ (x : List ℕ). replicate (4 * n) 0 ++ x) (drop-same (4 * n) u v l h)
 
 -- ---- a legal board without its starts, with its seams
-module _ {s : Shape} {slow : List ℕ} {xs : List Start} {times work : List ℕ} (fit : Fit s slow xs times work) where
+module _ {s : Shape} {slow : List ℕ} {xs : List Start} {times sides work : List ℕ} (fit : Fit s slow xs times sides work) where
   abbrev n : ℕ
   n = s .cells
 
@@ -108,6 +118,27 @@ module _ {s : Shape} {slow : List ℕ} {xs : List Start} {times work : List ℕ}
       turned : s .width * s .height * s .storeys ≡ s .height * s .storeys * s .width
       turned = omega arith
 
+  row-fits : s .width ≤ n
+  row-fits =
+      let lines : 1 ≤ s .height * s .storeys = omega (arith, mul-le-mul-right (s .storeys) (fit .good .high-low), fit .good .storeys-low) in
+      omega (arith, rows-whole, mul-le-mul-right (s .width) lines)
+
+  on : (c : ℕ) → c < n → c < size b
+  on c l = rw size-is at l
+
+  -- ---- THE SIDES of a whole board, by times that are the march's
+  pub land-fits : (ts v us : List ℕ) → length ts ≡ n → 4 * n ≤ length v → length us ≡ n → Some-land s ts v us
+  land-fits ts v us l r k = record { slow = slow; good = good-land; cells = fit .size; many = l; room = r; long = k }
+
+  whole-sides : {h : ℕ} {us v v' ss : List ℕ} → us ≡ marched b h → length us ≡ n → Found-whole s h us v v' sides ss → (c : ℕ) → c < n
+      → getD ss c 0 ≡ sides-by b h c (λ e. time (marched b h) e) (time us c)
+  unfolding sides-by sides-seen
+  whole-sides {h} {us} is l fo c k =
+      fo .each c k ∙ rw (← time-at us c (omega arith)) (sides-agree (fit .good) c (on c k) h (λ e. getD us e 0) (λ e. time (marched b h) e) same (time us c))
+    where
+      same : (e : ℕ) → e < size b → Neighbour b c e → min (suc h) (getD us e 0) ≡ min (suc h) (time (marched b h) e)
+      same e m nb = rw (← is, time-at us e (omega (arith, size-is)))
+
   -- ---- A TILE RUN begins with all times never
   module _ {v : Work} (be : Standing n xs work) (ga : Gathered n 0 n work v) (ts : List ℕ) (all : ts ≡ all-never b) (S H : ℕ) where
     never-at : (c : ℕ) → time ts c ≡ never
@@ -149,13 +180,22 @@ module _ {s : Shape} {slow : List ℕ} {xs : List Start} {times work : List ℕ}
     }
 
     -- and goes through
-    pub run-through : 1 ≤ S → S ≤ largest → H ≤ largest → (us v2 v3 : List ℕ) (limit r : ℕ) → 1000000000 ≤ limit → Ran s slow xs S H limit r ts us (v .list) v2
-        → Filled 0 (4 * n) 0 v2 v3 → Through n (rounds b tw th S H) (marched b H) r us work v3
-    run-through low high horizon us v2 v3 limit r beyond ran fi = record {
+    pub run-through : 1 ≤ S → S ≤ largest → H ≤ largest → (us ss v2 v3 v4 : List ℕ) (limit r : ℕ) → 1000000000 ≤ limit
+        → Ran s slow xs S H limit r ts us (v .list) v2 → Found-whole s H us v2 v3 sides ss → Filled 0 (4 * n) 0 v3 v4
+        → length ts ≡ n → Through b (Run tw th S H) times n r (sheet us ss) work v4
+    unfolding counted entered
+    run-through low high horizon us ss v2 v3 v4 limit r beyond ran fo fi l = record {
       counts = run-counts s slow xs (fit .good) S H low high horizon ran beyond;
-      enters = run-marches s slow xs (fit .good) S H low high horizon ran beyond;
-      wipes = wiped n work v2 v3 (fit .room) (ran .kept ∙ ga .long) (λ j k. ran .past j k ∙ ga .rest j (omega arith)) fi;
+      enters = is;
+      timed = ran .long ∙ l;
+      sided = fo .long ∙ fit .sided;
+      sides = whole-sides is (ran .long ∙ l) fo;
+      wipes = wiped n work v3 v4 (fit .room) (fo .kept ∙ ran .kept ∙ ga .long)
+          (λ j k. fo .rest j (omega (arith, row-fits)) ∙ ran .past j k ∙ ga .rest j (omega arith)) fi;
     }
+      where
+        is : us ≡ marched b H
+        is = run-marches s slow xs (fit .good) S H low high horizon ran beyond
 
   -- ---- WHAT IS WRITTEN of cells that are worked out up to the bound is the round
   worked-writes : Standing n xs work → (ts us v : List ℕ) (h : ℕ) → h ≤ largest → Worked n (rule-at s slow ts) h 0 n work v
@@ -182,30 +222,63 @@ module _ {s : Shape} {slow : List ℕ} {xs : List Start} {times work : List ℕ}
         go true e r = rw (e, r)
         go false e r = rw (lt-leb never h l, r)
 
-    pub march-through : Standing n xs work → (ts us v w : List ℕ) (h r : ℕ) → h ≤ largest → Worked n (rule-at s slow ts) h 0 n work v → Finished h n v us r
-        → Filled 0 (4 * n) 0 v w → Through n (reached h (solved b)) (marched b h) r us work w
-    unfolding marched
-    march-through be ts us v w h r i ba fin fi = record {
+    pub march-through : Standing n xs work → (us ss v v1 w : List ℕ) (h r : ℕ) → h ≤ largest → Worked n (rule-at s slow times) h 0 n work v
+        → Finished h n v us r → Found-whole s h us v v1 sides ss → Filled 0 (4 * n) 0 v1 w
+        → Through b (March h) times n r (sheet us ss) work w
+    unfolding marched counted entered
+    march-through be us ss v v1 w h r i ba fin fo fi = record {
       counts = fin .counted ∙ ap (reached h) is ∙ counted-cut;
       enters = is;
-      wipes = wiped n work v w (fit .room) (ba .long) (ba .past) fi;
+      timed = fin .long;
+      sided = fo .long ∙ fit .sided;
+      sides = whole-sides is (fin .long) fo;
+      wipes = wiped n work v1 w (fit .room) (fo .kept ∙ ba .long) (λ j k. fo .rest j (omega (arith, row-fits)) ∙ ba .past j k) fi;
     }
       where
         counted-cut : reached h (marched b h) ≡ reached h (solved b)
         counted-cut = reached-cut h (omega arith) (solved b)
 
         is : us ≡ marched b h
-        is = worked-writes be ts us v h i ba (fin .long) (fin .each) ∙ round-is-march b (fit .good) tw th wide high h i ts
+        is = worked-writes be times us v h i ba (fin .long) (fin .each) ∙ round-is-march b (fit .good) tw th wide high h i times
 
   -- ---- A SINGLE ROUND
-  pub round-through : Standing n xs work → (ts us v w : List ℕ) (h r : ℕ) → h ≤ largest → Worked n (rule-at s slow ts) h 0 n work v → length ts ≡ n
-      → Wrote s h v ts us r → Filled 0 (4 * n) 0 v w
-      → Through n (altered ts (round b tw th h ts)) (round b tw th h ts) r us work w
-  round-through be ts us v w h r i ba tl wr fi = record {
-    counts = wr .counted ∙ ap (altered ts) is;
-    enters = is;
-    wipes = wiped n work v w (fit .room) (ba .long) (ba .past) fi;
-  }
-    where
-      is : us ≡ round b tw th h ts
-      is = worked-writes be ts us v h i ba (wr .long ∙ tl) (wr .each)
+  module _ (be : Standing n xs work) (us ss v v1 w : List ℕ) (h r : ℕ) (i : h ≤ largest) (ba : Worked n (rule-at s slow times) h 0 n work v)
+      (fo : Found-round s slow times h v v1 sides ss) (wr : Wrote s h v1 times us r) where
+    -- the pass for the sides leaves the tentative times
+    written : (c : ℕ) → c < n → time us c ≡ due h v n c
+    written c l = wr .each c l ∙ ap (clip h) (fo .rest (2 * n + c) (omega arith))
+
+    rounded : us ≡ round b tw th h times
+    rounded = worked-writes be times us v h i ba (wr .long ∙ fit .many) written
+
+    -- what a cell saw of the round, and of the front: within its tile the tentative times, which are the round's up to the bound
+    abbrev saw : (c e : ℕ) → ℕ
+    saw c e = tiled b tw th times (λ d. time (round b tw th h times) d) c e
+
+    abbrev found : (c e : ℕ) → ℕ
+    found c e = ghosted b tw th (λ d a. counts-as b times a) (tentative v n) c e
+
+    same-sight : (c e : ℕ) → e < n → min (suc h) (found c e) ≡ min (suc h) (saw c e)
+    same-sight c e k = rw (← rounded) (go (eqb (tile-of b tw th c) (tile-of b tw th e)))
+      where
+        go : (p : Bool) → min (suc h) (cond p (tentative v n e) (counts-as b times e)) ≡ min (suc h) (cond p (time us e) (counts-as b times e))
+        go true = rw (written e k) (sym (clip-low h (suc h) (tentative v n e) (omega arith) (omega arith)))
+        go false = refl
+
+    tile-sides : (c : ℕ) → c < n → getD ss c 0 ≡ sides-by b h c (saw c) (time us c)
+    unfolding sides-by sides-seen tile-of counts-as slowness
+    tile-sides c l =
+        fo .each c l
+        ∙ sides-agree (fit .good) c (on c l) h (found c) (saw c) (λ e k nb. same-sight c e (rw size-is k)) (tentative v n c)
+        ∙ rw (written c l) (sym (sides-clip b h c (saw c) (omega arith) (tentative v n c)))
+
+    pub round-through : Filled 0 (4 * n) 0 v1 w → Through b (Round tw th h) times n r (sheet us ss) work w
+    unfolding counted entered
+    round-through fi = record {
+      counts = wr .counted ∙ ap (altered times) rounded;
+      enters = rounded;
+      timed = wr .long ∙ fit .many;
+      sided = fo .long ∙ fit .sided;
+      sides = tile-sides;
+      wipes = wiped n work v1 w (fit .room) (fo .kept ∙ ba .long) (λ j k. fo .rest j (omega arith) ∙ ba .past j k) fi;
+    }

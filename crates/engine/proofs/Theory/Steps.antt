@@ -8,10 +8,10 @@ use native.Mathlib.Omega.{arith}
 use Prim.Native.Nat.{ℕ, _*_, _≤_}
 use lib.ListN.{length, replicate}
 use borrow.Author.Tests.{eq-eqb, ne-eqb}
-use Rattle.eikonal.specs.Board.{Board, size}
+use Rattle.eikonal.specs.Board.{Board, largest, size}
 use Rattle.eikonal.specs.Tiles.{tile-count}
 use Rattle.eikonal.specs.Refusals.{none, Handed, handed-refusal, order-good, job-refusal}
-use Rattle.eikonal.specs.Ledger.{Call, call-board, refusal, entered, counted, answer, ledger-answer, ledger-after, work-after}
+use Rattle.eikonal.specs.Ledger.{Sheet, sheet, Call, call-board, refusal, entered, answer, ledger-answer, ledger-after, work-after}
 use Rattle.eikonal.specs.Entry.{lent, Says}
 use Rattle.eikonal.specs.declared.Refusal.{Refusal}
 use Rattle.eikonal.specs.declared.Reply.{Reply}
@@ -24,9 +24,11 @@ use Rattle.eikonal.proofs.Answers.{answered-zero, answered-refused}
 use Rattle.front.specs.State.{Begun}
 use Rattle.front.specs.declared.Shape.{Shape}
 use Rattle.front.proofs.Theory.Beginning.{begun}
+use Rattle.sides.specs.Clear.{Cleared}
 use Rattle.engine.specs.Run.{whole}
-use Rattle.engine.specs.Calls.{Fit, Through, Goes, Doable, shaped, Opened, Sowable, Sown, Endable, Ended}
+use Rattle.engine.specs.Calls.{Fit, bound-of, Through, Doable, shaped, Opened, Sowable, Sown, Endable, Ended, Clearable, Clear}
 use Rattle.engine.specs.declared.calls.Task.{Task}
+use Rattle.engine.proofs.Theory.Clearing.{cleared-sides}
 use Rattle.engine.proofs.Theory.Calls.{drop-same}
 
 -- ---- an accepted job can be done in its shape, whose tiles have good sides
@@ -36,6 +38,11 @@ module _ (b : Board) (xs : List ℕ) (wide : b .wide ≤ 256) (high : b .high �
   doable (March z) e = (wide, high, march-can b xs z e)
   doable (Round tw th m) e = let r = round-can b xs tw th m e in (refl, refl, r .0, r .1 .ordered)
   doable (Run tw th d z) e = let r = run-can b xs tw th d z e in (refl, refl, r .1, r .2, r .0)
+
+  bound-low : (j : Job) → job-refusal b j xs .number ≡ 0 → bound-of j ≤ largest
+  bound-low (March z) e = march-can b xs z e
+  bound-low (Round tw th m) e = round-can b xs tw th m e .0
+  bound-low (Run tw th d z) e = run-can b xs tw th d z e .0
 
   tiles-sided : (j : Job) → job-refusal b j xs .number ≡ 0 → (s : Shape) → s ≡ shaped (b .wide) (b .high) (b .storeys) j
       → (1 ≤ s .across) × (s .across ≤ 256) × (1 ≤ s .down) × (s .down ≤ 256)
@@ -63,9 +70,9 @@ pub sides-fit : (p : Handed) (r : Refusal) → r ≡ handed-refusal p → r .num
 unfolding size
 sides-fit p r e z = let g = accepted p (sym (ap (λ (k : Refusal). k .number) e) ∙ z) .good in (g .wide-high, g .high-high, g .few)
 
-module _ (c : Call) (t : ℕ) (r : Refusal) (e : r ≡ refusal c t) (z : r .number ≡ 0) where
-  fine : Fits c t
-  fine = fits c t (sym (ap (λ (k : Refusal). k .number) e) ∙ z)
+module _ (c : Call) (t s : ℕ) (r : Refusal) (e : r ≡ refusal c t s) (z : r .number ≡ 0) where
+  fine : Fits c t s
+  fine = fits c t s (sym (ap (λ (k : Refusal). k .number) e) ∙ z)
 
   pub board-sides : (call-board c .wide ≤ 256) × (call-board c .high ≤ 256) × (call-board c .wide * call-board c .high * call-board c .storeys ≤ 65536)
   unfolding size
@@ -76,20 +83,27 @@ module _ (c : Call) (t : ℕ) (r : Refusal) (e : r ≡ refusal c t) (z : r .numb
   board-room s is = rw (in-shape (call-board c) (c .job) s is .cells) (fine .given .good .few, fine .work-fits)
 
 -- what is kept of the work list is kept from before the starts were placed
-through-from : {n k : ℕ} {xs : List Start} {us : List ℕ} {r : ℕ} {ts v v' w : List ℕ} → Begun n xs v v' → Through n k us r ts v' w → Through n k us r ts v w
+through-from : {b : Board} {j : Job} {ts : List ℕ} {n r : ℕ} {xs : List Start} {p : Sheet} {v v' w : List ℕ} → Begun n xs v v' → Through b j ts n r p v' w
+    → Through b j ts n r p v w
 through-from {n = n} {v = v} {v' = v'} be th = record {
   counts = th .counts;
   enters = th .enters;
+  timed = th .timed;
+  sided = th .sided;
+  sides = th .sides;
   wipes = th .wipes ∙ ap (λ (x : List ℕ). replicate (4 * n) 0 ++ x) (drop-same (4 * n) v' v (be .long) (λ j l. be .rest j (omega arith)));
 }
 
 -- ---- the call c, with the task that its beginning leaves
-module _ (c : Call) (t : Task) (ts v v0 : List ℕ) (same : c .work ≡ length v) (op : Opened c (length ts) t v v0) where
-  not-refused : t .refusal .number ≡ 0 → refusal c (length ts) .number ≡ 0
+module _ (c : Call) (t : Task) (ts ss v v0 : List ℕ) (same : c .work ≡ length v) (op : Opened c (length ts) (length ss) t v v0) where
+  abbrev refused : Refusal
+  refused = refusal c (length ts) (length ss)
+
+  not-refused : t .refusal .number ≡ 0 → refused .number ≡ 0
   not-refused z = sym (ap (λ (k : Refusal). k .number) (op .judged)) ∙ z
 
-  fit : t .refusal .number ≡ 0 → Fits c (length ts)
-  fit z = fits c (length ts) (not-refused z)
+  fit : t .refusal .number ≡ 0 → Fits c (length ts) (length ss)
+  fit z = fits c (length ts) (length ss) (not-refused z)
 
   cells-are : t .refusal .number ≡ 0 → t .shape .cells ≡ size (call-board c)
   cells-are z = in-shape (call-board c) (c .job) (t .shape) (op .shape-is z) .cells
@@ -106,7 +120,7 @@ module _ (c : Call) (t : Task) (ts v v0 : List ℕ) (same : c .work ≡ length v
     stands : t .refusal .number ≡ 0 → Begun (t .shape .cells) (call-board c .starts) v v1
     stands z = begun (t .shape .cells) (call-board c .starts) v v0 v1 (sowable z .2) (fit z .given .starts .early) (op .emptied z) (so .sown z)
 
-    fitting : (z : t .refusal .number ≡ 0) → Fit (t .shape) (call-board c .slow) (call-board c .starts) ts v1
+    fitting : (z : t .refusal .number ≡ 0) → Fit (t .shape) (call-board c .slow) (call-board c .starts) ts ss v1
     unfolding size
     fitting z =
         let b = call-board c in
@@ -121,11 +135,12 @@ module _ (c : Call) (t : Task) (ts v v0 : List ℕ) (same : c .work ≡ length v
           down-low = d .2;
           down-high = d .3;
           many = fit z .times-fit ∙ sym (i .cells);
+          sided = fit z .sides-fit ∙ sym (i .cells);
           room = omega (arith, fit z .work-fits, i .cells, stands z .long, same);
         }
 
     -- the job can be done
-    pub endable : Endable t (c .job) (call-board c .slow) (c .order) ts v1
+    pub endable : Endable t (c .job) (call-board c .slow) (c .order) ts ss v1
     endable z =
         let g = fit z .given .good in (
           record { starts = call-board c .starts; fit = fitting z; stands = stands z .stands },
@@ -133,33 +148,48 @@ module _ (c : Call) (t : Task) (ts v v0 : List ℕ) (same : c .work ≡ length v
               (doable (call-board c) (c .order) (g .wide-high) (g .high-high) (c .job) (fit z .can)),
         )
 
-    -- and once it is, the call has kept its contract
-    through : (z : t .refusal .number ≡ 0) (r : ℕ) (us u : List ℕ) → Goes (c .job) (t .shape) (call-board c .slow) r ts us v1 u
-        → Through (size (call-board c)) (counted (call-board c) (c .job) ts) (entered (call-board c) (c .job) ts) r us v u
-    through z r us u go =
-        let b = call-board c in
-        let i = in-shape b (c .job) (t .shape) (op .shape-is z) in
-        let is : whole (t .shape) (b .slow) (b .starts) ≡ b = rw (i .wide, i .high, i .storeys) refl in
-        rw (is, i .cells) at (through-from (stands z) (go (b .starts) (fitting z) (stands z .stands)))
+    module _ (x : Reply) (us qs u : List ℕ) (en : Ended t (c .job) (call-board c .slow) x (sheet ts ss) (sheet us qs) v1 u) where
+      -- once it is
+      through : (z : t .refusal .number ≡ 0) → Through (call-board c) (c .job) ts (size (call-board c)) (x .count) (sheet us qs) v u
+      through z =
+          let b = call-board c in
+          let i = in-shape b (c .job) (t .shape) (op .shape-is z) in
+          let is : whole (t .shape) (b .slow) (b .starts) ≡ b = rw (i .wide, i .high, i .storeys) refl in
+          rw (is, i .cells) at (through-from (stands z) (en .gone-through z .1 (b .starts) (fitting z) (stands z .stands)))
 
-    pub says : (x : Reply) (us u : List ℕ) → Ended t (c .job) (call-board c .slow) x ts us v1 u → Says c x (lent ts v) (lent us u)
-    unfolding ledger-answer ledger-after work-after
-    says x us u en = elim (ℕ-discrete (t .refusal .number) 0) [
-      | yes z ↦
-          let k = not-refused z in
-          let g = en .gone-through z in
-          let th = through z (x .count) us u (g .1) in
-          record {
-            answers = g .0 ∙ ap (answer none) (th .counts) ∙ sym (answered-zero (refusal c (length ts)) _ k);
-            leaves = th .enters ∙ rw (eq-eqb (refusal c (length ts) .number) 0 k);
-            works = th .wipes ∙ rw (eq-eqb (refusal c (length ts) .number) 0 k);
-          }
-      | no d ↦
-          let k : refusal c (length ts) .number ≢ 0 = λ e. d (ap (λ (q : Refusal). q .number) (op .judged) ∙ e) in
-          let r = en .turned-down d in
-          record {
-            answers = r .0 ∙ ap (λ (q : Refusal). answer q 0) (op .judged) ∙ sym (answered-refused (refusal c (length ts)) _ k);
-            leaves = r .1 ∙ rw (ne-eqb (refusal c (length ts) .number) 0 k);
-            works = r .2 ∙ so .kept d ∙ op .kept d ∙ rw (ne-eqb (refusal c (length ts) .number) 0 k);
-          }
-    ]
+      -- the starts' sides can be cleared
+      pub clearable : Clearable t (call-board c .starts) us qs
+      clearable z =
+          let th = through z in
+          let g = fit z .given in
+          (th .sided ∙ sym (th .timed), rw (th .timed) (size-most (g .good)), rw (th .timed) (g .starts .rise))
+
+      -- and when they are, the call has kept its contract
+      pub says : (ps : List ℕ) → Clear t (call-board c .starts) us qs ps → Says c x (lent ts ss v) (lent us ps u)
+      unfolding ledger-answer ledger-after work-after
+      says ps cl = elim (ℕ-discrete (t .refusal .number) 0) [
+        | yes z ↦
+            let k = not-refused z in
+            let th = through z in
+            record {
+              answers = en .gone-through z .0 ∙ ap (answer none) (th .counts) ∙ sym (answered-zero refused _ k);
+              leaves = entered-now z ps (cl .cleared z) ∙ rw (eq-eqb (refused .number) 0 k);
+              works = th .wipes ∙ rw (eq-eqb (refused .number) 0 k);
+            }
+        | no d ↦
+            let k : refused .number ≢ 0 = λ e. d (ap (λ (q : Refusal). q .number) (op .judged) ∙ e) in
+            let r = en .turned-down d in
+            record {
+              answers = r .0 ∙ ap (λ (q : Refusal). answer q 0) (op .judged) ∙ sym (answered-refused refused _ k);
+              leaves = ap (sheet us) (cl .kept d) ∙ r .1 ∙ rw (ne-eqb (refused .number) 0 k);
+              works = r .2 ∙ so .kept d ∙ op .kept d ∙ rw (ne-eqb (refused .number) 0 k);
+            }
+      ]
+        where
+          entered-now : t .refusal .number ≡ 0 → (ps : List ℕ) → Cleared (call-board c .starts) us qs ps → sheet us ps ≡ entered (call-board c) (c .job) ts
+          entered-now z ps cl =
+              let th = through z in
+              let g = fit z .given in
+              let low = bound-low (call-board c) (c .order) (g .good .wide-high) (g .good .high-high) (c .job) (fit z .can) in
+              let now = cleared-sides (g .good) ts (c .job) low (g .starts .rise) (th .enters) (th .timed) (th .sided) (th .sides) cl in
+              λ i. sheet (th .enters i) (now i)

@@ -207,7 +207,7 @@ module _ {b : Board} {tw th : ℕ} {x : Cut} (st : Straight b tw th x) (c : ℕ)
     unfolding across
     across-edge s e p = rw p
 
-    sees-back : across (seam-back x c) (f (c - x .axis .unit)) (g c (c - x .axis .unit))
+    pub sees-back : across (seam-back x c) (f (c - x .axis .unit)) (g c (c - x .axis .unit))
         ≡ cond (eqb (place (x .axis) c) 0) never (ghosted b tw th g f c (c - x .axis .unit))
     sees-back = elim (ℕ-discrete (place (x .axis) c) 0) [
       | yes q ↦ rw (eq-eqb (place (x .axis) c) 0 q)
@@ -216,7 +216,7 @@ module _ {b : Board} {tw th : ℕ} {x : Cut} (st : Straight b tw th x) (c : ℕ)
       | no q ↦ rw (ne-eqb (place (x .axis) c) 0 q) (across-kind _ (c - x .axis .unit) (back-kind q))
     ]
 
-    sees-on : across (seam-on x c) (f (c + x .axis .unit)) (g c (c + x .axis .unit))
+    pub sees-on : across (seam-on x c) (f (c + x .axis .unit)) (g c (c + x .axis .unit))
         ≡ cond (eqb (suc (place (x .axis) c)) (x .axis .count)) never (ghosted b tw th g f c (c + x .axis .unit))
     sees-on = elim (ℕ-discrete (suc (place (x .axis) c)) (x .axis .count)) [
       | yes q ↦ rw (eq-eqb (suc (place (x .axis) c)) (x .axis .count) q)

@@ -3,7 +3,7 @@ use denote.Struct.Laws as structs
 use denote.Enum.Laws as enums
 use Rattle.records.proofs.Walk.{refl, [], _∷_, List, ℕ, _<_, _^_, length, URA, PosShare·left, PosShare·right, w32, vint, SProp, id⊢, via, fst∗, emp, Lft, Share}
 use Rattle.records.proofs.Walk.{Memory, Routine, Heap, WpFn, Tables, Atoms, Fun, givenOf, tables, tablesOf, Given, _$_, !, by, move, keep, toss, look, no-more}
-use Rattle.records.proofs.Walk.{returns, params1, pass0, free0, u32, RefT, now, slice-vals, Room, nothing, heard, Meets, tripleOf, Triple, entered, cited}
+use Rattle.records.proofs.Walk.{returns, params1, pass0, free0, u8, u32, RefT, now, slice-vals, Room, nothing, heard, Meets, tripleOf, Triple, entered, cited}
 use Rattle.records.proofs.Walk.{walkOf}
 use Rattle.records.proofs.Parameters.{Param, number as number-param, shared, given-up, stays, go, spells, tell}
 use Rattle.records.proofs.Calling.{_&_, contract-of, number, asked, shares, calls, halves, rejoins, no-last, last-of, named-so, entered-at, Walk, begins, ends}
@@ -29,17 +29,18 @@ use Rattle.murgolab.proofs.murgolab_march.Key as key
 use Rattle.murgolab.proofs.murgolab_march.Statement as stated
 use Rattle.murgolab.proofs.murgolab_march.Code as code
 
-abbrev params : List (Param 4)
+abbrev params : List (Param 5)
 params = number-param w32 ∷ number-param w32 ∷ number-param w32 ∷ shared u32 0 tt ∷ shared Start-type.the-row 1 tt ∷ number-param w32 ∷ given-up u32 2 tt ∷
-    given-up u32 3 tt ∷ []
+    given-up u8 3 tt ∷ given-up u32 4 tt ∷ []
 
 module _ {M : Type 1} (𝓤 : URA M) (H : Heap 𝓤) (A : Atoms 𝓤) (W : Given 𝓤 H A) (mem : Memory → SProp 𝓤) (run : Routine → Fun 𝓤) (𝓣 : Tables 𝓤 H)
     (known-mj : Triple 𝓤 (𝓣 .C mj-def.name) (contract-of 𝓤 H A mj.ended (mj.clauses 𝓤 H A mem run)))
     (known-pr : Triple 𝓤 (𝓣 .C pr-def.name) (contract-of 𝓤 H A pr.ended (pr.clauses 𝓤 H A mem run))) where
-  module _ (κ0 κ1 κ2 κ3 : Lft) (q0 q1 q2 q3 : Share) (width : ℕ) (height : ℕ) (storeys : ℕ) (r-slow : RefT (List ℕ)) (r-starts : RefT (List Start))
-      (horizon : ℕ) (r-times : RefT (List ℕ)) (r-work : RefT (List ℕ)) (g-width : width < 2 ^ 32) (g-height : height < 2 ^ 32) (g-storeys : storeys < 2 ^ 32)
-      (g-slow : Room u32 (length (r-slow .now))) (g-starts : Room Start-type.the-row (length (r-starts .now))) (g-horizon : horizon < 2 ^ 32)
-      (g-times : Room u32 (length (r-times .now))) (g-work : Room u32 (length (r-work .now))) where
+  module _ (κ0 κ1 κ2 κ3 κ4 : Lft) (q0 q1 q2 q3 q4 : Share) (width : ℕ) (height : ℕ) (storeys : ℕ) (r-slow : RefT (List ℕ)) (r-starts : RefT (List Start))
+      (horizon : ℕ) (r-times : RefT (List ℕ)) (r-sides : RefT (List ℕ)) (r-work : RefT (List ℕ)) (g-width : width < 2 ^ 32) (g-height : height < 2 ^ 32)
+      (g-storeys : storeys < 2 ^ 32) (g-slow : Room u32 (length (r-slow .now))) (g-starts : Room Start-type.the-row (length (r-starts .now)))
+      (g-horizon : horizon < 2 ^ 32) (g-times : Room u32 (length (r-times .now))) (g-sides : Room u8 (length (r-sides .now)))
+      (g-work : Room u32 (length (r-work .now))) where
     abbrev slow : List ℕ
     slow = r-slow .now
 
@@ -49,61 +50,69 @@ module _ {M : Type 1} (𝓤 : URA M) (H : Heap 𝓤) (A : Atoms 𝓤) (W : Given
     abbrev times : List ℕ
     times = r-times .now
 
+    abbrev sides : List ℕ
+    sides = r-sides .now
+
     abbrev work : List ℕ
     work = r-work .now
 
     abbrev point : walkOf 𝓤 H A f.ended (stays params) (f.clauses 𝓤 H A mem run) .Ghost
-    point = entered-at 𝓤 H A W f.ended (stays params) (f.clauses 𝓤 H A mem run) (κ0 & κ1 & κ2 & κ3 & tt) (q0 & q1 & q2 & q3 & tt) tt (width & height & storeys &
-        r-slow & r-starts & horizon & r-times & r-work & tt) ((vint w32 width) ∷ [] & (vint w32 height) ∷ [] & (vint w32 storeys) ∷ [] & slice-vals r-slow &
-        slice-vals r-starts & (vint w32 horizon) ∷ [] & slice-vals r-times & slice-vals r-work & tt) tt
+    point = entered-at 𝓤 H A W f.ended (stays params) (f.clauses 𝓤 H A mem run) (κ0 & κ1 & κ2 & κ3 & κ4 & tt) (q0 & q1 & q2 & q3 & q4 & tt) tt (width & height &
+        storeys & r-slow & r-starts & horizon & r-times & r-sides & r-work & tt) ((vint w32 width) ∷ [] & (vint w32 height) ∷ [] & (vint w32 storeys) ∷ [] &
+        slice-vals r-slow & slice-vals r-starts & (vint w32 horizon) ∷ [] & slice-vals r-times & slice-vals r-sides & slice-vals r-work & tt) tt
 
     walk : Walk 𝓤 H A W f.ended (stays params) (f.clauses 𝓤 H A mem run) 𝓣 code.function point
     walk =
         begins 𝓤 H A W f.ended (stays params) (f.clauses 𝓤 H A mem run) 𝓣 code.function point
-        (λ l0 l1 l2 l3 l4 l5 l6 l7 l8 l9 l10 l11 l12 l13. params1 ! $ takes ! 24 refl (tt, record { fits = g-width }) $
-        takes ! 22 refl (tt, record { fits = g-height }) $ takes ! 20 refl (tt, record { fits = g-storeys }) $
-        takes ! 18 refl (tt, (tt, (record { fits = g-slow .0 }, tt))) $ takes ! 16 refl (tt, (tt, (record { fits = g-starts .0 }, tt))) $
-        takes ! 14 refl (tt, record { fits = g-horizon }) $ takes ! 12 refl (tt, (tt, (record { fits = g-times .0 }, tt))) $
-        takes ! 10 refl (tt, (tt, (record { fits = g-work .0 }, tt))) $ pass0 ! $
+        (λ l0 l1 l2 l3 l4 l5 l6 l7 l8 l9 l10 l11 l12 l13 l14 l15 l16. params1 ! $ takes ! 30 refl (tt, record { fits = g-width }) $
+        takes ! 28 refl (tt, record { fits = g-height }) $ takes ! 26 refl (tt, record { fits = g-storeys }) $
+        takes ! 24 refl (tt, (tt, (record { fits = g-slow .0 }, tt))) $ takes ! 22 refl (tt, (tt, (record { fits = g-starts .0 }, tt))) $
+        takes ! 20 refl (tt, record { fits = g-horizon }) $ takes ! 18 refl (tt, (tt, (record { fits = g-times .0 }, tt))) $
+        takes ! 16 refl (tt, (tt, (record { fits = g-sides .0 }, tt))) $ takes ! 14 refl (tt, (tt, (record { fits = g-work .0 }, tt))) $ pass0 ! $
         number W w32 horizon (vint w32 horizon) (refl, g-horizon) $
         calls W 𝓣 mj.ended (mj.clauses 𝓤 H A mem run) tt tt tt (horizon & tt) ((vint w32 horizon) ∷ [] & tt) tt ! known-mj (id⊢ 𝓤 (emp 𝓤))
-        (and-reads ! 15 refl (no-more !)) (λ u-job job _.
-        heard ! _ (λ e-job. lands-value ! Job-type.the-row (enums.lawful Job-type.the-type Job-laws.the-laws 𝓤 H A W tt) job refl 9 refl (λ g-job.
+        (and-reads ! 21 refl (no-more !)) (λ u-job job _.
+        heard ! _ (λ e-job. lands-value ! Job-type.the-row (enums.lawful Job-type.the-type Job-laws.the-laws 𝓤 H A W tt) job refl 13 refl (λ g-job.
         move ! (1 ∷ []) $ toss ! $
-        sets ! (pointer-of ! 13 refl refl) 7 refl (tt, tt) $
-        sets ! (slice-of ! 7 refl 13 refl refl) 5 refl (tt, (tt, (record { fits = g-times .0 }, tt))) $
-        sets ! (pointer-of ! 11 refl refl) 3 refl (tt, tt) $
-        sets ! (slice-of ! 3 refl 11 refl refl) 1 refl (tt, (tt, (record { fits = g-work .0 }, tt))) $
-        move ! (29 ∷ []) $ halves ! $
+        sets ! (pointer-of ! 19 refl refl) 11 refl (tt, tt) $
+        sets ! (slice-of ! 11 refl 19 refl refl) 9 refl (tt, (tt, (record { fits = g-times .0 }, tt))) $
+        sets ! (pointer-of ! 17 refl refl) 7 refl (tt, tt) $
+        sets ! (slice-of ! 7 refl 17 refl refl) 5 refl (tt, (tt, (record { fits = g-sides .0 }, tt))) $
+        sets ! (pointer-of ! 15 refl refl) 3 refl (tt, tt) $
+        sets ! (slice-of ! 3 refl 15 refl refl) 1 refl (tt, (tt, (record { fits = g-work .0 }, tt))) $
+        move ! (35 ∷ []) $ halves ! $
         number W w32 width (vint w32 width) (refl, g-width) $ number W w32 height (vint w32 height) (refl, g-height) $
-        number W w32 storeys (vint w32 storeys) (refl, g-storeys) $ shares W u32 κ0 r-slow 40 refl $ shares W Start-type.the-row κ1 r-starts 42 refl $
-        shares W u32 κ0 r-slow 42 refl $
-        move ! (6 ∷ 37 ∷ 7 ∷ 38 ∷ 39 ∷ 5 ∷ 4 ∷ 3 ∷ 2 ∷ 1 ∷ 8 ∷ 0 ∷ 46 ∷ 47 ∷ []) $
-        calls W 𝓣 pr.ended (pr.clauses 𝓤 H A mem run) (κ0 & κ1 & κ0 & κ2 & κ3 & tt) ((PosShare·left q0) & q1 & (PosShare·right q0) & q2 & q3 & tt) tt (width &
-        height & storeys & r-slow & r-starts & job & r-slow & named-so r-times (r-times .name) times & named-so r-work (r-work .name) work & tt)
-        ((vint w32 width) ∷ [] & (vint w32 height) ∷ [] & (vint w32 storeys) ∷ [] & slice-vals r-slow & slice-vals r-starts & u-job ∷ [] & slice-vals r-slow &
-        slice-vals r-times & slice-vals r-work & tt) tt ! known-pr (id⊢ 𝓤 (emp 𝓤)) (and-reads ! 25 refl (and-reads ! 23 refl (and-reads ! 21 refl (and-reads !
-        19 refl (and-reads ! 17 refl (and-reads ! 9 refl (and-reads ! 19 refl (and-reads ! 5 refl (and-reads ! 1 refl (no-more !)))))))))) (λ u-r r z-pr.
-        heard ! _ (λ e-r. lands-value ! Reply-type.the-row (structs.lawful Reply-type.the-type Reply-laws.the-laws 𝓤 H A W) r refl 32 refl (λ g-r.
-        move ! (1 ∷ []) $ no-last ! $ no-last ! $ no-last ! $ no-last ! $ no-last ! $ no-last ! $ no-last ! $ last-of ! (λ l-times′. last-of ! (λ l-work′.
-        toss ! $
-        move ! (3 ∷ 5 ∷ []) $ rejoins ! κ0 q0 $
-        returns ! (look ! 33 refl) $ frees-at ! 33 refl refl $ frees-at ! 31 refl refl $ frees-at ! 29 refl refl $ frees-at ! 27 refl refl $
-        frees-at ! 25 refl refl $ frees-at ! 23 refl refl $ frees-at ! 21 refl refl $ frees-at ! 19 refl refl $ frees-at ! 17 refl refl $
-        frees-at ! 15 refl refl $ frees-at ! 13 refl refl $ frees-at ! 11 refl refl $ frees-at ! 9 refl refl $ frees-at ! 7 refl refl $ free0 ! $ nothing ! $
-        nothing ! $ nothing ! $ nothing ! $ nothing ! $ nothing ! $
-        keep ! (9 ∷ 6 ∷ 10 ∷ 11 ∷ 12 ∷ 5 ∷ 4 ∷ 3 ∷ 2 ∷ 1 ∷ 0 ∷ 8 ∷ 7 ∷ []) $
+        number W w32 storeys (vint w32 storeys) (refl, g-storeys) $ shares W u32 κ0 r-slow 47 refl $ shares W Start-type.the-row κ1 r-starts 49 refl $
+        shares W u32 κ0 r-slow 49 refl $
+        move ! (6 ∷ 43 ∷ 7 ∷ 44 ∷ 45 ∷ 46 ∷ 5 ∷ 4 ∷ 3 ∷ 2 ∷ 1 ∷ 8 ∷ 0 ∷ 53 ∷ 54 ∷ 55 ∷ []) $
+        calls W 𝓣 pr.ended (pr.clauses 𝓤 H A mem run) (κ0 & κ1 & κ0 & κ2 & κ3 & κ4 & tt) ((PosShare·left q0) & q1 & (PosShare·right q0) & q2 & q3 & q4 & tt) tt
+        (width & height & storeys & r-slow & r-starts & job & r-slow & named-so r-times (r-times .name) times & named-so r-sides (r-sides .name) sides &
+        named-so r-work (r-work .name) work & tt) ((vint w32 width) ∷ [] & (vint w32 height) ∷ [] & (vint w32 storeys) ∷ [] & slice-vals r-slow & slice-vals
+        r-starts & u-job ∷ [] & slice-vals r-slow & slice-vals r-times & slice-vals r-sides & slice-vals r-work & tt) tt ! known-pr (id⊢ 𝓤 (emp 𝓤)) (and-reads !
+        31 refl (and-reads ! 29 refl (and-reads ! 27 refl (and-reads ! 25 refl (and-reads ! 23 refl (and-reads ! 13 refl (and-reads ! 25 refl (and-reads ! 9
+        refl (and-reads ! 5 refl (and-reads ! 1 refl (no-more !))))))))))) (λ u-r r z-pr.
+        heard ! _ (λ e-r. lands-value ! Reply-type.the-row (structs.lawful Reply-type.the-type Reply-laws.the-laws 𝓤 H A W) r refl 39 refl (λ g-r.
+        move ! (1 ∷ []) $ no-last ! $ no-last ! $ no-last ! $ no-last ! $ no-last ! $ no-last ! $ no-last ! $ last-of ! (λ l-times′. last-of ! (λ l-sides′.
+        last-of ! (λ l-work′. toss ! $
+        move ! (4 ∷ 6 ∷ []) $ rejoins ! κ0 q0 $
+        returns ! (look ! 41 refl) $ frees-at ! 41 refl refl $ frees-at ! 39 refl refl $ frees-at ! 37 refl refl $ frees-at ! 35 refl refl $
+        frees-at ! 33 refl refl $ frees-at ! 31 refl refl $ frees-at ! 29 refl refl $ frees-at ! 27 refl refl $ frees-at ! 25 refl refl $
+        frees-at ! 23 refl refl $ frees-at ! 21 refl refl $ frees-at ! 19 refl refl $ frees-at ! 17 refl refl $ frees-at ! 15 refl refl $
+        frees-at ! 13 refl refl $ frees-at ! 11 refl refl $ frees-at ! 9 refl refl $ free0 ! $ nothing ! $ nothing ! $ nothing ! $ nothing ! $ nothing ! $
+        nothing ! $
+        keep ! (10 ∷ 6 ∷ 11 ∷ 12 ∷ 13 ∷ 14 ∷ 5 ∷ 4 ∷ 3 ∷ 2 ∷ 1 ∷ 0 ∷ 9 ∷ 8 ∷ 7 ∷ []) $
         by ! (ends 𝓤 H A W f.ended (stays params) (f.clauses 𝓤 H A mem run) point u-r r (tt & tt & tt & tt & tt & tt & (z-pr .1 .1 .1 .1 .1 .1 .1 .0) &
-        (z-pr .1 .1 .1 .1 .1 .1 .1 .1 .0) & tt) (tt & tt & tt & tt & tt & tt & l-times′ & l-work′ & tt) (asked 𝓤 (no-order
-        (by-records width height storeys slow starts) job horizon e-job slow (length work) r (lent times work) (lent (z-pr .1 .1 .1 .1 .1 .1 .1 .0)
-        (z-pr .1 .1 .1 .1 .1 .1 .1 .1 .0)) e-r))))))))))))
+        (z-pr .1 .1 .1 .1 .1 .1 .1 .1 .0) & (z-pr .1 .1 .1 .1 .1 .1 .1 .1 .1 .0) & tt) (tt & tt & tt & tt & tt & tt & l-times′ & l-sides′ & l-work′ & tt) (asked
+        𝓤 (no-order (by-records width height storeys slow starts) job horizon e-job slow (length work) r (lent times sides work) (lent
+        (z-pr .1 .1 .1 .1 .1 .1 .1 .0) (z-pr .1 .1 .1 .1 .1 .1 .1 .1 .0) (z-pr .1 .1 .1 .1 .1 .1 .1 .1 .1 .0)) e-r)))))))))))))
 
   holds : Meets 𝓤 H A f.signature (WpFn 𝓤 H (𝓣 .C) (𝓣 .Λ) code.function) (f.spec 𝓤 H A mem run)
   holds = meets 𝓤 H A W f.ended (stays params) (f.clauses 𝓤 H A mem run) 𝓣 code.function (go 𝓤 H A W params) (spells params) (tell params)
-      (λ κs qs bounds a g are. via 𝓤 _ (fst∗ 𝓤 _ (emp 𝓤)) (walk (κs .0) (κs .1 .0) (κs .1 .1 .0) (κs .1 .1 .1 .0) (qs .0) (qs .1 .0) (qs .1 .1 .0)
-      (qs .1 .1 .1 .0) (a .0) (a .1 .0) (a .1 .1 .0) (a .1 .1 .1 .0) (a .1 .1 .1 .1 .0) (a .1 .1 .1 .1 .1 .0) (a .1 .1 .1 .1 .1 .1 .0)
-      (a .1 .1 .1 .1 .1 .1 .1 .0) (are .0 .1) (are .1 .0 .1) (are .1 .1 .0 .1) (are .1 .1 .1 .0 .0 .1) (are .1 .1 .1 .1 .0 .0 .1) (are .1 .1 .1 .1 .1 .0 .1)
-      (are .1 .1 .1 .1 .1 .1 .0 .0 .1) (are .1 .1 .1 .1 .1 .1 .1 .0 .0 .1)))
+      (λ κs qs bounds a g are. via 𝓤 _ (fst∗ 𝓤 _ (emp 𝓤)) (walk (κs .0) (κs .1 .0) (κs .1 .1 .0) (κs .1 .1 .1 .0) (κs .1 .1 .1 .1 .0) (qs .0) (qs .1 .0)
+      (qs .1 .1 .0) (qs .1 .1 .1 .0) (qs .1 .1 .1 .1 .0) (a .0) (a .1 .0) (a .1 .1 .0) (a .1 .1 .1 .0) (a .1 .1 .1 .1 .0) (a .1 .1 .1 .1 .1 .0)
+      (a .1 .1 .1 .1 .1 .1 .0) (a .1 .1 .1 .1 .1 .1 .1 .0) (a .1 .1 .1 .1 .1 .1 .1 .1 .0) (are .0 .1) (are .1 .0 .1) (are .1 .1 .0 .1) (are .1 .1 .1 .0 .0 .1)
+      (are .1 .1 .1 .1 .0 .0 .1) (are .1 .1 .1 .1 .1 .0 .1) (are .1 .1 .1 .1 .1 .1 .0 .0 .1) (are .1 .1 .1 .1 .1 .1 .1 .0 .0 .1)
+      (are .1 .1 .1 .1 .1 .1 .1 .1 .0 .0 .1)))
 
 pub murgolab-march-spec : {M : Type 1} → stated.statement M
 unfolding code.routine tablesOf

@@ -3,7 +3,7 @@ use denote.Struct.Laws as structs
 use denote.Enum.Laws as enums
 use Rattle.records.proofs.Walk.{refl, [], _∷_, List, ℕ, _<_, _^_, length, URA, w32, vint, SProp, id⊢, via, fst∗, emp, Lft, Share, Memory, Routine, Heap, WpFn}
 use Rattle.records.proofs.Walk.{Tables, Atoms, Fun, givenOf, tables, tablesOf, Given, _$_, !, by, move, keep, toss, look, no-more, returns, params1, pass0}
-use Rattle.records.proofs.Walk.{free0, u32, RefT, now, slice-vals, Room, nothing, heard, Meets, tripleOf, Triple, entered, cited, walkOf}
+use Rattle.records.proofs.Walk.{free0, u8, u32, RefT, now, slice-vals, Room, nothing, heard, Meets, tripleOf, Triple, entered, cited, walkOf}
 use Rattle.records.proofs.Parameters.{Param, number as number-param, shared, given-up, stays, go, spells, tell}
 use Rattle.records.proofs.Calling.{_&_, contract-of, number, asked, shares, calls, no-last, last-of, named-so, entered-at, Walk, begins, ends, meets}
 use Rattle.records.proofs.Locals.{and-reads, pointer-of, slice-of, sets, lands-value, takes, frees-at}
@@ -28,18 +28,19 @@ use Rattle.murgolab.proofs.murgolab_one_round.Key as key
 use Rattle.murgolab.proofs.murgolab_one_round.Statement as stated
 use Rattle.murgolab.proofs.murgolab_one_round.Code as code
 
-abbrev params : List (Param 5)
+abbrev params : List (Param 6)
 params = number-param w32 ∷ number-param w32 ∷ number-param w32 ∷ shared u32 0 tt ∷ shared Start-type.the-row 1 tt ∷ number-param w32 ∷ number-param w32 ∷
-    number-param w32 ∷ shared u32 2 tt ∷ given-up u32 3 tt ∷ given-up u32 4 tt ∷ []
+    number-param w32 ∷ shared u32 2 tt ∷ given-up u32 3 tt ∷ given-up u8 4 tt ∷ given-up u32 5 tt ∷ []
 
 module _ {M : Type 1} (𝓤 : URA M) (H : Heap 𝓤) (A : Atoms 𝓤) (W : Given 𝓤 H A) (mem : Memory → SProp 𝓤) (run : Routine → Fun 𝓤) (𝓣 : Tables 𝓤 H)
     (known-rj : Triple 𝓤 (𝓣 .C rj-def.name) (contract-of 𝓤 H A rj.ended (rj.clauses 𝓤 H A mem run)))
     (known-pr : Triple 𝓤 (𝓣 .C pr-def.name) (contract-of 𝓤 H A pr.ended (pr.clauses 𝓤 H A mem run))) where
-  module _ (κ0 κ1 κ2 κ3 κ4 : Lft) (q0 q1 q2 q3 q4 : Share) (width : ℕ) (height : ℕ) (storeys : ℕ) (r-slow : RefT (List ℕ)) (r-starts : RefT (List Start))
-      (across : ℕ) (down : ℕ) (bound : ℕ) (r-order : RefT (List ℕ)) (r-times : RefT (List ℕ)) (r-work : RefT (List ℕ)) (g-width : width < 2 ^ 32)
-      (g-height : height < 2 ^ 32) (g-storeys : storeys < 2 ^ 32) (g-slow : Room u32 (length (r-slow .now))) (g-starts : Room Start-type.the-row
-      (length (r-starts .now))) (g-across : across < 2 ^ 32) (g-down : down < 2 ^ 32) (g-bound : bound < 2 ^ 32) (g-order : Room u32 (length (r-order .now)))
-      (g-times : Room u32 (length (r-times .now))) (g-work : Room u32 (length (r-work .now))) where
+  module _ (κ0 κ1 κ2 κ3 κ4 κ5 : Lft) (q0 q1 q2 q3 q4 q5 : Share) (width : ℕ) (height : ℕ) (storeys : ℕ) (r-slow : RefT (List ℕ)) (r-starts : RefT (List Start))
+      (across : ℕ) (down : ℕ) (bound : ℕ) (r-order : RefT (List ℕ)) (r-times : RefT (List ℕ)) (r-sides : RefT (List ℕ)) (r-work : RefT (List ℕ))
+      (g-width : width < 2 ^ 32) (g-height : height < 2 ^ 32) (g-storeys : storeys < 2 ^ 32) (g-slow : Room u32 (length (r-slow .now))) (g-starts : Room
+      Start-type.the-row (length (r-starts .now))) (g-across : across < 2 ^ 32) (g-down : down < 2 ^ 32) (g-bound : bound < 2 ^ 32)
+      (g-order : Room u32 (length (r-order .now))) (g-times : Room u32 (length (r-times .now))) (g-sides : Room u8 (length (r-sides .now)))
+      (g-work : Room u32 (length (r-work .now))) where
     abbrev slow : List ℕ
     slow = r-slow .now
 
@@ -52,66 +53,74 @@ module _ {M : Type 1} (𝓤 : URA M) (H : Heap 𝓤) (A : Atoms 𝓤) (W : Given
     abbrev times : List ℕ
     times = r-times .now
 
+    abbrev sides : List ℕ
+    sides = r-sides .now
+
     abbrev work : List ℕ
     work = r-work .now
 
     abbrev point : walkOf 𝓤 H A f.ended (stays params) (f.clauses 𝓤 H A mem run) .Ghost
-    point = entered-at 𝓤 H A W f.ended (stays params) (f.clauses 𝓤 H A mem run) (κ0 & κ1 & κ2 & κ3 & κ4 & tt) (q0 & q1 & q2 & q3 & q4 & tt) tt (width & height &
-        storeys & r-slow & r-starts & across & down & bound & r-order & r-times & r-work & tt) ((vint w32 width) ∷ [] & (vint w32 height) ∷ [] &
-        (vint w32 storeys) ∷ [] & slice-vals r-slow & slice-vals r-starts & (vint w32 across) ∷ [] & (vint w32 down) ∷ [] & (vint w32 bound) ∷ [] & slice-vals
-        r-order & slice-vals r-times & slice-vals r-work & tt) tt
+    point = entered-at 𝓤 H A W f.ended (stays params) (f.clauses 𝓤 H A mem run) (κ0 & κ1 & κ2 & κ3 & κ4 & κ5 & tt) (q0 & q1 & q2 & q3 & q4 & q5 & tt) tt (width
+        & height & storeys & r-slow & r-starts & across & down & bound & r-order & r-times & r-sides & r-work & tt) ((vint w32 width) ∷ [] & (vint w32 height) ∷
+        [] & (vint w32 storeys) ∷ [] & slice-vals r-slow & slice-vals r-starts & (vint w32 across) ∷ [] & (vint w32 down) ∷ [] & (vint w32 bound) ∷ [] &
+        slice-vals r-order & slice-vals r-times & slice-vals r-sides & slice-vals r-work & tt) tt
 
     walk : Walk 𝓤 H A W f.ended (stays params) (f.clauses 𝓤 H A mem run) 𝓣 code.function point
     walk =
         begins 𝓤 H A W f.ended (stays params) (f.clauses 𝓤 H A mem run) 𝓣 code.function point
-        (λ l0 l1 l2 l3 l4 l5 l6 l7 l8 l9 l10 l11 l12 l13 l14 l15 l16. params1 ! $ takes ! 30 refl (tt, record { fits = g-width }) $
-        takes ! 28 refl (tt, record { fits = g-height }) $ takes ! 26 refl (tt, record { fits = g-storeys }) $
-        takes ! 24 refl (tt, (tt, (record { fits = g-slow .0 }, tt))) $ takes ! 22 refl (tt, (tt, (record { fits = g-starts .0 }, tt))) $
-        takes ! 20 refl (tt, record { fits = g-across }) $ takes ! 18 refl (tt, record { fits = g-down }) $ takes ! 16 refl (tt, record { fits = g-bound }) $
-        takes ! 14 refl (tt, (tt, (record { fits = g-order .0 }, tt))) $ takes ! 12 refl (tt, (tt, (record { fits = g-times .0 }, tt))) $
-        takes ! 10 refl (tt, (tt, (record { fits = g-work .0 }, tt))) $ pass0 ! $
+        (λ l0 l1 l2 l3 l4 l5 l6 l7 l8 l9 l10 l11 l12 l13 l14 l15 l16 l17 l18 l19. params1 ! $ takes ! 36 refl (tt, record { fits = g-width }) $
+        takes ! 34 refl (tt, record { fits = g-height }) $ takes ! 32 refl (tt, record { fits = g-storeys }) $
+        takes ! 30 refl (tt, (tt, (record { fits = g-slow .0 }, tt))) $ takes ! 28 refl (tt, (tt, (record { fits = g-starts .0 }, tt))) $
+        takes ! 26 refl (tt, record { fits = g-across }) $ takes ! 24 refl (tt, record { fits = g-down }) $ takes ! 22 refl (tt, record { fits = g-bound }) $
+        takes ! 20 refl (tt, (tt, (record { fits = g-order .0 }, tt))) $ takes ! 18 refl (tt, (tt, (record { fits = g-times .0 }, tt))) $
+        takes ! 16 refl (tt, (tt, (record { fits = g-sides .0 }, tt))) $ takes ! 14 refl (tt, (tt, (record { fits = g-work .0 }, tt))) $ pass0 ! $
         number W w32 across (vint w32 across) (refl, g-across) $ number W w32 down (vint w32 down) (refl, g-down) $
         number W w32 bound (vint w32 bound) (refl, g-bound) $
         move ! (2 ∷ 1 ∷ 0 ∷ []) $
         calls W 𝓣 rj.ended (rj.clauses 𝓤 H A mem run) tt tt tt (across & down & bound & tt) ((vint w32 across) ∷ [] & (vint w32 down) ∷ [] & (vint w32 bound) ∷
-        [] & tt) tt ! known-rj (id⊢ 𝓤 (emp 𝓤)) (and-reads ! 21 refl (and-reads ! 19 refl (and-reads ! 17 refl (no-more !)))) (λ u-job job _.
-        heard ! _ (λ e-job. lands-value ! Job-type.the-row (enums.lawful Job-type.the-type Job-laws.the-laws 𝓤 H A W tt) job refl 9 refl (λ g-job.
+        [] & tt) tt ! known-rj (id⊢ 𝓤 (emp 𝓤)) (and-reads ! 27 refl (and-reads ! 25 refl (and-reads ! 23 refl (no-more !)))) (λ u-job job _.
+        heard ! _ (λ e-job. lands-value ! Job-type.the-row (enums.lawful Job-type.the-type Job-laws.the-laws 𝓤 H A W tt) job refl 13 refl (λ g-job.
         move ! (1 ∷ []) $ toss ! $
-        sets ! (pointer-of ! 13 refl refl) 7 refl (tt, tt) $
-        sets ! (slice-of ! 7 refl 13 refl refl) 5 refl (tt, (tt, (record { fits = g-times .0 }, tt))) $
-        sets ! (pointer-of ! 11 refl refl) 3 refl (tt, tt) $
-        sets ! (slice-of ! 3 refl 11 refl refl) 1 refl (tt, (tt, (record { fits = g-work .0 }, tt))) $
+        sets ! (pointer-of ! 19 refl refl) 11 refl (tt, tt) $
+        sets ! (slice-of ! 11 refl 19 refl refl) 9 refl (tt, (tt, (record { fits = g-times .0 }, tt))) $
+        sets ! (pointer-of ! 17 refl refl) 7 refl (tt, tt) $
+        sets ! (slice-of ! 7 refl 17 refl refl) 5 refl (tt, (tt, (record { fits = g-sides .0 }, tt))) $
+        sets ! (pointer-of ! 15 refl refl) 3 refl (tt, tt) $
+        sets ! (slice-of ! 3 refl 15 refl refl) 1 refl (tt, (tt, (record { fits = g-work .0 }, tt))) $
         number W w32 width (vint w32 width) (refl, g-width) $ number W w32 height (vint w32 height) (refl, g-height) $
-        number W w32 storeys (vint w32 storeys) (refl, g-storeys) $ shares W u32 κ0 r-slow 46 refl $ shares W Start-type.the-row κ1 r-starts 48 refl $
-        shares W u32 κ2 r-order 53 refl $
-        move ! (41 ∷ 42 ∷ 43 ∷ 44 ∷ 45 ∷ 5 ∷ 4 ∷ 3 ∷ 2 ∷ 1 ∷ 6 ∷ 0 ∷ 55 ∷ 56 ∷ []) $
-        calls W 𝓣 pr.ended (pr.clauses 𝓤 H A mem run) (κ0 & κ1 & κ2 & κ3 & κ4 & tt) (q0 & q1 & q2 & q3 & q4 & tt) tt (width & height & storeys & r-slow &
-        r-starts & job & r-order & named-so r-times (r-times .name) times & named-so r-work (r-work .name) work & tt) ((vint w32 width) ∷ [] & (vint w32 height)
-        ∷ [] & (vint w32 storeys) ∷ [] & slice-vals r-slow & slice-vals r-starts & u-job ∷ [] & slice-vals r-order & slice-vals r-times & slice-vals r-work &
-        tt) tt ! known-pr (id⊢ 𝓤 (emp 𝓤)) (and-reads ! 31 refl (and-reads ! 29 refl (and-reads ! 27 refl (and-reads ! 25 refl (and-reads ! 23 refl (and-reads !
-        9 refl (and-reads ! 15 refl (and-reads ! 5 refl (and-reads ! 1 refl (no-more !)))))))))) (λ u-r r z-pr.
-        heard ! _ (λ e-r. lands-value ! Reply-type.the-row (structs.lawful Reply-type.the-type Reply-laws.the-laws 𝓤 H A W) r refl 38 refl (λ g-r.
-        move ! (1 ∷ []) $ no-last ! $ no-last ! $ no-last ! $ no-last ! $ no-last ! $ no-last ! $ no-last ! $ last-of ! (λ l-times′. last-of ! (λ l-work′.
-        toss ! $
-        returns ! (look ! 40 refl) $ frees-at ! 40 refl refl $ frees-at ! 38 refl refl $ frees-at ! 36 refl refl $ frees-at ! 34 refl refl $
-        frees-at ! 32 refl refl $ frees-at ! 30 refl refl $ frees-at ! 28 refl refl $ frees-at ! 26 refl refl $ frees-at ! 24 refl refl $
-        frees-at ! 22 refl refl $ frees-at ! 20 refl refl $ frees-at ! 18 refl refl $ frees-at ! 16 refl refl $ frees-at ! 14 refl refl $
-        frees-at ! 12 refl refl $ frees-at ! 10 refl refl $ frees-at ! 8 refl refl $ free0 ! $ nothing ! $ nothing ! $ nothing ! $ nothing ! $ nothing ! $
-        nothing ! $ nothing ! $ nothing ! $ nothing ! $
-        keep ! (11 ∷ 12 ∷ 13 ∷ 14 ∷ 15 ∷ 16 ∷ 8 ∷ 7 ∷ 6 ∷ 5 ∷ 4 ∷ 3 ∷ 2 ∷ 1 ∷ 0 ∷ 10 ∷ 9 ∷ []) $
+        number W w32 storeys (vint w32 storeys) (refl, g-storeys) $ shares W u32 κ0 r-slow 53 refl $ shares W Start-type.the-row κ1 r-starts 55 refl $
+        shares W u32 κ2 r-order 60 refl $
+        move ! (47 ∷ 48 ∷ 49 ∷ 50 ∷ 51 ∷ 52 ∷ 5 ∷ 4 ∷ 3 ∷ 2 ∷ 1 ∷ 6 ∷ 0 ∷ 62 ∷ 63 ∷ 64 ∷ []) $
+        calls W 𝓣 pr.ended (pr.clauses 𝓤 H A mem run) (κ0 & κ1 & κ2 & κ3 & κ4 & κ5 & tt) (q0 & q1 & q2 & q3 & q4 & q5 & tt) tt (width & height & storeys &
+        r-slow & r-starts & job & r-order & named-so r-times (r-times .name) times & named-so r-sides (r-sides .name) sides & named-so r-work (r-work .name)
+        work & tt) ((vint w32 width) ∷ [] & (vint w32 height) ∷ [] & (vint w32 storeys) ∷ [] & slice-vals r-slow & slice-vals r-starts & u-job ∷ [] & slice-vals
+        r-order & slice-vals r-times & slice-vals r-sides & slice-vals r-work & tt) tt ! known-pr (id⊢ 𝓤 (emp 𝓤)) (and-reads ! 37 refl (and-reads ! 35 refl
+        (and-reads ! 33 refl (and-reads ! 31 refl (and-reads ! 29 refl (and-reads ! 13 refl (and-reads ! 21 refl (and-reads ! 9 refl
+        (and-reads ! 5 refl (and-reads ! 1 refl (no-more !))))))))))) (λ u-r r z-pr.
+        heard ! _ (λ e-r. lands-value ! Reply-type.the-row (structs.lawful Reply-type.the-type Reply-laws.the-laws 𝓤 H A W) r refl 45 refl (λ g-r.
+        move ! (1 ∷ []) $ no-last ! $ no-last ! $ no-last ! $ no-last ! $ no-last ! $ no-last ! $ no-last ! $ last-of ! (λ l-times′. last-of ! (λ l-sides′.
+        last-of ! (λ l-work′. toss ! $
+        returns ! (look ! 48 refl) $ frees-at ! 48 refl refl $ frees-at ! 46 refl refl $ frees-at ! 44 refl refl $ frees-at ! 42 refl refl $
+        frees-at ! 40 refl refl $ frees-at ! 38 refl refl $ frees-at ! 36 refl refl $ frees-at ! 34 refl refl $ frees-at ! 32 refl refl $
+        frees-at ! 30 refl refl $ frees-at ! 28 refl refl $ frees-at ! 26 refl refl $ frees-at ! 24 refl refl $ frees-at ! 22 refl refl $
+        frees-at ! 20 refl refl $ frees-at ! 18 refl refl $ frees-at ! 16 refl refl $ frees-at ! 14 refl refl $ frees-at ! 12 refl refl $
+        frees-at ! 10 refl refl $ free0 ! $ nothing ! $ nothing ! $ nothing ! $ nothing ! $ nothing ! $ nothing ! $ nothing ! $ nothing ! $ nothing ! $
+        keep ! (12 ∷ 13 ∷ 14 ∷ 15 ∷ 16 ∷ 17 ∷ 18 ∷ 8 ∷ 7 ∷ 6 ∷ 5 ∷ 4 ∷ 3 ∷ 2 ∷ 1 ∷ 0 ∷ 11 ∷ 10 ∷ 9 ∷ []) $
         by ! (ends 𝓤 H A W f.ended (stays params) (f.clauses 𝓤 H A mem run) point u-r r (tt & tt & tt & tt & tt & tt & tt & tt & tt &
-        (z-pr .1 .1 .1 .1 .1 .1 .1 .0) & (z-pr .1 .1 .1 .1 .1 .1 .1 .1 .0) & tt) (tt & tt & tt & tt & tt & tt & tt & tt & tt & l-times′ & l-work′ & tt) (asked 𝓤
-        (is-job (by-records width height storeys slow starts) job (Round across down bound) e-job order (length work) r (lent times work) (lent
-        (z-pr .1 .1 .1 .1 .1 .1 .1 .0) (z-pr .1 .1 .1 .1 .1 .1 .1 .1 .0)) e-r))))))))))))
+        (z-pr .1 .1 .1 .1 .1 .1 .1 .0) & (z-pr .1 .1 .1 .1 .1 .1 .1 .1 .0) & (z-pr .1 .1 .1 .1 .1 .1 .1 .1 .1 .0) & tt) (tt & tt & tt & tt & tt & tt & tt & tt &
+        tt & l-times′ & l-sides′ & l-work′ & tt) (asked 𝓤 (is-job (by-records width height storeys slow starts) job (Round across down bound) e-job order
+        (length work) r (lent times sides work) (lent (z-pr .1 .1 .1 .1 .1 .1 .1 .0) (z-pr .1 .1 .1 .1 .1 .1 .1 .1 .0) (z-pr .1 .1 .1 .1 .1 .1 .1 .1 .1 .0))
+        e-r)))))))))))))
 
   holds : Meets 𝓤 H A f.signature (WpFn 𝓤 H (𝓣 .C) (𝓣 .Λ) code.function) (f.spec 𝓤 H A mem run)
   holds = meets 𝓤 H A W f.ended (stays params) (f.clauses 𝓤 H A mem run) 𝓣 code.function (go 𝓤 H A W params) (spells params) (tell params)
-      (λ κs qs bounds a g are. via 𝓤 _ (fst∗ 𝓤 _ (emp 𝓤)) (walk (κs .0) (κs .1 .0) (κs .1 .1 .0) (κs .1 .1 .1 .0) (κs .1 .1 .1 .1 .0) (qs .0) (qs .1 .0)
-      (qs .1 .1 .0) (qs .1 .1 .1 .0) (qs .1 .1 .1 .1 .0) (a .0) (a .1 .0) (a .1 .1 .0) (a .1 .1 .1 .0) (a .1 .1 .1 .1 .0) (a .1 .1 .1 .1 .1 .0)
-      (a .1 .1 .1 .1 .1 .1 .0) (a .1 .1 .1 .1 .1 .1 .1 .0) (a .1 .1 .1 .1 .1 .1 .1 .1 .0) (a .1 .1 .1 .1 .1 .1 .1 .1 .1 .0) (a .1 .1 .1 .1 .1 .1 .1 .1 .1 .1 .0)
-      (are .0 .1) (are .1 .0 .1) (are .1 .1 .0 .1) (are .1 .1 .1 .0 .0 .1) (are .1 .1 .1 .1 .0 .0 .1) (are .1 .1 .1 .1 .1 .0 .1) (are .1 .1 .1 .1 .1 .1 .0 .1)
+      (λ κs qs bounds a g are. via 𝓤 _ (fst∗ 𝓤 _ (emp 𝓤)) (walk (κs .0) (κs .1 .0) (κs .1 .1 .0) (κs .1 .1 .1 .0) (κs .1 .1 .1 .1 .0) (κs .1 .1 .1 .1 .1 .0)
+      (qs .0) (qs .1 .0) (qs .1 .1 .0) (qs .1 .1 .1 .0) (qs .1 .1 .1 .1 .0) (qs .1 .1 .1 .1 .1 .0) (a .0) (a .1 .0) (a .1 .1 .0) (a .1 .1 .1 .0)
+      (a .1 .1 .1 .1 .0) (a .1 .1 .1 .1 .1 .0) (a .1 .1 .1 .1 .1 .1 .0) (a .1 .1 .1 .1 .1 .1 .1 .0) (a .1 .1 .1 .1 .1 .1 .1 .1 .0)
+      (a .1 .1 .1 .1 .1 .1 .1 .1 .1 .0) (a .1 .1 .1 .1 .1 .1 .1 .1 .1 .1 .0) (a .1 .1 .1 .1 .1 .1 .1 .1 .1 .1 .1 .0) (are .0 .1) (are .1 .0 .1)
+      (are .1 .1 .0 .1) (are .1 .1 .1 .0 .0 .1) (are .1 .1 .1 .1 .0 .0 .1) (are .1 .1 .1 .1 .1 .0 .1) (are .1 .1 .1 .1 .1 .1 .0 .1)
       (are .1 .1 .1 .1 .1 .1 .1 .0 .1) (are .1 .1 .1 .1 .1 .1 .1 .1 .0 .0 .1) (are .1 .1 .1 .1 .1 .1 .1 .1 .1 .0 .0 .1)
-      (are .1 .1 .1 .1 .1 .1 .1 .1 .1 .1 .0 .0 .1)))
+      (are .1 .1 .1 .1 .1 .1 .1 .1 .1 .1 .0 .0 .1) (are .1 .1 .1 .1 .1 .1 .1 .1 .1 .1 .1 .0 .0 .1)))
 
 pub murgolab-one-round-spec : {M : Type 1} → stated.statement M
 unfolding code.routine tablesOf

@@ -44,7 +44,7 @@ returns-3 c slow xs p e =
     let at = c .before .before in
     let a = at .before .before .before .before .before .before .args in
     let own = at .before .before .job-refusal .ensures ∙ same-sides (a .width) (a .height) (a .storeys) slow xs (a .job) (a .order .now) in
-    let lists = c .lists-refusal .ensures ∙ ap (λ n. lists-refusal n (a .times) (a .work)) (c .before .house-size .ensures) in
+    let lists = c .lists-refusal .ensures ∙ ap (λ n. lists-refusal n (a .times) (a .sides) (a .work)) (c .before .house-size .ensures) in
     next _ _ _ (sym (number-is e) ∙ at .before .before .before .if1 .left) (next _ _ _ (sym (number-is own) ∙ at .if2 .left) lists)
 
 pub call-refusal-spec : {M : Type 1} → statement M

@@ -7,16 +7,15 @@ use Prim.Native.Nat.{ℕ, zero, suc, _+_, _-_, _≤_, _<_}
 use native.Mathlib.Omega.{arith}
 use native.Mathlib.Decide.{ℕ-discrete}
 use lib.Dec.{eqb}
-use lib.ListN.{length, getD, set, take, length-set, List·getD-append}
-use lib.Seq.{getD-take, getD-drop, drop-at, length-take-le}
+use lib.ListN.{length, getD, set, take, length-set}
 use borrow.Author.Tests.{eq-eqb, ne-eqb}
-use borrow.Rule.Slice.PartMut.{midOf, postOf, putMid, mid-len, put-same, same-len-mid, take-put, drop-put}
+use borrow.Rule.Slice.PartMut.{midOf, postOf, putMid, mid-len, put-same, same-len-mid}
 use Rattle.eikonal.specs.Tiles.{altered}
 use Rattle.eikonal.proofs.Altered.{altered-none}
 use Rattle.eikonal.proofs.Levels.{order}
 use Rattle.rows.specs.Rows.{Entered, Everywhere}
 use Rattle.queue.proofs.Filling.{Stored, here, elsewhere, after-store}
-use Rattle.rows.proofs.Theory.Lists.{alike-from}
+use Rattle.queue.proofs.Parts.{put-before, put-within, put-after}
 
 -- ---- two entries, as bare numbers
 abbrev pub differ : (x y : ℕ) → ℕ
@@ -147,24 +146,6 @@ entered-most {D} {f} {xs} {ys} a = omega (arith, a .counted, altered-most xs ys)
 
 -- ---- A PART that was lent from a up to e, and comes back
 module _ (xs ys : List ℕ) (a e : ℕ) (h : a ≤ e) (k : e ≤ length xs) (long : length ys ≡ length (midOf a (e - a) xs)) where
-  part-long : length ys ≡ e - a
-  part-long = long ∙ mid-len a e xs k
-
-  put-before : (c : ℕ) → c < a → getD (putMid a (e - a) xs ys) c 0 ≡ getD xs c 0
-  put-before c l =
-      sym (getD-take a (putMid a (e - a) xs ys) c 0 l)
-      ∙ ap (λ (u : List ℕ). getD u c 0) (take-put a (e - a) xs ys (omega arith))
-      ∙ getD-take a xs c 0 l
-
-  put-within : (j : ℕ) → j < e - a → getD (putMid a (e - a) xs ys) (a + j) 0 ≡ getD ys j 0
-  put-within j l =
-      sym (getD-drop a (putMid a (e - a) xs ys) j 0)
-      ∙ ap (λ (u : List ℕ). getD u j 0) (drop-at (take a xs) (ys ++ postOf a (e - a) xs) a (length-take-le a xs (omega arith)))
-      ∙ List·getD-append ys (postOf a (e - a) xs) 0 j (omega (arith, part-long))
-
-  put-after : (c : ℕ) → e ≤ c → getD (putMid a (e - a) xs ys) c 0 ≡ getD xs c 0
-  put-after c l = alike-from (putMid a (e - a) xs ys) xs e c l (drop-put a e xs ys h k part-long)
-
   put-altered : altered xs (putMid a (e - a) xs ys) ≡ altered (midOf a (e - a) xs) ys
   put-altered =
       omega (

@@ -9,7 +9,7 @@ use native.Mathlib.Numerals.{add-one}
 use lib.Dec.{leb}
 use lib.ListN.{length, getD, set, take, drop, replicate, length-set, length-append, length-take, length-drop, length-replicate, getD-replicate}
 use lib.ListN.{List·getD-append}
-use lib.Seq.{getD-drop, drop-at, take-suc-set, take-length, ext-getD}
+use lib.Seq.{drop-at, take-suc-set, take-length, ext-getD}
 use borrow.Author.Tests.{le-leb, lt-leb}
 use Rattle.eikonal.specs.Board.{never, reached}
 use Rattle.eikonal.specs.Inner.Clip.{clip}
@@ -17,17 +17,9 @@ use Rattle.eikonal.proofs.Levels.{order}
 use Rattle.eikonal.proofs.Clip.{Clipped, kept, lost, clipped}
 use Rattle.queue.specs.Lists.{Filled}
 use Rattle.queue.proofs.Filling.{Stored, here, elsewhere, after-store}
+use Rattle.queue.proofs.Parts.{alike-from}
 use Rattle.rows.specs.Lists.{Finished, due}
 use Rattle.front.proofs.Theory.Reading.{time-at}
-
--- lists that are alike from an entry on
-pub alike-from : (u v : List ℕ) (e c : ℕ) → e ≤ c → drop e u ≡ drop e v → getD u c 0 ≡ getD v c 0
-alike-from u v e c h p = at u ∙ ap (λ (l : List ℕ). getD l (c - e) 0) p ∙ sym (at v)
-  where
-    at : (l : List ℕ) → getD l c 0 ≡ getD (drop e l) (c - e) 0
-    at l =
-        let q : e + (c - e) ≡ c = omega arith in
-        sym (getD-drop e l (c - e) 0 ∙ ap (λ (n : ℕ). getD l n 0) q)
 
 -- ---- filled from the front: as an equation
 pub filled-front : {end x : ℕ} {old new : List ℕ} → end ≤ length old → Filled 0 end x old new → new ≡ replicate end x ++ drop end old

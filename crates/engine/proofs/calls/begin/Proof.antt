@@ -30,7 +30,7 @@ shape-of-requires c κs =
     let a = p .args in
     let j = p .pre in
     let refused = at .call-refusal .ensures (a .slow .now) (j .starts) (eqb (a .cells) (a .begins)) (at .before .handed-refusal .ensures (j .starts) (j .is)) in
-    let sides = board-sides _ _ _ refused (c .if1 .left) in
+    let sides = board-sides _ _ _ _ refused (c .if1 .left) in
     (omega (arith, sides .0), omega (arith, sides .1), omega (arith, sides .2))
 
 empty-requires : tie.Need-empty-requires
@@ -40,7 +40,7 @@ empty-requires c κs =
     let a = p .args in
     let j = p .pre in
     let refused = at .call-refusal .ensures (a .slow .now) (j .starts) (eqb (a .cells) (a .begins)) (at .before .handed-refusal .ensures (j .starts) (j .is)) in
-    board-room _ _ _ refused (c .before .before .if1 .left) _ (c .before .shape-of .ensures)
+    board-room _ _ _ _ refused (c .before .before .if1 .left) _ (c .before .shape-of .ensures)
 
 returns-2 : tie.Need-returns-2
 returns-2 c xs is =

@@ -67,6 +67,7 @@ pub lay-spec : {M : Type 1} → statement M
 lay-spec =
     tie.close
     (tie.spec
-    Inv-loop μ-loop mul-last loop-holds (λ c κs. omega (arith, few (c .before .before))) (λ c. omega (arith, most c, c .before .before .loop .inv .1)) (λ c. omega (arith, most c))
+    Inv-loop μ-loop mul-last loop-holds (λ c κs. omega (arith, few (c .before .before))) (λ c. omega (arith, most c, c .before .before .loop .inv .1))
+    (λ c. omega (arith, most c))
     (λ c. omega (arith, c .before .loop-test .taken)) loop-again (λ c. omega (arith, c .before .before .pre .1)) (λ c. omega (arith, c .before .before .pre .2))
     (λ c. omega arith) (λ c. omega (arith, c .before .before .pre .3)) (λ c. omega arith) returns)

@@ -80,7 +80,8 @@ tell-along-requires-2 c κs =
     let d = c .before .before in
     let o = across (down d) in
     let p = start o in
-    (p .pre .0, p .pre .1, told-held (p .pre .2) (d .before .before .before .tell-along .ensures), rows-step (p .pre .0) (p .pre .1) (here o) border (λ z. omega arith))
+    let told = told-held (p .pre .2) (d .before .before .before .tell-along .ensures) in
+    (p .pre .0, p .pre .1, told, rows-step (p .pre .0) (p .pre .1) (here o) border (λ z. omega arith))
 
 returns-2 : tie.Need-returns-2
 returns-2 c =

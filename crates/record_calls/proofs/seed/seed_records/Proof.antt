@@ -14,7 +14,8 @@ use Rattle.records.proofs.Loops.{bare, full, frame, Come, come, around, tests, 
 use Rattle.eikonal.specs.declared.Start.{Start}
 use Rattle.engine.specs.declared.calls.Task.{Task}
 use Rattle.engine.specs.Calls.{Sowable, Sown}
-use Rattle.record_calls.proofs.Placing.{sown-none, among, sown-long, part-asks, sown-more, sown-all}
+use Rattle.record_calls.proofs.Parts.{among}
+use Rattle.record_calls.proofs.Placing.{sown-none, sown-long, part-asks, sown-more, sown-all}
 use Rattle.eikonal.proofs.Start as Start-type
 use Rattle.engine.proofs.calls.Task as Task-type
 use Rattle.engine.proofs.calls.Task.Laws as Task-laws
@@ -80,10 +81,10 @@ module _ {M : Type 1} (𝓤 : URA M) (H : Heap 𝓤) (A : Atoms 𝓤) (W : Given
           sets ! (bin ! (reads ! 17 refl) (reads ! 19 refl) tt) 13 refl (tt, tt) $
           tests ! (t .place) k (reads ! 13 refl) (λ l.
           shares W Start-type.the-row κ0 r-starts 3 refl $
-          number W w64 (t .place) (vint w64 (t .place)) (refl, lt-of-le-of-lt (omega (arith, among task starts work need k e-k (t .place) l)) (g-starts .0)) $
+          number W w64 (t .place) (vint w64 (t .place)) (refl, lt-of-le-of-lt (omega (arith, among task starts k e-k (t .place) l)) (g-starts .0)) $
           move ! (2 ∷ 1 ∷ 0 ∷ []) $
           calls W 𝓣 un.ended (un.clauses 𝓤 H A mem run) (κ0 & tt) (q0 & tt) tt (r-starts & (t .place) & tt)
-          (slice-vals r-starts & (vint w64 (t .place)) ∷ [] & tt) tt ! known-un (asked 𝓤 (omega (arith, among task starts work need k e-k (t .place) l)))
+          (slice-vals r-starts & (vint w64 (t .place)) ∷ [] & tt) tt ! known-un (asked 𝓤 (omega (arith, among task starts k e-k (t .place) l)))
           (and-reads ! 23 refl (and-reads ! 17 refl (no-more !))) (λ u-p p _.
           heard ! _ (λ e-p. lands-value ! Part-type.the-row (structs.lawful Part-type.the-type Part-laws.the-laws 𝓤 H A W) p refl 10 refl (λ g-p.
           move ! (1 ∷ []) $ toss ! $
@@ -101,8 +102,8 @@ module _ {M : Type 1} (𝓤 : URA M) (H : Heap 𝓤) (A : Atoms 𝓤) (W : Given
           takes-back ! tt u32 κ1 q1 r-work (length work) ν-sp-work ε-sp-work (t .has) (z-sp .1 .1 .0) g-work l-work′ (l-work′ ∙ (sown-long task starts work need
           k e-k (t .place) (t .has) (t .is))) $
           resets-last ! (bin ! (reads ! 17 refl) (lit ! tt) (record
-          { fits = next-part (t .place) (length starts) (among task starts work need k e-k (t .place) l) (g-starts .1) .fits })) 17 refl
-          (tt, record { fits = next-part (t .place) (length starts) (among task starts work need k e-k (t .place) l) (g-starts .1) .fits }) $ forget ! 13 refl $
+          { fits = next-part (t .place) (length starts) (among task starts k e-k (t .place) l) (g-starts .1) .fits })) 17 refl
+          (tt, record { fits = next-part (t .place) (length starts) (among task starts k e-k (t .place) l) (g-starts .1) .fits }) $ forget ! 13 refl $
           forget ! 11 refl $ forget ! 9 refl $ forget ! 7 refl $ forget ! 5 refl $
           move ! (2 ∷ 1 ∷ 3 ∷ 4 ∷ 0 ∷ []) $
           again (come ((t .place) + 256) (z-sp .1 .1 .0) (sown-more task starts work need k e-k (t .place) l p e-p (t .has) (t .is) (z-sp .1 .1 .0) e-sp))
