@@ -19,6 +19,23 @@ pub enum Kind {
     Run { across: u32, down: u32, stride: u32, horizon: u32, order: Vec<u32> },
 }
 
+impl Kind {
+    /// A round with its tiles in rising order.
+    pub fn round(board: &Board, [across, down]: [u32; 2], bound: u32) -> Kind {
+        Kind::Round { across, down, bound, order: rising(board, across, down) }
+    }
+
+    /// A run with its tiles in rising order.
+    pub fn run(board: &Board, [across, down]: [u32; 2], stride: u32, horizon: u32) -> Kind {
+        Kind::Run { across, down, stride, horizon, order: rising(board, across, down) }
+    }
+}
+
+/// Every tile number once, in rising order.
+pub fn rising(board: &Board, across: u32, down: u32) -> Vec<u32> {
+    (0..tile_count(board.width, board.height, across, down)).collect()
+}
+
 /// The lengths of the lists that a call is lent for writing.
 #[derive(Clone, Copy, Debug, PartialEq, Eq)]
 pub struct Lengths {

@@ -169,6 +169,54 @@ pub fn horizon(r: &mut Random, board: &Board) -> u32 {
     }
 }
 
+/// T of card 14 for a board with these times: mostly at one of them or one behind it, so that some cell is earlier; 0,
+/// between times, above all of them, above the horizon, and above 32 bits.
+pub fn late_from(r: &mut Random, times: &[u32], horizon: u32) -> u64 {
+    let reached: Vec<u32> = times.iter().copied().filter(|&t| t != NEVER).collect();
+    let earliest = reached.iter().copied().min().unwrap_or(0);
+    let latest = reached.iter().copied().max().unwrap_or(0);
+    let later: Vec<u32> = reached.into_iter().filter(|&t| t > earliest).collect();
+    match r.below(16) {
+        0 => 0,
+        1 => u64::from(latest) + 1,
+        2 => u64::from(horizon) + 1 + u64::from(r.spread(LARGEST)),
+        3 => u64::from(NEVER) - 1 + u64::from(r.spread(NEVER)),
+        4..=14 if !later.is_empty() => u64::from(r.pick(&later)) + u64::from(r.once_in(4)),
+        _ => r.spread(latest.max(1_000)).into(),
+    }
+}
+
+/// The board with some of the open cells that may be retouched made slower, or walls where no start stands: all of
+/// them, or a few. Pairs of a house stay equal.
+pub fn retouched(r: &mut Random, board: &Board, may_be: impl Fn(usize) -> bool) -> Board {
+    let (rare, walls) = (r.pick(&[1, 1, 2, 4, 12]), r.pick(&[0, 20, 20, 100]));
+    let mut slow = board.slow.clone();
+    for c in (0..board.size()).filter(|&c| board.slow[c] != 0 && may_be(c)) {
+        if r.once_in(rare) {
+            let is_wall = r.below(100) < walls && !board.cells.contains(&(c as u32));
+            slow[c] = if is_wall { 0 } else { slower(r, slow[c], board.storeys == 1) };
+        }
+    }
+    Board { slow, ..board.clone() }
+}
+
+/// A slowness with one number of the pair raised, both apart, or both by as much; the last alone if they are not to
+/// part. One at its highest stays.
+fn slower(r: &mut Random, slowness: u32, may_part: bool) -> u32 {
+    let [g, h] = parts(slowness);
+    let more = |r: &mut Random, number: u32| match r.below(4) {
+        0 => SLOWEST - number,
+        1 => r.within(0, SLOWEST - number),
+        _ => r.within(1, 20).min(SLOWEST - number),
+    };
+    match r.below(if may_part { 4 } else { 1 }) {
+        0 => slowness + equal(more(r, g.max(h))),
+        1 => pair(g + more(r, g), h),
+        2 => pair(g, h + more(r, h)),
+        _ => pair(g + more(r, g), h + more(r, h)),
+    }
+}
+
 /// Runs of more cells × rounds than this are seldom, since the second solver works each of them out.
 const USUAL_WORK: u64 = 60_000;
 
@@ -202,6 +250,11 @@ pub fn tile_side(r: &mut Random, side: u32) -> u32 {
         3 => side / 2 + 1,
         _ => r.within(1, side),
     }
+}
+
+/// The sides of tiles for a board.
+pub fn tile(r: &mut Random, board: &Board) -> [u32; 2] {
+    [tile_side(r, board.width), tile_side(r, board.height)]
 }
 
 /// Every tile number once: rising, falling or mixed.

@@ -14,10 +14,11 @@
 //! | `tiles` | one round over tiles, a tile run with every round worked out, how many rounds a single tile takes |
 //! | `leap` | a tile run that skips idle rounds, written apart from `tiles` |
 //! | `calls` | march, round and run as calls: refusals, answers, what lent lists hold afterwards |
+//! | `late_ground` | the premises and the conclusion of card 14, of two calls that were played |
 //! | `scenario` | the scenario file's reader and writer |
 //! | `shown` | what the tablet's call answers and what `rings` prints |
 //! | `random`, `generate` | seeded boards, calls and scenarios |
-//! | `typed` | scenario files typed by hand, one of them a house |
+//! | `typed` | scenario files typed by hand, one of them a house; boards of equal pairs |
 //! | `damage`, `drafts` | calls and files that are damaged in every way that the table names |
 //! | `lent`, `compare` | lists lent with marked entries on both sides; calls and lists of calls played on both |
 //! | `ffi` | the engine's C names, one module to a family, so that a test links what it calls |
@@ -34,6 +35,7 @@ pub mod declared;
 pub mod drafts;
 pub mod ffi;
 pub mod generate;
+pub mod late_ground;
 pub mod leap;
 pub mod lent;
 pub mod march;

@@ -1,10 +1,22 @@
 //! Scenario files typed by hand from document 01 and cards 10 and 12, and what they hold; slownesses, and what refuses
-//! them. Nothing here is made by a program.
+//! them. Nothing here is made by a program. `board` and `row` are for tests that type boards of equal pairs.
 
 use crate::board::Board;
 use crate::rule::{equal, pair};
 use crate::scenario::Held;
 use crate::NEVER;
+
+/// A board of equal pairs with these starts.
+pub fn board([width, height, storeys]: [u32; 3], slow: &[u32], starts: &[(u32, u32)]) -> Board {
+    let slow = slow.iter().map(|&s| equal(s)).collect();
+    let (cells, begins) = starts.iter().copied().unzip();
+    Board { width, height, storeys, slow, cells, begins }
+}
+
+/// A row of cells with these starts.
+pub fn row(slow: &[u32], starts: &[(u32, u32)]) -> Board {
+    board([slow.len() as u32, 1, 1], slow, starts)
+}
 
 /// Slownesses at the ends of their range and beyond, each with the number that refuses it, 0 for none.
 pub const SLOWNESSES: [(u32, u32); 15] = [

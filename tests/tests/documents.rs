@@ -119,7 +119,14 @@ fn the_scenario_page_has_the_lines_of_its_file() {
 
 #[test]
 fn no_line_of_a_page_is_longer_than_120_characters() {
-    let pages = ["README.md", "CONTRIBUTING.md", "docs/SCENARIO.md", "examples/README.md", "include/murgolab.h"];
+    let pages = [
+        "README.md",
+        "CONTRIBUTING.md",
+        "docs/SCENARIO.md",
+        "examples/README.md",
+        "examples/late-ground.md",
+        "include/murgolab.h",
+    ];
     let notes = fs::read_dir(repository().join("docs/landings")).expect("the notes of landings");
     let notes: Vec<PathBuf> = notes.map(|note| note.expect("a note").path()).collect();
     assert!(!notes.is_empty());

@@ -1,23 +1,18 @@
 //! Boards chosen by hand, and the largest ones: marches, single rounds and tile runs of the engine.
 
 use second_solver::board::{Board, Grid};
-use second_solver::calls::{Call, Kind, Lengths};
+use second_solver::calls::{rising, Call, Kind, Lengths};
 use second_solver::compare::{engine_alone, play_both};
 use second_solver::ffi::engine::play;
 use second_solver::generate::{self, snake, stairs};
 use second_solver::march::{solved_by_passes, Front};
 use second_solver::random::Random;
 use second_solver::rule::{equal, pair, parts};
-use second_solver::tiles::tile_count;
 use second_solver::typed::{house, open_house, HOUSE_TIMES, OPEN_HOUSE_TIMES};
 use second_solver::{Reply, LARGEST, NEVER};
 
 fn three_by_three() -> Board {
     Board { width: 3, height: 3, storeys: 1, slow: vec![equal(10); 9], cells: vec![0], begins: vec![0] }
-}
-
-fn rising(board: &Board, across: u32, down: u32) -> Vec<u32> {
-    (0..tile_count(board.width, board.height, across, down)).collect()
 }
 
 /// Answer and times of a call on a board whose times, sides and work hold garbage.

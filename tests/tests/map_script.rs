@@ -42,7 +42,7 @@ fn made(way: &str, input: &[u8]) -> Vec<u8> {
 
 fn examples(ending: &str) -> Vec<PathBuf> {
     let found = files(&repository().join("examples"), ending);
-    assert!(found.len() >= 7, "{} examples end with {}", found.len(), ending);
+    assert!(found.len() >= 10, "{} examples end with {}", found.len(), ending);
     found
 }
 

@@ -35,7 +35,7 @@ fn shown(file: &[u8], seed: u64) -> String {
 #[test]
 fn the_examples_are_shown_as_they_stand() {
     let examples = files(&repository().join("examples"), ".scenario");
-    assert!(examples.len() >= 7);
+    assert!(examples.len() >= 10);
     for path in examples {
         let want = fs::read_to_string(path.with_extension("rings")).expect("what rings prints");
         assert_eq!(shown(&fs::read(&path).expect("a scenario"), 0), want, "{}", path.display());

@@ -219,7 +219,7 @@ fn leaps_count_the_rounds_that_are_worked_out() {
         let mut r = Random::new(seed);
         let board = generate::board(&mut r, 10);
         let grid = Grid::new(&board);
-        let (across, down) = (generate::tile_side(&mut r, board.width), generate::tile_side(&mut r, board.height));
+        let [across, down] = generate::tile(&mut r, &board);
         let tiling = Tiling::new(&grid, across, down);
         let horizon = generate::horizon(&mut r, &board);
         let stride = generate::stride(&mut r, board.size(), horizon);

@@ -82,7 +82,7 @@ fn the_shell_plays_the_examples_as_rings_does() {
             played += 1;
         }
     }
-    assert!(played >= 6, "{} examples", played);
+    assert!(played >= 9, "{} examples", played);
 }
 
 /// Typed: a row of letters to each row of turns. The last cell of the house is reached on three axes.
@@ -239,7 +239,7 @@ fn the_tablets_example_shows_its_progress_or_says_the_refusal() {
         assert_eq!((told(&output), output.status.code()), (lines, Some(status)), "{}", path.display());
         seen[status as usize] += 1;
     }
-    assert!(seen[0] >= 6 && seen[1] >= 4, "{:?}", seen);
+    assert!(seen[0] >= 9 && seen[1] >= 4, "{:?}", seen);
     for path in [example("nothing"), example("")] {
         let output = run(Command::new(&tablet).arg(&path), &[]);
         assert_eq!(output.status.code(), Some(2), "{}: {}", path.display(), told(&output));

@@ -9,37 +9,14 @@ use second_solver::ffi::{engine, engine_records};
 use second_solver::generate::{self, garbage_lists};
 use second_solver::march::Front;
 use second_solver::random::Random;
-use second_solver::rule::{equal, parts};
+use second_solver::rule::parts;
 use second_solver::tiles::tile_count;
+use second_solver::typed::{board, row};
 use second_solver::{LARGEST, NEVER};
 
 const ENGINES: [Engine; 2] = [engine::play, engine_records::play];
 
 const N: u32 = NEVER;
-
-/// A board of equal pairs with these starts.
-fn board([width, height, storeys]: [u32; 3], slow: &[u32], starts: &[(u32, u32)]) -> Board {
-    let slow = slow.iter().map(|&s| equal(s)).collect();
-    let (cells, begins) = starts.iter().copied().unzip();
-    Board { width, height, storeys, slow, cells, begins }
-}
-
-/// A row of cells with these starts.
-fn row(slow: &[u32], starts: &[(u32, u32)]) -> Board {
-    board([slow.len() as u32, 1, 1], slow, starts)
-}
-
-fn round(board: &Board, [across, down]: [u32; 2], bound: u32) -> Kind {
-    Kind::Round { across, down, bound, order: rising(board, [across, down]) }
-}
-
-fn run(board: &Board, [across, down]: [u32; 2], stride: u32, horizon: u32) -> Kind {
-    Kind::Run { across, down, stride, horizon, order: rising(board, [across, down]) }
-}
-
-fn rising(board: &Board, [across, down]: [u32; 2]) -> Vec<u32> {
-    (0..tile_count(board.width, board.height, across, down)).collect()
-}
 
 /// The count of a call, and what it leaves on lists that hold these: in both forms, each beside the second solver.
 fn played_on(held: &Front, board: &Board, kind: Kind) -> (u32, Front) {
@@ -65,10 +42,10 @@ fn assert_left(board: &Board, horizon: u32, times: &[u32], sides: &[u8]) {
     assert_eq!(played(&garbage, board, Kind::March { horizon }).1, want, "march of {:?}", board);
     for tile in [[1, 1], [1, 2], [2, 1], [2, 2], [256, 256]] {
         for stride in [1, 7, LARGEST] {
-            let left = played(&garbage, board, run(board, tile, stride, horizon)).1;
+            let left = played(&garbage, board, Kind::run(board, tile, stride, horizon)).1;
             assert_eq!(left, want, "run by {} with tiles of {:?}: {:?}", stride, tile, board);
         }
-        assert_eq!(played(times, board, round(board, tile, horizon)), (0, want.clone()), "round of {:?}", tile);
+        assert_eq!(played(times, board, Kind::round(board, tile, horizon)), (0, want.clone()), "round of {:?}", tile);
     }
 }
 
@@ -153,7 +130,7 @@ fn a_start_no_later_than_the_front_has_no_sides() {
 fn a_start_no_later_than_what_a_ghost_gives_has_no_sides() {
     for (begin, time, byte) in [(4, 4, 0), (14, 14, 0), (15, 15, 0), (16, 15, 1)] {
         let cells = row(&[10, 10], &[(1, begin)]);
-        let (_, left) = played(&[5, 0], &cells, round(&cells, [1, 1], 100));
+        let (_, left) = played(&[5, 0], &cells, Kind::round(&cells, [1, 1], 100));
         assert_eq!(left, front(&[10, time], &[2, byte]), "start at {}", begin);
     }
 }
@@ -182,7 +159,7 @@ fn cells_that_are_cut_off_have_no_sides() {
         ([N, 30, N], [N, N, N], [0, 0, 0]),
         ([40, N, 20], [N, 30, N], [0, 2, 0]),
     ] {
-        let (_, left) = played(&stored, &cells, round(&cells, [1, 1], 30));
+        let (_, left) = played(&stored, &cells, Kind::round(&cells, [1, 1], 30));
         assert_eq!(left, front(&times, &sides), "{:?}", stored);
     }
 }
@@ -197,7 +174,7 @@ fn answers_past_300000000_have_no_sides() {
         ([LARGEST - 10, N, LARGEST], LARGEST, 1),
         ([LARGEST, N, LARGEST - 10], LARGEST, 2),
     ] {
-        let (_, left) = played(&stored, &cells, round(&cells, [1, 1], LARGEST));
+        let (_, left) = played(&stored, &cells, Kind::round(&cells, [1, 1], LARGEST));
         assert_eq!((left.times[1], left.sides[1]), (middle, byte), "{:?}", stored);
     }
 }
@@ -226,7 +203,7 @@ fn any_bytes_may_stand_in_the_sides_at_first() {
     let (times, sides) = ([0, 10, N, N, N], [0, 1, 0, 0, 0]);
     for byte in 0..=255 {
         let held = Front { times: times.to_vec(), sides: vec![byte; 5] };
-        for kind in [Kind::March { horizon: 34 }, round(&cells, [1, 1], 34), run(&cells, [2, 1], 5, 34)] {
+        for kind in [Kind::March { horizon: 34 }, Kind::round(&cells, [1, 1], 34), Kind::run(&cells, [2, 1], 5, 34)] {
             assert_eq!(played_on(&held, &cells, kind).1, front(&times, &sides), "{}", byte);
         }
     }
@@ -245,7 +222,7 @@ fn a_round_takes_sides_from_the_ghosts_that_the_tile_saw() {
         ([7, 0, N], 17, 1, 10),
         ([N, 0, N], N, 0, 10),
     ] {
-        let (_, left) = played(&stored, &cells, round(&cells, [1, 1], 100));
+        let (_, left) = played(&stored, &cells, Kind::round(&cells, [1, 1], 100));
         let of_last = u8::from(last != N);
         assert_eq!(left, front(&[0, middle, last], &[0, byte, of_last]), "{:?}", stored);
     }
@@ -262,7 +239,7 @@ fn a_round_takes_sides_within_a_tile_from_the_times_that_it_solves() {
         ([0, 90, 0, 0], [1, 10, 100, 110], [0, 2, 1, 1]),
         ([0, 3, N, 0], [1, 11, 13, 23], [0, 1, 1, 1]),
     ] {
-        let (_, left) = played(&stored, &cells, round(&cells, [2, 1], 200));
+        let (_, left) = played(&stored, &cells, Kind::round(&cells, [2, 1], 200));
         assert_eq!(left, front(&times, &sides), "{:?}", stored);
     }
 }
@@ -271,11 +248,11 @@ fn a_round_takes_sides_within_a_tile_from_the_times_that_it_solves() {
 #[test]
 fn ghosts_that_count_as_never_are_no_sides() {
     let walled = row(&[0, 10, 10], &[]);
-    let (_, left) = played(&[0, N, 4], &walled, round(&walled, [1, 1], 100));
+    let (_, left) = played(&[0, N, 4], &walled, Kind::round(&walled, [1, 1], 100));
     assert_eq!(left, front(&[N, 14, N], &[0, 2, 0]));
     let cells = row(&[10; 3], &[]);
     for late in [LARGEST + 1, LARGEST + 5, NEVER - 1] {
-        let (_, left) = played(&[late, N, LARGEST - 10], &cells, round(&cells, [1, 1], LARGEST));
+        let (_, left) = played(&[late, N, LARGEST - 10], &cells, Kind::round(&cells, [1, 1], LARGEST));
         assert_eq!(left, front(&[N, LARGEST, N], &[0, 2, 0]), "{}", late);
     }
 }
@@ -285,7 +262,7 @@ fn ghosts_that_count_as_never_are_no_sides() {
 fn assert_rounds(board: &Board, bound: u32, want: &[(u32, &[u32], &[u8])]) {
     let mut held = Front::holding(vec![N; board.size()]);
     for (k, (count, times, sides)) in (1..).zip(want) {
-        let left = played_on(&held, board, round(board, [1, 1], bound));
+        let left = played_on(&held, board, Kind::round(board, [1, 1], bound));
         assert_eq!(left, (*count, front(times, sides)), "round {}", k);
         held = left.1;
     }
@@ -307,7 +284,7 @@ fn trap_of_four_cells_round_3_turns_a_side_and_alters_no_time() {
             (0, &[0, 1, 2, 1], &[0, 1, 1, 0]),
         ],
     );
-    assert_eq!(played(&[N; 4], &trap, run(&trap, [1, 1], 10, 10)).0, 3);
+    assert_eq!(played(&[N; 4], &trap, Kind::run(&trap, [1, 1], 10, 10)).0, 3);
     assert_left(&trap, 10, &[0, 1, 2, 1], &[0, 1, 1, 0]);
 }
 
@@ -330,7 +307,7 @@ fn trap_of_eight_cells_round_7_turns_a_side_and_alters_no_time() {
             (0, &[0, 1, 2, 3, 4, 5, 6, 5], &[0, 1, 1, 1, 1, 1, 1, 0]),
         ],
     );
-    assert_eq!(played(&[n; 8], &trap, run(&trap, [1, 1], 10, 10)).0, 7);
+    assert_eq!(played(&[n; 8], &trap, Kind::run(&trap, [1, 1], 10, 10)).0, 7);
     assert_left(&trap, 10, &[0, 1, 2, 3, 4, 5, 6, 5], &[0, 1, 1, 1, 1, 1, 1, 0]);
 }
 
@@ -386,10 +363,10 @@ fn the_sides_of_a_run_are_those_of_the_march() {
         let mut r = Random::new(seed);
         let board = generate::board(&mut r, 14);
         let horizon = generate::horizon(&mut r, &board);
-        let tile = [generate::tile_side(&mut r, board.width), generate::tile_side(&mut r, board.height)];
+        let tile = generate::tile(&mut r, &board);
         let stride = generate::stride(&mut r, board.size(), horizon);
         let (front, work) = garbage_lists(&mut r, Lengths::of(board.size()));
-        let [marched, ran] = [Kind::March { horizon }, run(&board, tile, stride, horizon)].map(|kind| {
+        let [marched, ran] = [Kind::March { horizon }, Kind::run(&board, tile, stride, horizon)].map(|kind| {
             let call = Call { board: board.clone(), kind };
             engine_alone(r.pick(&ENGINES), &call, &front, &work).1
         });

@@ -12,7 +12,7 @@ use Rattle.eikonal.specs.Axes.{never, least-from, square, earliest, pull
 use Rattle.eikonal.proofs.Levels.{order, Agree, Under}
 use Rattle.eikonal.proofs.Least.{Least, least, least-bound}
 
-square-mono : {a b : ℕ} → a ≤ b → square a ≤ square b
+pub square-mono : {a b : ℕ} → a ≤ b → square a ≤ square b
 unfolding square
 square-mono h = mul-le-mul h h
 

@@ -27,7 +27,7 @@ module _ (b : Board) (look : Look) (sound : Sound look) (g : Good b) (m : ℕ) (
       clip-agree m (suc t) (rule b look f c) (rule b look h c) k (rule-causal b look g sound t f h k a c)
 
   -- the cut solution meets the cut rule
-  cut-meets : (c : ℕ) → time (cut m (solved-by b look)) c ≡ clip m (rule b look (time (cut m (solved-by b look))) c)
+  pub cut-meets : (c : ℕ) → time (cut m (solved-by b look)) c ≡ clip m (rule b look (time (cut m (solved-by b look))) c)
   cut-meets c =
       cut-time m (solved-by b look) c low
       ∙ clip-same m (time (solved-by b look) c) (rule b look (time (cut m (solved-by b look))) c)

@@ -67,7 +67,7 @@ unfolding Sides-order-free Run-order-free
 sides-order-free p tw th s h w xs ys q a b j = ap (λ (x : Book). x .sheet .sides) (run-order-free p tw th s h w xs ys q a b j)
 
 -- ---- single rounds leave what a run holds
-accepted-after : (c : Call) (q : Sheet) → refusal-on c q .number ≡ 0 → ledger-after c q ≡ entered (c .handed .board) (c .job) (q .times)
+pub accepted-after : (c : Call) (q : Sheet) → refusal-on c q .number ≡ 0 → ledger-after c q ≡ entered (c .handed .board) (c .job) (q .times)
 unfolding ledger-after
 accepted-after c q e = rw (eq-eqb (refusal-on c q .number) 0 e)
 

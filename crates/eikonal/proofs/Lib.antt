@@ -13,6 +13,7 @@ pub mod Judging
 pub mod Pairs
 pub mod Grid
 pub mod Lattices
+pub mod Slower
 pub mod Rule
 pub mod Passes
 pub mod Clip

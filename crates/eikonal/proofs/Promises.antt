@@ -1,10 +1,11 @@
 -- THE PROMISES, gathered: each statement of specs/Promise.antt with its proof.
 use Rattle.eikonal.specs.Promise.{Place-is-first, Local-least, Old-rule, Diagonal-step, One-solution, Times-below, Never-past-horizon, Never-unjoined}
 use Rattle.eikonal.specs.Promise.{Round-is-solution, Run-is-march, Rounds-least, Few-rounds, Order-free, Run-order-free, Run-is-rounds, Every-list}
-use Rattle.eikonal.specs.Promise.{Sides-order-free, Every-place, Lists-keep, Earlier-no-later, One-set}
+use Rattle.eikonal.specs.Promise.{Sides-order-free, Every-place, Lists-keep, Earlier-no-later, Quicker-no-later, One-set}
 use Rattle.eikonal.specs.Promise.{Same-handed, Lists-are-records, Same-answers, Third-condition}
 use Rattle.eikonal.proofs.LocalRule as local-rule
 use Rattle.eikonal.proofs.Lattices as lattices
+use Rattle.eikonal.proofs.Slower as slower
 use Rattle.eikonal.proofs.Solution as solution
 use Rattle.eikonal.proofs.Never as never
 use Rattle.eikonal.proofs.Rounds as rounds
@@ -29,6 +30,9 @@ diagonal-step = local-rule.diagonal-step
 -- any number of axes
 pub earlier-no-later : Earlier-no-later
 earlier-no-later = lattices.earlier-no-later
+
+pub quicker-no-later : Quicker-no-later
+quicker-no-later = slower.quicker-no-later
 
 pub one-set : One-set
 one-set = lattices.one-set

@@ -120,7 +120,7 @@ module _ (b : Board) (g : Good b) (tw th : ℕ) where
       ∙ ap (min (suc t)) (march-again h l c)
 
   -- NO ROUND goes below the march
-  whole-tiles : (ts : List ℕ) → Under never whole (time ts) → Under never whole (tiles ts)
+  pub whole-tiles : (ts : List ℕ) → Under never whole (time ts) → Under never whole (tiles ts)
   unfolding worked
   whole-tiles ts a c = rw (solved-is b (tiled b tw th ts) c) (go (size b) c)
     where
@@ -143,7 +143,7 @@ module _ (b : Board) (g : Good b) (tw th : ℕ) where
     abbrev after : ℕ → List ℕ
     after k = after-rounds k b tw th s h
 
-    after-whole : (k : ℕ) → Under never whole (time (after k))
+    pub after-whole : (k : ℕ) → Under never whole (time (after k))
     unfolding after-rounds
     after-whole zero c = rw (never-time b c) (omega arith)
     after-whole (suc k) c =

@@ -64,7 +64,7 @@ side-agree t x y v w p q = go (order x t) (order y t) (order y x)
 
 module _ {b : Board} (good : Good b) (c : ℕ) (on : c < size b) where
   -- at the neighbours on the board
-  seen-agree : (t : ℕ) (f g : ℕ → ℕ) → ((e : ℕ) → e < size b → Neighbour b c e → min t (f e) ≡ min t (g e)) → sides-seen b c f t ≡ sides-seen b c g t
+  pub seen-agree : (t : ℕ) (f g : ℕ → ℕ) → ((e : ℕ) → e < size b → Neighbour b c e → min t (f e) ≡ min t (g e)) → sides-seen b c f t ≡ sides-seen b c g t
   unfolding sides-seen sides-of
   seen-agree t f g h =
       let x = along (columns-span good) (λ e k. near-here k) in
@@ -143,7 +143,7 @@ sides-at (suc n) c b m f zero l = rw add-zero
 sides-at (suc n) c b m f (suc i) l = rw (add-suc, ← suc-add) (sides-at n (suc c) b m f i (omega arith))
 
 -- of a whole board, by the cells' times
-sides-found : (b : Board) (m : ℕ) → m ≤ largest → (f : ℕ → ℕ → ℕ) (c t : ℕ) → c < size b → t ≡ clip m (met b c (f c))
+pub sides-found : (b : Board) (m : ℕ) → m ≤ largest → (f : ℕ → ℕ → ℕ) (c t : ℕ) → c < size b → t ≡ clip m (met b c (f c))
     → getD (sides-from (size b) 0 b m f) c 0 ≡ found b m c (f c) t
 sides-found b m l f c t on e = sides-at (size b) 0 b m f c on ∙ rw (zero-add c, e) (by-time b m c (f c) (omega arith))
 

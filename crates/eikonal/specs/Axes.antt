@@ -104,6 +104,18 @@ pub record Weights : Type 0 where
   pub others : List ℕ
   pub enough : Enough far due first others
 
+-- a cell is as slow on an axis as its due divided by the axis's weight: on each axis the first is no slower than the second
+unfoldable pub Quicker : (due w : ℕ) → (ws : List ℕ) → (due-2 w-2 : ℕ) → (ws-2 : List ℕ) → Type 0
+Quicker m w [] n v [] = v * m ≤ w * n
+Quicker m w [] n v (y ∷ vs) = ⊥
+Quicker m w (x ∷ ws) n v [] = ⊥
+Quicker m w (x ∷ ws) n v (y ∷ vs) = (v * m ≤ w * n) × Quicker m x ws n y vs
+
+-- NO SLOWER; a wall is slowest of all
+abbrev pub No-slower : (first second : Weights) → Type 0
+No-slower j k =
+    (k .due ≡ 0) ⊎ ((1 ≤ j .due) × Quicker (j .due) (j .first) (j .others) (k .due) (k .first) (k .others))
+
 -- A LATTICE: so many cells on axes; each cell has its weights, and the time of a start of its own, never where it has none
 pub record Lattice : Type 0 where
   pub cells : ℕ

@@ -6,7 +6,7 @@ use mathlib.Core.Logic.{_⊎_, _≢_}
 use Prim.Native.Nat.{ℕ, zero, suc, _+_, _*_, _-_, _≤_, _<_, min, max}
 use lib.Dec.{leb, eqb}
 use lib.ListN.{length, getD}
-use Rattle.eikonal.specs.Axes.{Near, Next-on, Lattice, given-on, met-on}
+use Rattle.eikonal.specs.Axes.{Near, Next-on, No-slower, Lattice, given-on, met-on}
 use Rattle.eikonal.specs.Board.{Board, axes, size, slowness, start-time, time, Meets, solved, marched, reached, diagonal, local, never, largest}
 use Rattle.eikonal.specs.Board.{all-never, least-from, square, passes, earlier}
 use Rattle.eikonal.specs.declared.Start.{Start}
@@ -92,6 +92,12 @@ unfoldable pub Earlier-no-later : Type 0
 Earlier-no-later =
     (l : Lattice) (c : ℕ) (f g : ℕ → ℕ) → c < l .cells → ((e : ℕ) → e < l .cells → Near (l .axes) c e → min never (f e) ≤ g e) →
     min never (given-on l c f) ≤ given-on l c g
+
+-- nor does a cell that is no slower, of two lattices with the same axes
+unfoldable pub Quicker-no-later : Type 0
+Quicker-no-later =
+    (l m : Lattice) (c : ℕ) (f : ℕ → ℕ) → l .axes ≡ m .axes → No-slower (l .weights c) (m .weights c) →
+    min never (given-on l c f) ≤ given-on m c f
 
 -- and exactly one set of times fits
 pub record Fits (l : Lattice) (times : ℕ → ℕ) : Type 0 where

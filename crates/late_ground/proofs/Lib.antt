@@ -1,0 +1,5 @@
+mod TwoBoards
+mod Rounds
+mod Calls
+mod Rings
+pub mod Promises

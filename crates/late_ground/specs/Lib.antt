@@ -1,0 +1,2 @@
+pub mod LateGround
+pub mod Promise

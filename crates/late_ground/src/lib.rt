@@ -1,0 +1,1 @@
+// No code: theorems of boards whose ground is retouched late.
