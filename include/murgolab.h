@@ -53,12 +53,12 @@
  * of stack. So calls may run in several threads at once where none writes a list that another one is lent. These three
  * are tested on the archive, and not proved.
  *
- * A call that is refused answers a number of the table below, the lowest that has a cause, save that 15 comes directly
- * after 2, 21 and then 23 directly after 5, and 18 directly after 7. What it answers beside the number and the place is
- * 0, and every list stays as it was. "Refused by" names the numbers that a call can answer, in the order in which they
- * are looked for. Each looks at all that it concerns before the next is looked for: 5 at both numbers of every pair,
- * the ground's too, before 21 at any, and 21 at every pair before 23 at any. 4 and 15 come before 23, and take N by
- * whatever storeys is, in 64 bits: storeys of 0 are 23 where the list of slownesses is empty, else 4.
+ * A call that is refused answers a number of the table below. Of several causes the one that stands first in this line
+ * is given: `1 2 15 3 4 5 21 23 6 7 18 8 9 10 11 12 13 14`. What the call answers beside the number and the place is 0,
+ * and every list stays as it was. "Refused by" names the numbers that a call can answer, in the order of this line.
+ * Each looks at all that it concerns before the next is looked for: 5 at both numbers of every pair, the ground's too,
+ * before 21 at any, and 21 at every pair before 23 at any. 4 and 15 come before 23, and take N by whatever storeys is,
+ * in 64 bits: storeys of 0 are 23 where the list of slownesses is empty, else 4.
  *
  * The place in an answer says which start is at fault. Where the number is 7 or 18 it is the position in the list of
  * starts, from 0, of the first one at fault by this cause; for every other number, and for 0, it is 0. Each cause looks

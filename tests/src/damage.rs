@@ -28,7 +28,8 @@ pub const HALF_WALLS: [u32; 6] = [1, 10, SLOWEST, pair(0, 1), pair(0, 10), pair(
 pub const UNEQUAL: [u32; 6] =
     [pair(10, 11), pair(11, 10), pair(1, SLOWEST), pair(SLOWEST, 1), pair(SLOWEST, SLOWEST - 1), pair(256, 1)];
 
-/// The numbers of the table in the order in which they are looked for.
+/// The numbers of the table in the order in which they are looked for: the line that crates/eikonal/specs/Order.antt
+/// defines, without the numbers that no call gives yet.
 pub const ORDER: [u32; 18] = [1, 2, 15, 3, 4, 5, 21, 23, 6, 7, 18, 8, 9, 10, 11, 12, 13, 14];
 
 /// Those that a march, a round or a run can be refused by.

@@ -104,26 +104,47 @@ pub fn folded(text: &str) -> String {
     words.collect::<Vec<_>>().join(" ").replace('`', "")
 }
 
+/// A function that others call: what C sees of it, and the kinds of its contract's clauses in order, as `ensures`.
+#[derive(Clone, Debug, PartialEq, Eq)]
+pub struct Export {
+    pub name: String,
+    pub function: Function,
+    pub clauses: Vec<String>,
+}
+
+/// The exports of the crate murgolab.
+pub fn exports() -> Vec<Export> {
+    let sources = files(&repository().join("crates/murgolab/src"), ".rt");
+    sources.iter().flat_map(|source| exports_in(&read(source))).collect()
+}
+
+/// The exports of a source in Rattle.
+pub fn exports_in(source: &str) -> Vec<Export> {
+    let mut words = Words::new(&without_comments(source));
+    let mut found = Vec::new();
+    let mut mangled = true;
+    while let Some(word) = words.next() {
+        match word.as_str() {
+            "no_mangle" => mangled = false,
+            "extern" => {
+                words.expect(&["\"", "C", "\"", "fn"]);
+                let name = words.word();
+                assert!(!mangled, "{} has no `#[no_mangle]`", name);
+                mangled = true;
+                let function = rust_function(&mut words);
+                found.push(Export { name, function, clauses: clauses(&mut words) });
+            }
+            _ => {}
+        }
+    }
+    found
+}
+
 /// What the crate murgolab exports, with the structs that its functions name.
 pub fn exported() -> Interface {
     let mut interface = Interface::default();
-    for file in files(&repository().join("crates/murgolab/src"), ".rt") {
-        let mut words = Words::new(&without_comments(&read(file)));
-        let mut mangled = true;
-        while let Some(word) = words.next() {
-            match word.as_str() {
-                "no_mangle" => mangled = false,
-                "extern" => {
-                    words.expect(&["\"", "C", "\"", "fn"]);
-                    let name = words.word();
-                    assert!(!mangled, "{} has no `#[no_mangle]`", name);
-                    mangled = true;
-                    let function = rust_function(&mut words);
-                    add(&mut interface, name, function);
-                }
-                _ => {}
-            }
-        }
+    for export in exports() {
+        add(&mut interface, export.name, export.function);
     }
     let mut structs = structs_in("crates", ".rt");
     let named: BTreeSet<String> = interface.functions.values().flat_map(types).filter_map(struct_in).collect();
@@ -236,6 +257,27 @@ fn rust_function(words: &mut Words) -> Function {
     }
     words.expect(&["-", ">"]);
     Function { answer: rust_type(words), parameters }
+}
+
+/// `kind { .. }` or `kind name { .. }`, any number of them, and the body's `{`: the kinds.
+fn clauses(words: &mut Words) -> Vec<String> {
+    let mut kinds = Vec::new();
+    while !words.take(&["{"]) {
+        kinds.push(words.word());
+        if !words.take(&["{"]) {
+            words.word();
+            words.expect(&["{"]);
+        }
+        let mut open = 1;
+        while open > 0 {
+            match words.next().expect("a clause's end").as_str() {
+                "{" => open += 1,
+                "}" => open -= 1,
+                _ => {}
+            }
+        }
+    }
+    kinds
 }
 
 /// A type's last name, as `Reply` of `eikonal::Reply`, in C's words.

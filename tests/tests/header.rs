@@ -1,9 +1,10 @@
 //! The header beside the proved source: the same functions, parameters and structs, in the same order.
 //! What compiles against a header that differs would call the archive with the wrong words.
 //! And the header alone: it compiles as C and as C++, and says by which numbers each call is refused.
+//! And the proved source alone: its exports take whatever they are handed.
 
 use second_solver::damage::ORDER;
-use second_solver::declared::{declared_in, exported, header, read, refusals, structs_in};
+use second_solver::declared::{declared_in, exported, exports, exports_in, header, read, refusals, structs_in};
 use second_solver::programs::{compile, empty_folder, printed};
 use std::collections::BTreeSet;
 use std::fmt::Debug;
@@ -30,6 +31,69 @@ fn the_header_declares_what_the_source_exports() {
     assert!(!exported.functions.is_empty() && !exported.structs.is_empty());
     assert_same(["the header", "the source"], &header.functions, &exported.functions);
     assert_same(["the header", "the source"], &header.structs, &exported.structs);
+}
+
+/// Nothing holds a caller in C or Rust to a `requires`, and without an `ensures` it is promised nothing. A call has no
+/// other kind of clause either.
+#[test]
+fn every_export_has_an_ensures_and_no_requires() {
+    let exports = exports();
+    assert!(!exports.is_empty());
+    for export in exports {
+        assert!(export.clauses.contains(&"ensures".to_string()), "{} has no `ensures`", export.name);
+        for kind in &export.clauses {
+            assert_eq!(kind, "ensures", "{} has another clause", export.name);
+        }
+    }
+}
+
+/// Braces and names of other clauses may stand in a clause, in a comment or in the body.
+#[test]
+fn the_clauses_of_exports_are_read_by_kind() {
+    let source = r#"
+        #[no_mangle]
+        pub extern "C" fn plain(x: u32) -> Reply
+            ensures { λ r. ⌜ Says x r ⌝ }
+        {
+            other(x)
+        }
+        #[no_mangle]
+        pub extern "C" fn in_braces(x: &[u32]) -> eikonal::Reply
+            // requires { nothing }
+            ensures { λ r. ⌜ f {now (x .entry)} (λ {y}. { y {r} }) ⌝ }
+            ensures put { requires { ensures {} } }
+        {
+            let requires = { 1 };
+            requires { ensures }
+        }
+        #[no_mangle]
+        pub extern "C" fn asking(x: u32, y: u32) -> u32
+            requires { ⌜ x < {y} ⌝ }
+            ensures { λ r. ⌜ r < y ⌝ }
+        { y }
+        #[no_mangle]
+        pub extern "C" fn asking_by_name(x: u32) -> u32
+            ensures least { λ r. ⌜ x ≤ r ⌝ } requires small { ⌜ x < 5 ⌝ }
+        { x }
+        #[no_mangle]
+        pub extern "C" fn silent(x: u32) -> u32 {
+            ensures { x }
+        }
+        #[no_mangle]
+        pub extern "C" fn haunted(x: u32) -> u32
+            ghost { ℕ }
+            ensures { λ α r. ⌜ r ≡ α ⌝ }
+        { x }"#;
+    let read: Vec<_> = exports_in(source).into_iter().map(|export| (export.name, export.clauses.join(" "))).collect();
+    let typed = [
+        ("plain", "ensures"),
+        ("in_braces", "ensures ensures"),
+        ("asking", "requires ensures"),
+        ("asking_by_name", "ensures requires"),
+        ("silent", ""),
+        ("haunted", "ghost ensures"),
+    ];
+    assert_eq!(read, typed.map(|(name, kinds)| (name.to_string(), kinds.to_string())));
 }
 
 #[test]

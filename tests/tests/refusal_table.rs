@@ -1,7 +1,10 @@
 //! The refusal table stands in the header, in the README, in the wrapper and in the words of the examples, and the
 //! reader's part of it on the scenario page. The header's is the one that the others are held to: numbers, names where
 //! they are given, and words.
+//! The one order in which causes are looked for is defined in crates/eikonal/specs/Order.antt, with numbers to come.
+//! The tests' own order, the pages that show it and the README's table of calls are held to that.
 
+use second_solver::damage::ORDER;
 use second_solver::declared::{folded, read, refusals, repository, Refusal};
 use second_solver::pages::{rows, section};
 use second_solver::programs::printed;
@@ -93,5 +96,83 @@ fn the_script_says_the_same_words() {
         let mut script = Command::new("python3");
         script.arg(repository().join("examples/refusal.py")).arg(line.number.to_string());
         assert_eq!(printed(&mut script, &[]), format!("{}: {}\n", line.number, line.words));
+    }
+}
+
+/// The numbers of the definition `order = 1 ∷ 2 ∷ .. ∷ []`, which begins a line and may go on over the next.
+fn order_in(source: &str) -> Vec<u32> {
+    let source = format!("\n{}", source);
+    let (_, behind) = source.split_once("\norder =").expect("the definition of the order");
+    let (line, _) = behind.split_once("[]").expect("the end of the order");
+    let mut numbers: Vec<&str> = line.split('∷').map(str::trim).collect();
+    assert_eq!(numbers.pop(), Some(""), "an order ends with `∷ []`");
+    numbers_of(numbers)
+}
+
+fn numbers_of<'a>(words: impl IntoIterator<Item = &'a str>) -> Vec<u32> {
+    let number = |word: &str| word.parse().unwrap_or_else(|_| panic!("{:?} is no number", word));
+    words.into_iter().map(number).collect()
+}
+
+fn defined_order() -> Vec<u32> {
+    order_in(&read("crates/eikonal/specs/Order.antt"))
+}
+
+/// The order without the numbers that are not in the table yet.
+fn order_of_today() -> Vec<u32> {
+    let table = numbered();
+    defined_order().into_iter().filter(|number| table.iter().any(|line| line.0 == *number)).collect()
+}
+
+#[test]
+fn the_definition_of_the_order_is_read() {
+    let one_line =
+        "use lib.{order}\n\n-- order = 9 ∷ []\npub order : List ℕ\norder = 1 ∷ 15 ∷ 3 ∷ []\n\nlast = 4 ∷ []\n";
+    assert_eq!(order_in(one_line), [1, 15, 3]);
+    assert_eq!(order_in("order =\n    21 ∷ 2 ∷\n    7 ∷ []"), [21, 2, 7]);
+}
+
+#[test]
+fn the_order_has_no_number_twice() {
+    let order = defined_order();
+    for (place, number) in order.iter().enumerate() {
+        assert!(!order[..place].contains(number), "{} stands twice", number);
+    }
+}
+
+#[test]
+fn the_tests_have_the_numbers_in_the_order_that_is_defined() {
+    assert_eq!(ORDER.to_vec(), order_of_today());
+}
+
+/// The numbers in backticks behind the words that say what they are for.
+fn order_shown_in(page: &str) -> Vec<u32> {
+    let text = read(page);
+    let words: Vec<&str> = text.split_whitespace().filter(|word| !["*", "///"].contains(word)).collect();
+    let text = words.join(" ");
+    let parts: Vec<&str> = text.split("Of several causes the one that stands first in this line is given: `").collect();
+    assert_eq!(parts.len(), 2, "{} shows the order once", page);
+    numbers_of(parts[1].split('`').next().expect("the numbers").split(' '))
+}
+
+#[test]
+fn the_pages_show_the_order_that_is_defined() {
+    for page in ["README.md", "include/murgolab.h", "wrapper/src/refusal.rs", "docs/DECISIONS.md"] {
+        assert_eq!(order_shown_in(page), order_of_today(), "{}", page);
+    }
+}
+
+/// The last column of the table of calls has the numbers that a call is refused by.
+#[test]
+fn the_readme_has_the_numbers_of_each_call_in_the_order_that_is_defined() {
+    let (readme, order) = (read("README.md"), order_of_today());
+    let mut calls = rows(section(&readme, "Calls"));
+    assert_eq!(calls[0].last(), Some(&"Refused by"));
+    calls.retain(|row| row[0].starts_with("`murgolab_"));
+    assert!(!calls.is_empty());
+    for row in calls {
+        let numbers = numbers_of(row.last().expect("a column").split(' '));
+        let in_order: Vec<u32> = order.iter().copied().filter(|number| numbers.contains(number)).collect();
+        assert_eq!(numbers, in_order, "{}", row[0]);
     }
 }

@@ -1,14 +1,12 @@
 use std::error::Error;
 use std::fmt;
 
-/// Makes the enum and all that is said of a number from one table, so that a number is added in one place. Its words may
-/// stand in several literals. An entry that ends with a field is of a cause that says which start is at fault.
+/// Makes the enum and all that is said of a number from one table, so that a number is added in one place. Its words
+/// may stand in several literals. An entry that ends with a field is of a cause that says which start is at fault.
 macro_rules! refusals {
     ($($number:literal => $name:ident, $($words:literal)+ $(, $place:ident)?;)*) => {
-        /// Why a call was refused. Of several causes the one with the lowest number is given, save that
-        /// [`Refusal::SmallBoard`] comes directly after [`Refusal::SidesOfBoard`], [`Refusal::HalfWall`] and then
-        /// [`Refusal::Storeys`] directly after [`Refusal::Slowness`], and [`Refusal::StartOrder`] directly after
-        /// [`Refusal::StartCell`]. N is width × height × storeys.
+        /// Why a call was refused. Of several causes the one that stands first in this line is given:
+        /// `1 2 15 3 4 5 21 23 6 7 18 8 9 10 11 12 13 14`. N is width × height × storeys.
         ///
         /// Later versions may know more numbers, so a `match` needs an arm for the others.
         ///

@@ -9,18 +9,16 @@ ghost use mathlib.Core.Bool.{cond};
 ghost use lib.Dec.{ltb, leb};
 ghost use Rattle.eikonal.specs.Board.{never, earlier, local-of, local};
 ghost use Rattle.eikonal.specs.Sides.{side, sides-of};
-ghost use Rattle.eikonal.specs.Entry.{seen, pair-refusal, local-refusal, Local-says};
+ghost use Rattle.eikonal.specs.Entry.{seen, local-refusal, Local-says};
 ghost use Rattle.eikonal.specs.Inner.Weighed.{weighed, three-squares};
 use eikonal::LARGEST;
 use eikonal::LocalReply;
 use eikonal::NEVER;
 use eikonal::Refusal;
 use eikonal::cause;
-use eikonal::refusals::is_half_wall;
-use eikonal::refusals::is_steep;
-use eikonal::refusals::or_else;
-use eikonal::refusals::pairs_refusal;
-use eikonal::refusals::when;
+use refusals::board::is_half_wall;
+use refusals::board::is_steep;
+use refusals::causes::when;
 
 pub fn lesser(a: u32, b: u32) -> u32
     ensures { λ r. ⌜ r ≡ min a b ⌝ }
@@ -263,12 +261,6 @@ fn known(time: u32) -> u32
     if time > LARGEST { NEVER } else { time }
 }
 
-fn pair_refusal(g: u32, h: u32) -> Refusal
-    ensures { λ r. ⌜ r ≡ pair-refusal g h ⌝ }
-{
-    pairs_refusal(is_steep(g, h), is_half_wall(g, h))
-}
-
 // An axis's time, of the two handed in.
 fn axis(one: u32, other: u32) -> u32
     ensures { λ r. ⌜ r ≡ earlier (seen one) (seen other) ⌝ }
@@ -279,9 +271,9 @@ fn axis(one: u32, other: u32) -> u32
 fn local_refusal(g: u32, h: u32, over: u32, under: u32) -> Refusal
     ensures { λ r. ⌜ r ≡ local-refusal g h over under ⌝ }
 {
-    let pair = pair_refusal(g, h);
     let by_23 = when((g != h) & (axis(over, under) != NEVER), 23, 0, cause(0));
-    or_else(pair, by_23)
+    let by_21 = when(is_half_wall(g, h), 21, 0, by_23);
+    when(is_steep(g, h), 5, 0, by_21)
 }
 
 // The time, of numbers that are not refused.

@@ -3,7 +3,7 @@ use mathlib.Core.Path.{_≡_, refl, sym}
 use Prim.Native.Nat.{ℕ}
 use native.Mathlib.Decide.{ℕ-discrete}
 use borrow.Author.Tests.{eq-eqb, ne-eqb}
-use Rattle.eikonal.specs.Refusals.{none}
+use Rattle.eikonal.specs.Order.{none}
 use Rattle.eikonal.specs.Ledger.{answer, answered}
 use Rattle.eikonal.specs.Entry.{local-answer, local-answered}
 use Rattle.eikonal.specs.declared.Refusal.{Refusal}

@@ -9,7 +9,7 @@ use lib.ListN.{length}
 use Rattle.eikonal.specs.declared.Start.{Start}
 use Rattle.eikonal.specs.Refusals.{first-fault, on-board, cells-of}
 use Rattle.eikonal.specs.Promise.{cell-at}
-use Rattle.eikonal.specs.Inner.Judge.{starts-rise}
+use Rattle.eikonal.specs.Inner.Good.{starts-rise}
 
 -- the least cell that the i-th start may have
 unfoldable pub least-at : (l : ℕ) → List Start → (i : ℕ) → ℕ

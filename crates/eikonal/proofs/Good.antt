@@ -11,14 +11,13 @@ use lib.ListN.{length, getD}
 use borrow.Author.Tests.{eqb-true, eqb-false, leb-true, ltb-false, lt-ltb, le-ltb, le-leb, not-false}
 use Rattle.eikonal.specs.Board.{Board, size, slowness, along-row, down-column, never, start-time}
 use Rattle.eikonal.specs.declared.Start.{Start}
-use Rattle.eikonal.specs.Refusals.{Handed, handed, or-else, handed-refusal, starts-refusal, side-good, sides-good}
-use Rattle.eikonal.specs.Refusals.{steep, half-wall, uneven, any-pair, pairs-refusal, slows-refusal}
-use Rattle.eikonal.specs.Refusals.{storeys-good, ill-stacked, storeys-refusal, house-refusal}
-use Rattle.eikonal.specs.Refusals.{first-off, first-low, late, on-wall, records-refusal}
+use Rattle.eikonal.specs.Order.{Cause, caused, found, none, first-of}
+use Rattle.eikonal.specs.Refusals.{Handed, handed, handed-refusal, within, board-causes, sides-good, steep, half-wall, uneven, any-pair}
+use Rattle.eikonal.specs.Refusals.{ill-stacked, pair-causes, house-refusal, first-off, first-low, late, on-wall, record-causes, start-causes}
 use Rattle.eikonal.specs.Promise.{board-good}
-use Rattle.eikonal.specs.Inner.Good.{Known, Pair, Good}
-use Rattle.eikonal.specs.Inner.Judge.{starts-rise}
-use Rattle.eikonal.proofs.Causes.{passed, fulfilled, faultless, neither}
+use Rattle.eikonal.specs.Inner.Good.{Known, Pair, Good, starts-rise}
+use Rattle.eikonal.specs.declared.Refusal.{Refusal}
+use Rattle.eikonal.proofs.Causes.{None-met, none-met, unrefused, met-parts, number-is}
 use Rattle.eikonal.proofs.Faults.{rises}
 
 pub and-true : (p q : Bool) → p && q ≡ true → (p ≡ true) × (q ≡ true)
@@ -29,9 +28,8 @@ pub or-false : (p q : Bool) → p || q ≡ false → (p ≡ false) × (q ≡ fal
 or-false true q e = absurd (true≢false e)
 or-false false q e = (refl, e)
 
-pub side : (n : ℕ) → side-good n ≡ true → (1 ≤ n) × (n ≤ 256)
-unfolding side-good
-side n e = let r = and-true (leb 1 n) (leb n 256) e in (leb-true 1 n (r .0), leb-true n 256 (r .1))
+pub in-range : (l m n : ℕ) → within l m n ≡ true → (l ≤ n) × (n ≤ m)
+in-range l m n e = let r = and-true (leb l n) (leb n m) e in (leb-true l n (r .0), leb-true n m (r .1))
 
 -- no cell's pair is met by a test that none of the list's is met by: off the list it is the wall's
 none-pair : (p : (g h : ℕ) → Bool) (ss : List ℕ) → p 0 0 ≡ false → any-pair p ss ≡ false → (c : ℕ)
@@ -42,10 +40,6 @@ none-pair p (s ∷ ss) z e zero = or-false (p (along-row s) (down-column s)) (an
 none-pair p (s ∷ ss) z e (suc c) = none-pair p ss z (or-false (p (along-row s) (down-column s)) (any-pair p ss) e .1) c
 
 -- what is neither 5 nor 21
-pub unflawed : (p q : Bool) → pairs-refusal p q .number ≡ 0 → (p ≡ false) × (q ≡ false)
-unfolding pairs-refusal
-unflawed p q e = let r = passed p _ _ e in (r .0, passed q _ _ (r .1) .0)
-
 pub to-pair : (g h : ℕ) → steep g h ≡ false → half-wall g h ≡ false → Pair g h
 unfolding steep half-wall
 to-pair g h e f =
@@ -72,19 +66,17 @@ pub record Housed (w h s : ℕ) (ss : List ℕ) : Type 0 where
   pub level : 2 ≤ s → any-pair uneven ss ≡ false
 
 module _ (w h s : ℕ) (ss : List ℕ) where
-  pub housed : house-refusal w h s ss .number ≡ 0 → Housed w h s ss
-  unfolding house-refusal slows-refusal storeys-refusal ill-stacked storeys-good
+  pub housed : None-met (pair-causes w h s ss) → Housed w h s ss
+  unfolding None-met pair-causes ill-stacked
   housed e =
-      let r = neither (slows-refusal ss) _ e in
-      let f = unflawed (any-pair steep ss) (any-pair half-wall ss) (r .0) in
-      let p = or-false (not (storeys-good s)) _ (passed (ill-stacked w h s (any-pair uneven ss)) _ _ (r .1) .0) in
+      let p = or-false (not (within 1 8 s)) _ (e .1 .1 .0) in
       let q = or-false (ltb 65536 (w * h * s)) (ltb 1 s && any-pair uneven ss) (p .1) in
-      let within = and-true (leb 1 s) (leb s 8) (not-false _ (p .0)) in
+      let storeys = in-range 1 8 s (not-false _ (p .0)) in
       record {
-        gentle = f .0;
-        whole = f .1;
-        low = leb-true 1 s (within .0);
-        high = leb-true s 8 (within .1);
+        gentle = e .0;
+        whole = e .1 .0;
+        low = storeys .0;
+        high = storeys .1;
         few = ltb-false 65536 (w * h * s) (q .0);
         level = λ l. rw (lt-ltb 1 s (omega arith)) at (q .1);
       }
@@ -95,10 +87,18 @@ module _ (w h s : ℕ) (ss : List ℕ) where
     | no k ↦ rw (le-ltb 1 s (omega arith)) refl
   ]
 
-  pub houses : Housed w h s ss → house-refusal w h s ss .number ≡ 0
-  unfolding house-refusal slows-refusal pairs-refusal storeys-refusal ill-stacked storeys-good or-else
+  pub houses : Housed w h s ss → None-met (pair-causes w h s ss)
+  unfolding None-met pair-causes ill-stacked
   houses k =
-      rw (k .gentle, k .whole, le-leb 1 s (k .low), le-leb s 8 (k .high), le-ltb 65536 (w * h * s) (k .few), tall (k .level)) refl
+      (k .gentle, (k .whole, (rw (le-leb 1 s (k .low), le-leb s 8 (k .high), le-ltb 65536 (w * h * s) (k .few), tall (k .level)) refl, tt)))
+
+  pub house-none : house-refusal w h s ss .number ≡ 0 → None-met (pair-causes w h s ss)
+  unfolding house-refusal
+  house-none e = none-met (pair-causes w h s ss) e
+
+  pub none-house : None-met (pair-causes w h s ss) → house-refusal w h s ss .number ≡ 0
+  unfolding house-refusal
+  none-house n = number-is (unrefused (pair-causes w h s ss) n)
 
 none-late : (xs : List Start) → late xs ≡ false → (c : ℕ) → Known 1000000 (start-time c xs)
 unfolding late start-time
@@ -126,28 +126,34 @@ none-on-wall b (x ∷ xs) e c w =
 pub sides-within : (w h : ℕ) → sides-good w h ≡ true → (1 ≤ w) × (w ≤ 256) × (1 ≤ h) × (h ≤ 256)
 unfolding sides-good
 sides-within w h e =
-    let both = and-true (side-good w) (side-good h) e in
-    (side w (both .0) .0, side w (both .0) .1, side h (both .1) .0, side h (both .1) .1)
+    let both = and-true (within 1 256 w) (within 1 256 h) e in
+    let wide = in-range 1 256 w (both .0) in
+    let high = in-range 1 256 h (both .1) in
+    (wide .0, wide .1, high .0, high .1)
+
+-- behind 2 both are at most 256
+pub sides-most : (w h : ℕ) (ks : List Cause) → first-of (caused 2 (not (sides-good w h)) ∷ ks) .number ≡ 0 → (w ≤ 256) × (h ≤ 256)
+unfolding None-met
+sides-most w h ks e =
+    let s = sides-within w h (not-false _ (none-met (caused 2 (not (sides-good w h)) ∷ ks) e .0)) in
+    (s .1, s .3)
 
 -- what is known of starts that are not refused: of the records, and of the ground below them
-pub rising : (n : ℕ) (xs : List Start) → records-refusal n xs .number ≡ 0 → (starts-rise n 0 xs ≡ true) × (late xs ≡ false)
-unfolding records-refusal
-rising n xs e =
-    let r7 = faultless _ (first-off n xs) (length xs) _ e in
-    let r18 = faultless _ (first-low xs) (length xs) _ (r7 .1) in
-    (rises n 0 0 xs (r7 .0) (r18 .0), passed (late xs) _ _ (r18 .1) .0)
+pub rising : (n : ℕ) (xs : List Start) → None-met (record-causes n xs) → (starts-rise n 0 xs ≡ true) × (late xs ≡ false)
+unfolding None-met record-causes
+rising n xs e = (rises n 0 0 xs (ltb-false _ _ (e .0)) (ltb-false _ _ (e .1 .0)), e .1 .1 .0)
 
 pub record Sound (b : Board) : Type 0 where
   pub rise : starts-rise (size b) 0 (b .starts) ≡ true
   pub early : late (b .starts) ≡ false
   pub free : on-wall b (b .starts) ≡ false
 
-pub sound : (b : Board) → starts-refusal b .number ≡ 0 → Sound b
-unfolding starts-refusal
+pub sound : (b : Board) → None-met (start-causes b) → Sound b
+unfolding None-met start-causes
 sound b e =
-    let r = neither (records-refusal (size b) (b .starts)) _ e in
+    let r = met-parts (record-causes (size b) (b .starts)) _ e in
     let s = rising (size b) (b .starts) (r .0) in
-    record { rise = s .0; early = s .1; free = passed (on-wall b (b .starts)) _ _ (r .1) .0 }
+    record { rise = s .0; early = s .1; free = r .1 .0 }
 
 -- what is known of a board that was handed in and is not refused
 pub record Accepted (p : Handed) : Type 0 where
@@ -155,17 +161,16 @@ pub record Accepted (p : Handed) : Type 0 where
   pub good : Good (p .board)
   pub starts : Sound (p .board)
 
-pub accepted : (p : Handed) → handed-refusal p .number ≡ 0 → Accepted p
-unfolding handed-refusal steep half-wall uneven slowness size
-accepted p e =
+-- whatever else a call looks for among its causes
+pub passes : (p : Handed) (u v : Refusal) → None-met (board-causes p (p .board .slow) u v) → Accepted p
+unfolding None-met board-causes steep half-wall uneven slowness size
+passes p u v e =
     let b = p .board in
-    let r2 = fulfilled (sides-good (b .wide) (b .high)) _ _ e in
-    let r4 = fulfilled (p .paired && eqb (length (b .slow)) (size b)) _ _ (r2 .1) in
-    let r = neither (house-refusal (b .wide) (b .high) (b .storeys) (b .slow)) _ (r4 .1) in
+    let r = met-parts (pair-causes (b .wide) (b .high) (b .storeys) (b .slow)) (found v ∷ start-causes b) (e .1 .1 .1) in
     let k = housed (b .wide) (b .high) (b .storeys) (b .slow) (r .0) in
-    let s = sound b (r .1) in
-    let sides = sides-within (b .wide) (b .high) (r2 .0) in
-    let even = and-true (p .paired) (eqb (length (b .slow)) (size b)) (r4 .0) in
+    let s = sound b (r .1 .1) in
+    let sides = sides-within (b .wide) (b .high) (not-false _ (e .0)) in
+    let even = and-true (p .paired) (eqb (length (b .slow)) (size b)) (not-false _ (e .1 .1 .0)) in
     record {
       paired = even .0;
       good = record {
@@ -184,6 +189,10 @@ accepted p e =
       };
       starts = s;
     }
+
+pub accepted : (p : Handed) → handed-refusal p .number ≡ 0 → Accepted p
+unfolding handed-refusal
+accepted p e = passes p none none (none-met (board-causes p (p .board .slow) none none) e)
 
 pub good : (b : Board) → board-good b ≡ true → Good b
 unfolding board-good

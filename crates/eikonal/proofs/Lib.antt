@@ -9,8 +9,6 @@ pub mod FirstPass
 pub mod Causes
 pub mod Faults
 pub mod Good
-pub mod Judging
-pub mod Pairs
 pub mod Grid
 pub mod Lattices
 pub mod Slower
@@ -26,6 +24,7 @@ pub mod CutRule
 pub mod Sides
 pub mod Accepted
 pub mod Answers
+pub mod StartLists
 pub mod Ledger
 pub mod Places
 pub mod Never

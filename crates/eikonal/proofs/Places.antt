@@ -1,29 +1,64 @@
--- The place beside a number is that of the first start at fault: of the starts, of every refusal of a call, and of all answers along a list of calls.
+-- The one order, call by call; and the place beside a number is that of the first start at fault: of the starts, of lists of causes that have the starts'
+-- in their midst, and of all answers along a list of calls.
 use mathlib.Core.Path.{_≡_, refl}
-use mathlib.Core.Bool.{Bool, true, false, _&&_, _||_, not, cond}
-use mathlib.Core.List.{List}
-use mathlib.Core.Logic.{_⊎_, inl, inr, _≢_}
-use Prim.Native.Nat.{ℕ, zero, suc, _*_, _-_, _≤_, _<_}
+use mathlib.Core.Bool.{Bool, true, false, _&&_, _||_, cond}
+use mathlib.Core.List.{List, [], _∷_, _++_, append-nil}
+use Prim.Native.Nat.{ℕ, zero, suc, _-_, _≤_, _<_}
 use native.Mathlib.Omega.{arith}
 use native.Mathlib.Decide.{ℕ-discrete}
 use lib.Dec.{ltb, leb, eqb}
 use lib.ListN.{length}
-use borrow.Author.Tests.{ltb-true, ltb-false, leb-true, leb-false, eqb-true, eqb-false}
-use Rattle.eikonal.specs.Board.{Board, size, largest}
+use borrow.Author.Tests.{ltb-true, ltb-false, leb-true, leb-false, eqb-true, ne-eqb}
+use Rattle.eikonal.specs.Board.{size}
+use Rattle.eikonal.specs.Order.{Cause, at-fault, cause, cause-at, none, first-of, rank, rank-in, follows, In-order}
+use Rattle.eikonal.specs.Refusals.{Handed, on-board, first-off, first-low, board-causes, pair-causes, record-causes, start-causes, tile-causes}
+use Rattle.eikonal.specs.Refusals.{job-causes, list-causes, nothing-own}
+use Rattle.eikonal.specs.Ledger.{Call, call, call-board, call-causes, own-refusal, own-answer, answer, answered}
+use Rattle.eikonal.specs.Entry.{local-causes}
+use Rattle.eikonal.specs.Promise.{Calls-in-order, Local-in-order, cell-at, All-on, All-rise, First-at-fault, Place-is-first}
+use Rattle.eikonal.specs.Promise.{Steps, All-place, Every-place}
 use Rattle.eikonal.specs.declared.Start.{Start}
 use Rattle.eikonal.specs.declared.Refusal.{Refusal}
 use Rattle.eikonal.specs.declared.Reply.{Reply}
 use Rattle.eikonal.specs.declared.Job.{Job}
 use Rattle.eikonal.specs.declared.Job.the-variants.{March, Round, Run}
-use Rattle.eikonal.specs.Refusals.{Handed, cause, cause-at, none, or-else, on-board, first-off, first-low, late, on-wall}
-use Rattle.eikonal.specs.Refusals.{steep, half-wall, uneven, any-pair, pairs-refusal, slows-refusal, ill-stacked, storeys-refusal, house-refusal}
-use Rattle.eikonal.specs.Refusals.{sides-good, order-good}
-use Rattle.eikonal.specs.Refusals.{records-refusal, starts-refusal, handed-refusal, tiles-refusal, job-refusal, lists-refusal}
-use Rattle.eikonal.specs.Ledger.{Sheet, Call, call-board, refusal, answer, answered, ledger-answer}
-use Rattle.eikonal.specs.Promise.{cell-at, All-on, All-rise, First-at-fault, Place-is-first, Steps, All-place, Every-place}
 use Rattle.eikonal.proofs.Faults.{least-at, there, before}
-use Rattle.eikonal.proofs.Good.{and-true, or-false}
+use Rattle.eikonal.proofs.Good.{and-true}
 use Rattle.eikonal.proofs.Answers.{answered-zero, answered-refused}
+
+-- ---- the lists of causes follow the one order: computed
+pub calls-in-order : Calls-in-order
+unfolding Calls-in-order call-causes board-causes pair-causes start-causes record-causes job-causes tile-causes list-causes follows rank rank-in
+calls-in-order c t = go (c .handed) (c .job) (c .order) (c .sides) (c .work)
+  where
+    go : (p : Handed) (j : Job) (ys : List ℕ) (n w : ℕ) → In-order (call-causes (call p j ys n w) nothing-own t)
+    go p (March z) ys n w = refl
+    go p (Round tw th m) ys n w = refl
+    go p (Run tw th s z) ys n w = refl
+
+pub local-in-order : Local-in-order
+unfolding Local-in-order local-causes follows rank rank-in
+local-in-order g h o n = refl
+
+-- ---- causes in front of the starts' and behind them: their numbers are looked for there, and none has a place
+unfoldable pub all-plain : (test : ℕ → Bool) → List Cause → Bool
+all-plain p [] = true
+all-plain p (k ∷ ks) = ((eqb (k .number) 0 || p (k .number)) && eqb (k .place) 0) && all-plain p ks
+
+unfoldable pub in-front : (number : ℕ) → Bool
+in-front m = ltb (rank m) (rank 7)
+
+unfoldable pub in-the-rear : (number : ℕ) → Bool
+in-the-rear m = ltb (rank 18) (rank m)
+
+seven-first : rank 7 < rank 18
+unfolding rank rank-in
+seven-first = omega arith
+
+-- nothing found stands behind all
+pub nothing-last : rank 18 < rank 0
+unfolding rank rank-in
+nothing-last = omega arith
 
 -- a cell below the least that it may be is not the first, and not above the one before
 below-least : (xs : List Start) (k : ℕ) → cell-at xs k < least-at 0 xs k → (1 ≤ k) × (cell-at xs k ≤ cell-at xs (k - 1))
@@ -33,105 +68,63 @@ below-least xs (suc k) h =
     let last : suc k - 1 ≡ k = omega arith in
     (omega arith, rw last (omega arith))
 
--- the numbers from 1 to 7 are not among those that are looked for behind the starts' cells
-looked-for-before : (k : ℕ) → 1 ≤ k → k < 8 → (k ≡ 0) ⊎ (8 ≤ k) → ⊥
-looked-for-before k l h (inl z) = omega arith
-looked-for-before k l h (inr o) = omega arith
-
--- the numbers that are looked for in front of the starts
-abbrev pub in-front : (number : ℕ) → Bool
-in-front k = eqb k 21 || (eqb k 23 || (leb 1 k && ltb k 7))
-
 module _ (n : ℕ) (xs : List Start) where
   abbrev pub Tells : Refusal → Type 0
   Tells k = First-at-fault n xs (k .number) (k .place)
 
-  -- ---- in front of the starts: causes with a number below 7, 21 and 23
-  plain : (k : ℕ) → in-front k ≡ true → Tells (cause k)
-  plain k e = go (eqb k 21) (eqb k 23) refl refl e
-    where
-      go : (p q : Bool) → eqb k 21 ≡ p → eqb k 23 ≡ q → p || (q || (leb 1 k && ltb k 7)) ≡ true → Tells (cause k)
-      go true q f u e =
-          let z = eqb-true k 21 f in
-          record { off = λ r. absurd (omega arith); low = λ r. absurd (omega arith); right = λ o c d i. absurd (d z); rest = λ a b. refl }
-      go false true f u e =
-          let z = eqb-true k 23 u in
-          record { off = λ r. absurd (omega arith); low = λ r. absurd (omega arith); right = λ o c d i. absurd (i z); rest = λ a b. refl }
-      go false false f u e =
-          let r = and-true (leb 1 k) (ltb k 7) e in
-          let low = leb-true 1 k (r .0) in
-          let high = ltb-true k 7 (r .1) in
-          record {
-            off = λ q. absurd (omega arith);
-            low = λ q. absurd (omega arith);
-            right = λ o c d i. absurd (looked-for-before k low (omega arith) o);
-            rest = λ a b. refl;
-          }
-
-  pub early : (p : Bool) (k : ℕ) (b : Refusal) → in-front k ≡ true → Tells b → Tells (cond p (cause k) b)
-  early true k b e t = plain k e
-  early false k b e t = t
-
-  -- some of them in a refusal of their own: what they say where they are met
-  abbrev pub Hides : Refusal → Type 0
-  Hides k = k .number ≢ 0 → Tells k
-
-  pub unhidden : Hides none
-  unhidden d = absurd (d refl)
-
-  pub hidden : (p : Bool) (k : ℕ) (b : Refusal) → in-front k ≡ true → Hides b → Hides (cond p (cause k) b)
-  hidden true k b e t d = plain k e
-  hidden false k b e t d = t d
-
-  pub behind : (a b : Refusal) → Hides a → Tells b → Tells (or-else a b)
-  unfolding or-else
-  behind a b s t = go (eqb (a .number) 0) refl
-    where
-      go : (p : Bool) → eqb (a .number) 0 ≡ p → Tells (cond p b a)
-      go true e = t
-      go false e = s (eqb-false (a .number) 0 e)
-
-  -- of two such refusals, the first that is one
-  pub hides-either : (a b : Refusal) → Hides a → Hides b → Hides (or-else a b)
-  unfolding or-else
-  hides-either a b s t = go (eqb (a .number) 0)
-    where
-      go : (p : Bool) → Hides (cond p b a)
-      go true = t
-      go false = s
-
-  -- 5, 21, 23
-  pub hides-house : (w h s : ℕ) (ss : List ℕ) → Hides (house-refusal w h s ss)
-  unfolding house-refusal slows-refusal pairs-refusal storeys-refusal
-  hides-house w h s ss =
-      hides-either _ _ (hidden (any-pair steep ss) _ _ refl (hidden (any-pair half-wall ss) _ none refl unhidden))
-      (hidden (ill-stacked w h s (any-pair uneven ss)) _ none refl unhidden)
-
-  -- ---- behind them: no start is at fault, whatever is met
+  -- no start is at fault
   abbrev Right : Type 0
   Right = All-on n xs (length xs) × All-rise xs (length xs)
 
-  pub passes : Right → Tells none
-  passes r = record { off = λ q. absurd (omega arith); low = λ q. absurd (omega arith); right = λ a b c d. r; rest = λ a b. refl }
-
-  pub tested : Right → (p : Bool) (k : ℕ) (b : Refusal) → eqb k 7 || eqb k 18 ≡ false → Tells b → Tells (cond p (cause k) b)
-  tested r true k b e t =
-      let d = or-false (eqb k 7) (eqb k 18) e in
-      record { off = λ q. absurd (eqb-false k 7 (d .0) q); low = λ q. absurd (eqb-false k 18 (d .1) q); right = λ a b c d. r; rest = λ a b. refl }
-  tested r false k b e t = t
-
-  pub after : (a b : Refusal) → Tells a → (Right → Tells b) → Tells (or-else a b)
-  unfolding or-else
-  after a b s t = go (eqb (a .number) 0) refl
+  -- a list that begins with such causes, by what each of them says where it is met
+  pub past : (p : ℕ → Bool) → ((k : ℕ) → 1 ≤ k → p k ≡ true → Tells (cause k)) → (ks rest : List Cause) → all-plain p ks ≡ true → Tells (first-of rest)
+      → Tells (first-of (ks ++ rest))
+  unfolding all-plain first-of
+  past p says [] rest e t = t
+  past p says (k ∷ ks) rest e t =
+      let r = and-true ((eqb (k .number) 0 || p (k .number)) && eqb (k .place) 0) (all-plain p ks) e in
+      let q = and-true (eqb (k .number) 0 || p (k .number)) (eqb (k .place) 0) (r .0) in
+      go (ltb 0 (k .number)) (k .met) refl (q .0) (eqb-true (k .place) 0 (q .1)) (past p says ks rest (r .1) t)
     where
-      go : (p : Bool) → eqb (a .number) 0 ≡ p → Tells (cond p b a)
-      go true e = let z = eqb-true (a .number) 0 e in t (s .right (inl z) (λ q. omega arith) (λ q. omega arith) (λ q. omega arith))
-      go false e = s
+      go : (a b : Bool) → ltb 0 (k .number) ≡ a → eqb (k .number) 0 || p (k .number) ≡ true → k .place ≡ 0 → Tells (first-of (ks ++ rest))
+          → Tells (cond (a && b) (cause-at (k .number) (k .place)) (first-of (ks ++ rest)))
+      go true true h e z t =
+          let l = ltb-true 0 (k .number) h in
+          let some : eqb (k .number) 0 ≡ false = ne-eqb (k .number) 0 (λ w. omega arith) in
+          rw z (says (k .number) (omega arith) (rw some at e))
+      go true false h e z t = t
+      go false b h e z t = t
 
-  -- ---- the records
-  tells-records : Tells (records-refusal n xs)
-  unfolding records-refusal least-at
-  tells-records = go (ltb (first-off n xs) (length xs)) refl (ltb (first-low xs) (length xs)) refl
+  front-says : (k : ℕ) → 1 ≤ k → in-front k ≡ true → Tells (cause k)
+  unfolding in-front
+  front-says k l e =
+      let h = ltb-true (rank k) (rank 7) e in
+      record {
+        off = λ q. absurd (omega (arith, (rw q at h)));
+        low = λ q. absurd (omega (arith, (rw q at h), seven-first));
+        right = λ q. absurd (omega (arith, seven-first));
+        rest = λ a b. refl;
+      }
+
+  rear-says : Right → (k : ℕ) → 1 ≤ k → in-the-rear k ≡ true → Tells (cause k)
+  unfolding in-the-rear
+  rear-says r k l e =
+      let h = ltb-true (rank 18) (rank k) e in
+      record {
+        off = λ q. absurd (omega (arith, (rw q at h), seven-first));
+        low = λ q. absurd (omega (arith, (rw q at h)));
+        right = λ q. r;
+        rest = λ a b. refl;
+      }
+
+  pub passes : Right → Tells none
+  passes r = record { off = λ q. absurd (omega arith); low = λ q. absurd (omega arith); right = λ q. r; rest = λ a b. refl }
+
+  -- THE STARTS, with causes in front of them and behind them: what a list tells
+  starts-tell : (rest : List Cause) → all-plain in-the-rear rest ≡ true
+      → Tells (first-of (at-fault 7 (first-off n xs) (length xs) ∷ at-fault 18 (first-low xs) (length xs) ∷ rest))
+  unfolding first-of least-at
+  starts-tell rest e = go (ltb (first-off n xs) (length xs)) refl (ltb (first-low xs) (length xs)) refl
     where
       on : ltb (first-off n xs) (length xs) ≡ false → All-on n xs (length xs)
       on e i l = ltb-true _ n (before (on-board n) 0 xs i (omega (arith, ltb-false (first-off n xs) (length xs) e)))
@@ -140,87 +133,60 @@ module _ (n : ℕ) (xs : List Start) where
       rise k h i l = leb-true _ _ (before leb 0 xs (suc i) (omega arith))
 
       go : (p : Bool) → ltb (first-off n xs) (length xs) ≡ p → (q : Bool) → ltb (first-low xs) (length xs) ≡ q
-          → Tells (cond p (cause-at 7 (first-off n xs)) (cond q (cause-at 18 (first-low xs)) (cond (late xs) (cause 8) none)))
-      go true e q f =
-          let h = ltb-true (first-off n xs) (length xs) e in
+          → Tells (cond p (cause-at 7 (first-off n xs)) (cond q (cause-at 18 (first-low xs)) (first-of rest)))
+      go true a q b =
+          let h = ltb-true (first-off n xs) (length xs) a in
           record {
             off = λ z. (h, ltb-false _ n (there (on-board n) 0 xs h), λ i l. ltb-true _ n (before (on-board n) 0 xs i l));
             low = λ z. absurd (omega arith);
-            right = λ o c d i. absurd (looked-for-before 7 (omega arith) (omega arith) o);
+            right = λ z. absurd (omega (arith, seven-first));
             rest = λ a b. absurd (a refl);
           }
-      go false e true f =
-          let h = ltb-true (first-low xs) (length xs) f in
+      go false a true b =
+          let h = ltb-true (first-low xs) (length xs) b in
           let s = below-least xs (first-low xs) (leb-false _ _ (there leb 0 xs h)) in
           record {
             off = λ z. absurd (omega arith);
-            low = λ z. (s .0, h, s .1, rise (first-low xs) (omega arith), on e);
-            right = λ a b c d. absurd (b refl);
+            low = λ z. (s .0, h, s .1, rise (first-low xs) (omega arith), on a);
+            right = λ z. absurd (omega arith);
             rest = λ a b. absurd (b refl);
           }
-      go false e false f =
-          let r : Right = (on e, rise (length xs) (ltb-false (first-low xs) (length xs) f)) in
-          tested r (late xs) _ none refl (passes r)
+      go false a false b =
+          let r : Right = (on a, rise (length xs) (ltb-false (first-low xs) (length xs) b)) in
+          rw append-nil at (past in-the-rear (rear-says r) rest [] e (passes r))
+
+  pub tells : (front rest : List Cause) → all-plain in-front front ≡ true → all-plain in-the-rear rest ≡ true
+      → Tells (first-of (front ++ (at-fault 7 (first-off n xs) (length xs) ∷ at-fault 18 (first-low xs) (length xs) ∷ rest)))
+  tells front rest a b = past in-front front-says front _ a (starts-tell rest b)
 
   -- ---- and the answer
+  pub tells-none : (k : Refusal) → k .number ≡ 0 → Tells k → Tells none
+  tells-none k z t = passes (t .right (rw z nothing-last))
+
   pub tells-answer : (k : Refusal) (c : ℕ) → Tells k → First-at-fault n xs (answered k c .number) (answered k c .place)
   unfolding answer
   tells-answer k c t = elim (ℕ-discrete (k .number) 0) [
-    | yes z ↦ rw (answered-zero k c z) (passes (t .right (inl z) (λ q. omega arith) (λ q. omega arith) (λ q. omega arith)))
+    | yes z ↦ rw (answered-zero k c z) (tells-none k z t)
     | no d ↦ rw (answered-refused k c d) t
   ]
 
-  -- ---- the job and the lists
-  module _ (r : Right) where
-    tells-tiles : (b : Board) (tw th : ℕ) (ys : List ℕ) → Tells (tiles-refusal b tw th ys)
-    unfolding tiles-refusal
-    tells-tiles b tw th ys = tested r (not (sides-good tw th)) _ _ refl (tested r (not (order-good b tw th ys)) _ none refl (passes r))
-
-    tells-job : (b : Board) (j : Job) (ys : List ℕ) → Tells (job-refusal b j ys)
-    unfolding job-refusal
-    tells-job b (March z) ys = tested r (ltb largest z) _ none refl (passes r)
-    tells-job b (Round tw th m) ys = tested r (ltb largest m) _ _ refl (tells-tiles b tw th ys)
-    tells-job b (Run tw th s z) ys = tested r (ltb largest z || (eqb s 0 || ltb largest s)) _ _ refl (tells-tiles b tw th ys)
-
-    tells-lists : (m t s w : ℕ) → Tells (lists-refusal m t s w)
-    unfolding lists-refusal
-    tells-lists m t s w = tested r (not (eqb t m)) _ _ refl (tested r (not (eqb s m) || ltb w (4 * m)) _ none refl (passes r))
-
--- the starts of a board
-pub tells-starts : (b : Board) → Tells (size b) (b .starts) (starts-refusal b)
-unfolding starts-refusal
-tells-starts b =
-    let n = size b in
-    let xs = b .starts in
-    after n xs _ _ (tells-records n xs) (λ r. tested n xs r (on-wall b xs) _ none refl (passes n xs r))
-
--- a board as it is handed in: 2, 4, 5, 21 and 23 stand in front of them
-tells-handed : (p : Handed) → Tells (size (p .board)) (p .board .starts) (handed-refusal p)
-unfolding handed-refusal
-tells-handed p =
-    let b = p .board in
-    let n = size b in
-    let xs = b .starts in
-    early n xs (not (sides-good (b .wide) (b .high))) _ _ refl
-    (early n xs (not (p .paired && eqb (length (b .slow)) n)) _ _ refl
-    (behind n xs _ _ (hides-house n xs (b .wide) (b .high) (b .storeys) (b .slow)) (tells-starts b)))
-
 -- THE PLACE in the answer of a call
 pub place-is-first : Place-is-first
-unfolding Place-is-first ledger-answer refusal
-place-is-first c q =
-    let b = call-board c in
-    let n = size b in
-    let xs = b .starts in
-    tells-answer n xs _ _
-    (after n xs _ _ (tells-handed (c .handed))
-    (λ r. after n xs _ _ (tells-job n xs r b (c .job) (c .order)) (λ r. tells-lists n xs r n (length (q .times)) (length (q .sides)) (c .work))))
+unfolding Place-is-first own-answer own-refusal call-causes board-causes pair-causes start-causes record-causes job-causes tile-causes list-causes
+    all-plain in-front in-the-rear rank rank-in
+place-is-first c ts = tells-answer (size (call-board c)) (call-board c .starts) _ _ (go (c .handed) (c .job) (c .order) (c .sides) (c .work))
+  where
+    go : (p : Handed) (j : Job) (ys : List ℕ) (n w : ℕ)
+        → Tells (size (p .board)) (p .board .starts) (first-of (call-causes (call p j ys n w) nothing-own (length ts)))
+    go p (March z) ys n w = tells (size (p .board)) (p .board .starts) (_ ∷ _ ∷ _ ∷ _ ∷ _ ∷ _ ∷ _ ∷ []) _ refl refl
+    go p (Round tw th m) ys n w = tells (size (p .board)) (p .board .starts) (_ ∷ _ ∷ _ ∷ _ ∷ _ ∷ _ ∷ _ ∷ []) _ refl refl
+    go p (Run tw th s z) ys n w = tells (size (p .board)) (p .board .starts) (_ ∷ _ ∷ _ ∷ _ ∷ _ ∷ _ ∷ _ ∷ []) _ refl refl
 
 -- and all along a list of calls
 pub every-place : Every-place
 unfolding Every-place Place-is-first
-every-place _ _ _ _ s = along s
+every-place _ _ _ _ _ _ s = along s
   where
-    along : {cs : List Call} {xs : List Reply} {a z : Sheet} → Steps a cs xs z → All-place cs xs
+    along : {cs : List Call} {xs : List Reply} {us vs : List (List ℕ)} {a z : List ℕ} → Steps a cs xs us vs z → All-place cs xs
     along (Steps.done a) = All-place.done
-    along (Steps.then l m z c x cs xs s rest) = All-place.then c x cs xs (rw (s .answers) (place-is-first c (l .sheet))) (along rest)
+    along (Steps.then l m z c x cs xs us vs s rest) = All-place.then c x cs xs (rw (s .answers) (place-is-first c (l .sheet .times))) (along rest)

@@ -1,8 +1,10 @@
 -- THE PROMISES, gathered: each statement of specs/Promise.antt with its proof.
-use Rattle.eikonal.specs.Promise.{Place-is-first, Local-least, Old-rule, Diagonal-step, One-solution, Times-below, Never-past-horizon, Never-unjoined}
+use Rattle.eikonal.specs.Promise.{Calls-in-order, Local-in-order, Place-is-first}
+use Rattle.eikonal.specs.Promise.{Local-least, Old-rule, Diagonal-step, One-solution, Times-below, Never-past-horizon, Never-unjoined}
 use Rattle.eikonal.specs.Promise.{Round-is-solution, Run-is-march, Rounds-least, Few-rounds, Order-free, Run-order-free, Run-is-rounds, Every-list}
-use Rattle.eikonal.specs.Promise.{Sides-order-free, Every-place, Lists-keep, Earlier-no-later, Quicker-no-later, One-set}
+use Rattle.eikonal.specs.Promise.{Sides-order-free, Every-sheet, Every-place, Lists-keep, Earlier-no-later, Quicker-no-later, One-set}
 use Rattle.eikonal.specs.Promise.{Same-handed, Lists-are-records, Same-answers, Third-condition}
+use Rattle.eikonal.specs.Promise.{One-local-least, One-diagonal-step}
 use Rattle.eikonal.proofs.LocalRule as local-rule
 use Rattle.eikonal.proofs.Lattices as lattices
 use Rattle.eikonal.proofs.Slower as slower
@@ -12,6 +14,13 @@ use Rattle.eikonal.proofs.Rounds as rounds
 use Rattle.eikonal.proofs.Sides as sides
 use Rattle.eikonal.proofs.Ledger as ledger
 use Rattle.eikonal.proofs.Places as places
+
+-- the one order
+pub calls-in-order : Calls-in-order
+calls-in-order = places.calls-in-order
+
+pub local-in-order : Local-in-order
+local-in-order = places.local-in-order
 
 -- the place of a start at fault
 pub place-is-first : Place-is-first
@@ -26,6 +35,12 @@ old-rule = local-rule.old-rule
 
 pub diagonal-step : Diagonal-step
 diagonal-step = local-rule.diagonal-step
+
+pub one-local-least : One-local-least
+one-local-least = local-rule.one-local-least
+
+pub one-diagonal-step : One-diagonal-step
+one-diagonal-step = local-rule.one-diagonal-step
 
 -- any number of axes
 pub earlier-no-later : Earlier-no-later
@@ -78,6 +93,9 @@ run-is-rounds = ledger.run-is-rounds
 pub every-list : Every-list
 every-list = ledger.every-list
 
+pub every-sheet : Every-sheet
+every-sheet = ledger.every-sheet
+
 pub every-place : Every-place
 every-place = places.every-place
 
@@ -87,6 +105,7 @@ lists-keep = ledger.lists-keep
 pub third-condition : Third-condition
 third-condition = record {
   every-list = every-list;
+  every-sheet = every-sheet;
   every-place = every-place;
   round-is-solution = round-is-solution;
   run-is-march = run-is-march;

@@ -12,9 +12,10 @@ use Rattle.eikonal.specs.Board.{Board, board-of, never, largest, size, s
 use Rattle.eikonal.specs.Board.{local-of, local, diagonal, start-time, arrival, met, time, one-pass, passes-of, all-never, solved, cut, marched}
 use Rattle.eikonal.specs.Tiles.{up, tile-of, counts-as, round, solved-in-tiles, after-rounds}
 use Rattle.eikonal.specs.Sides.{side, sides-of, local-sides, sides-seen, cell-sides, sides-from, march-sides, round-sides, sides-after}
-use Rattle.eikonal.specs.Refusals.{cause, cause-at, or-else, steep, half-wall, pairs-refusal}
+use Rattle.eikonal.specs.Order.{cause, cause-at, first-of}
+use Rattle.eikonal.specs.Refusals.{steep, half-wall}
 use Rattle.eikonal.specs.Ledger.{answer, answered}
-use Rattle.eikonal.specs.Entry.{seen, pair-refusal, local-refusal, local-answer, local-answered, step-refusal}
+use Rattle.eikonal.specs.Entry.{seen, local-causes, local-refusal, local-answer, local-answered, step-refusal}
 use Rattle.eikonal.specs.declared.Reply.{Reply}
 use Rattle.eikonal.specs.declared.LocalReply.{LocalReply}
 use Rattle.eikonal.proofs.Good.{and-true}
@@ -151,7 +152,7 @@ all-hold [] e = tt
 all-hold (r ∷ rs) e = let both = and-true (right r) (all-right rs) e in (holds r (both .0), all-hold rs (both .1))
 
 computed : all-right table ≡ true
-unfolding all-right right table same-list same-reply same-local answered answer local-answered local-answer local-refusal or-else pair-refusal pairs-refusal
+unfolding all-right right table same-list same-reply same-local answered answer local-answered local-answer local-refusal local-causes first-of
     steep half-wall seen step-refusal local local-of local-sides side sides-of diagonal earlier
     least-from passes square marched cut solved passes-of one-pass all-never met arrival start-time size slowness along-row down-column time sight place
     up tile-of counts-as round solved-in-tiles after-rounds sides-seen cell-sides sides-from march-sides round-sides sides-after

@@ -1,6 +1,4 @@
 -- Definitions that only contracts inside the library cite: no public promise rests on these.
-pub mod Flaws
-pub mod Judge
 pub mod Good
 pub mod Clip
 pub mod Weighed

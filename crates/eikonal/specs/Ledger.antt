@@ -7,8 +7,10 @@ use lib.ListN.{length, drop, replicate}
 use Rattle.eikonal.specs.Board.{Board, size, solved, marched, reached}
 use Rattle.eikonal.specs.Tiles.{round, altered, rounds}
 use Rattle.eikonal.specs.Sides.{march-sides, round-sides}
-use Rattle.eikonal.specs.Refusals.{Handed, none, or-else, handed-refusal, job-refusal, lists-refusal}
+use Rattle.eikonal.specs.Order.{Cause, found, none, first-of}
+use Rattle.eikonal.specs.Refusals.{Handed, board-causes, job-causes, list-causes, nothing-own}
 use Rattle.eikonal.specs.declared.Refusal.{Refusal}
+use Rattle.eikonal.specs.declared.Own.{Own}
 use Rattle.eikonal.specs.declared.Reply.{Reply}
 use Rattle.eikonal.specs.declared.Job.{Job}
 use Rattle.eikonal.specs.declared.Job.the-variants.{March, Round, Run}
@@ -21,28 +23,31 @@ pub record Sheet : Type 0 where
 abbrev pub sheet : (times sides : List ℕ) → Sheet
 sheet ts ss = record { times = ts; sides = ss }
 
--- A CALL on one sheet: a board of its own, what is to be done (a march, a round, a tile run: the code's own enum),
--- the order of tiles, which a march has not, and the work list's length
+-- A CALL: a board of its own, what is to be done (a march, a round, a tile run: the code's own enum), the order of tiles, which a march has not, and
+-- the lengths of the sides and of the work list that it is lent
 pub record Call : Type 0 where
   pub handed : Handed
   pub job : Job
   pub order : List ℕ
+  pub sides : ℕ
   pub work : ℕ
 
-abbrev pub call : Handed → Job → (order : List ℕ) → (work : ℕ) → Call
-call p j xs w = record { handed = p; job = j; order = xs; work = w }
+abbrev pub call : Handed → Job → (order : List ℕ) → (sides work : ℕ) → Call
+call p j xs s w = record { handed = p; job = j; order = xs; sides = s; work = w }
 
 -- the board that was handed in
 abbrev pub call-board : Call → Board
 call-board c = c .handed .board
 
--- by the lengths of the times and of the sides
-unfoldable pub refusal : Call → (times sides : ℕ) → Refusal
-refusal c t s =
-    or-else (handed-refusal (c .handed)) (or-else (job-refusal (call-board c) (c .job) (c .order)) (lists-refusal (size (call-board c)) t s (c .work)))
+-- ALL CAUSES OF A CALL that is lent so many times, in the one order, with those of its own: values that were found, by the slots where they are due
+unfoldable pub call-causes : Call → Own → (times : ℕ) → List Cause
+call-causes c o t =
+    let b = call-board c in
+    board-causes (c .handed) (b .slow) (o .ticks) (o .kinds)
+    ++ found (o .cell) ∷ (job-causes b (c .job) (c .order) ++ list-causes (size b) t (c .sides) (c .work) o)
 
-abbrev pub refusal-on : Call → Sheet → Refusal
-refusal-on c p = refusal c (length (p .times)) (length (p .sides))
+unfoldable pub own-refusal : Call → Own → (times : ℕ) → Refusal
+own-refusal c o t = first-of (call-causes c o t)
 
 -- what an accepted call enters: no side of before counts
 unfoldable pub entered : Board → Job → (times : List ℕ) → Sheet
@@ -63,25 +68,61 @@ answer k c = record { number = k .number; count = c; place = k .place }
 unfoldable pub answered : Refusal → (count : ℕ) → Reply
 answered k c = cond (eqb (k .number) 0) (answer none c) (answer k 0)
 
-unfoldable pub ledger-answer : Call → Sheet → Reply
-ledger-answer c p = answered (refusal-on c p) (counted (call-board c) (c .job) (p .times))
+-- what is there after a call by its refusal: one thing where it is accepted, another where not
+abbrev pub if-taken : {A : Type 0} → Refusal → (taken kept : A) → A
+if-taken k x y = cond (eqb (k .number) 0) x y
 
-unfoldable pub ledger-after : Call → Sheet → Sheet
-ledger-after c p = cond (eqb (refusal-on c p .number) 0) (entered (call-board c) (c .job) (p .times)) p
+-- WHAT A CALL WITH CAUSES OF ITS OWN answers and leaves in the times, in the sides and in the work list, whose first 4 N entries are 0 after an
+-- accepted one. A refused call leaves all as they were
+module _ (c : Call) (o : Own) (ts : List ℕ) where
+  abbrev pub refused-by : Refusal
+  refused-by = own-refusal c o (length ts)
 
--- the work list: 0 in its first 4 N entries after an accepted call, untouched by a refused one
-unfoldable pub work-after : Call → Sheet → (work : List ℕ) → List ℕ
-work-after c p ws =
-    cond (eqb (refusal-on c p .number) 0) (replicate (4 * size (call-board c)) 0 ++ drop (4 * size (call-board c)) ws) ws
+  unfoldable pub own-answer : Reply
+  own-answer = answered refused-by (counted (call-board c) (c .job) ts)
 
--- THE LEDGER holds one sheet, and the answers so far
+  unfoldable pub own-times : List ℕ
+  own-times = if-taken refused-by (entered (call-board c) (c .job) ts .times) ts
+
+  unfoldable pub own-sides : (sides : List ℕ) → List ℕ
+  own-sides ss = if-taken refused-by (entered (call-board c) (c .job) ts .sides) ss
+
+  unfoldable pub own-work : (work : List ℕ) → List ℕ
+  own-work ws = if-taken refused-by (replicate (4 * size (call-board c)) 0 ++ drop (4 * size (call-board c)) ws) ws
+
+-- OF THE LEDGER'S CALLS: they have none
+abbrev pub refusal : Call → (times : ℕ) → Refusal
+refusal c t = own-refusal c nothing-own t
+
+abbrev pub ledger-answer : Call → (times : List ℕ) → Reply
+ledger-answer c ts = own-answer c nothing-own ts
+
+abbrev pub times-after : Call → (times : List ℕ) → List ℕ
+times-after c ts = own-times c nothing-own ts
+
+-- whatever sides were lent: of them it is fed the length alone
+abbrev pub sides-left : Call → (times sides : List ℕ) → List ℕ
+sides-left c ts ss = own-sides c nothing-own ts ss
+
+-- THE LEDGER holds one list of times, and the answers so far
 pub record Book : Type 0 where
   pub answers : List Reply
-  pub sheet : Sheet
+  pub times : List ℕ
 
-unfoldable pub book : List Reply → Sheet → Book
-book xs p = record { answers = xs; sheet = p }
+unfoldable pub book : List Reply → (times : List ℕ) → Book
+book xs ts = record { answers = xs; times = ts }
 
-unfoldable pub ledger : List Call → (so-far : List Reply) → Sheet → Book
-ledger [] xs p = book xs p
-ledger (c ∷ cs) xs p = ledger cs (xs ++ (ledger-answer c p ∷ [])) (ledger-after c p)
+unfoldable pub ledger : List Call → (so-far : List Reply) → (times : List ℕ) → Book
+ledger [] xs ts = book xs ts
+ledger (c ∷ cs) xs ts = ledger cs (xs ++ (ledger-answer c ts ∷ [])) (times-after c ts)
+
+-- and what each call leaves in the sides that it is lent
+unfoldable pub ledger-sides : List Call → (lent : List (List ℕ)) → (times : List ℕ) → List (List ℕ)
+ledger-sides [] us ts = []
+ledger-sides (c ∷ cs) [] ts = []
+ledger-sides (c ∷ cs) (u ∷ us) ts = sides-left c ts u ∷ ledger-sides cs us (times-after c ts)
+
+-- where each is lent those that the one before left: what the last of them leaves
+unfoldable pub sides-along : List Call → (times sides : List ℕ) → List ℕ
+sides-along [] ts ss = ss
+sides-along (c ∷ cs) ts ss = sides-along cs (times-after c ts) (sides-left c ts ss)

@@ -2,6 +2,7 @@ pub mod Axes
 pub mod Board
 pub mod Tiles
 pub mod Sides
+pub mod Order
 pub mod Refusals
 pub mod Ledger
 pub mod Entry

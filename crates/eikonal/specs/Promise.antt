@@ -11,16 +11,25 @@ use Rattle.eikonal.specs.Board.{Board, axes, size, slowness, start-time,
 use Rattle.eikonal.specs.Board.{all-never, least-from, square, passes, earlier}
 use Rattle.eikonal.specs.declared.Start.{Start}
 use Rattle.eikonal.specs.Tiles.{Meets-in-tiles, solved-in-tiles, after-rounds, last-round, rounds, up}
-use Rattle.eikonal.specs.Refusals.{Handed, by-lists, by-records, starts-of, cells-of, begins-of, board-refusal, order-good}
+use Rattle.eikonal.specs.Order.{In-order, Looked-for-behind}
+use Rattle.eikonal.specs.Refusals.{Handed, by-lists, by-records, starts-of, cells-of, begins-of, board-refusal, order-good, nothing-own}
 use Rattle.eikonal.specs.Sides.{march-sides, sides-after}
-use Rattle.eikonal.specs.Ledger.{Sheet, sheet, Call, call, call-board, refusal, ledger-answer, ledger-after, Book, book, ledger}
-use Rattle.eikonal.specs.Entry.{Lent, Says}
+use Rattle.eikonal.specs.Ledger.{Call, call, call-board, call-causes, refusal, ledger-answer, times-after, sides-left}
+use Rattle.eikonal.specs.Ledger.{Book, book, ledger, ledger-sides, sides-along}
+use Rattle.eikonal.specs.Entry.{Lent, Says, local-causes}
 use Rattle.eikonal.specs.declared.Reply.{Reply}
 use Rattle.eikonal.specs.declared.Job.{Job}
 use Rattle.eikonal.specs.declared.Job.the-variants.{March, Round, Run}
 
 unfoldable pub board-good : Board → Bool
 board-good b = eqb (board-refusal b .number) 0
+
+-- ---- THE ONE ORDER: the causes of every call follow it
+unfoldable pub Calls-in-order : Type 0
+Calls-in-order = (c : Call) (t : ℕ) → In-order (call-causes c nothing-own t)
+
+unfoldable pub Local-in-order : Type 0
+Local-in-order = (g h o n : ℕ) → In-order (local-causes g h o n)
 
 -- ---- THE PLACE OF A START AT FAULT is the position, from 0, of the first that is at fault by that cause
 abbrev pub cell-at : List Start → (place : ℕ) → ℕ
@@ -35,13 +44,13 @@ All-rise xs k = (i : ℕ) → suc i < k → cell-at xs i < cell-at xs (suc i)
 
 -- what a number and the place beside it say of the starts xs, on a board of n cells
 pub record First-at-fault (n : ℕ) (xs : List Start) (number place : ℕ) : Type 0 where
-  -- 7: the cell there is off the board, and none before it is
+  -- 7, of the list: the cell there is off the board, and none before it is
   pub off : number ≡ 7 → (place < length xs) × (n ≤ cell-at xs place) × All-on n xs place
   -- 18: the cell there is not above the one before it, every earlier one is above its own, and none in the list is off the board
   pub low : number ≡ 18 → (1 ≤ place) × (place < length xs) × (cell-at xs place ≤ cell-at xs (place - 1))
       × All-rise xs place × All-on n xs (length xs)
-  -- 0, and all numbers that are looked for behind both, as 21 and 23 are not: no start is at fault by either
-  pub right : (number ≡ 0) ⊎ (8 ≤ number) → number ≢ 18 → number ≢ 21 → number ≢ 23 → All-on n xs (length xs) × All-rise xs (length xs)
+  -- all numbers that are looked for behind both, and 0, nothing found: no start is at fault by either
+  pub right : Looked-for-behind 18 number → All-on n xs (length xs) × All-rise xs (length xs)
   -- any number but these two, 0 too
   pub rest : number ≢ 7 → number ≢ 18 → place ≡ 0
 
@@ -50,7 +59,7 @@ abbrev pub Places : Call → Reply → Type 0
 Places c x = First-at-fault (size (call-board c)) (call-board c .starts) (x .number) (x .place)
 
 unfoldable pub Place-is-first : Type 0
-Place-is-first = (c : Call) (q : Sheet) → Places c (ledger-answer c q)
+Place-is-first = (c : Call) (ts : List ℕ) → Places c (ledger-answer c ts)
 
 -- ---- THE LOCAL RULE: its answer passes, and no earlier time does; it is at most a straight step away from each axis
 unfoldable pub Local-least : Type 0
@@ -81,11 +90,25 @@ one-local s l r u d =
 unfoldable pub Old-rule : Type 0
 Old-rule = (s l r u d : ℕ) → min never (local s s l r u d never never) ≡ min never (one-local s l r u d)
 
--- with equal numbers and equal sides it is D away, where the third square is zero: the time between storeys is not before that
+-- and what document 03 says of that rule, word for word: its answer passes, and no earlier time does; it is at most a straight step away,
+unfoldable pub One-local-least : Type 0
+One-local-least =
+    (s l r u d t : ℕ) → 1 ≤ s → s ≤ 4095 → earlier (earlier l r) (earlier u d) < never →
+    (one-passes s (earlier l r) (earlier u d) (one-local s l r u d) ≡ true)
+    × (one-local s l r u d ≤ earlier (earlier l r) (earlier u d) + s)
+    × (earlier (earlier l r) (earlier u d) ≤ t → t < one-local s l r u d → one-passes s (earlier l r) (earlier u d) t ≡ false)
+
+-- and for equal sides D away
+unfoldable pub One-diagonal-step : Type 0
+One-diagonal-step = (s a : ℕ) → 1 ≤ s → s ≤ 4095 → a < never → one-local s a never a never ≡ a + diagonal s
+
+-- with equal numbers and equal sides, a, it is D away as far as the third square is zero: up to the time between storeys. If a + D is past that, so is
+-- the answer: with nothing over or under it is D away for every a below never, up to never
 unfoldable pub Diagonal-step : Type 0
 Diagonal-step =
-    (s l r u d o n : ℕ) → 1 ≤ s → s ≤ 4095 → earlier l r ≡ earlier u d → earlier l r < never → earlier l r + diagonal s ≤ earlier o n →
-    local s s l r u d o n ≡ earlier l r + diagonal s
+    (s l r u d o n : ℕ) → 1 ≤ s → s ≤ 4095 → earlier l r ≡ earlier u d → earlier l r < never →
+    (earlier l r + diagonal s ≤ earlier o n → local s s l r u d o n ≡ earlier l r + diagonal s)
+    × (earlier o n < earlier l r + diagonal s → earlier o n < local s s l r u d o n)
 
 -- ---- ANY NUMBER OF AXES: earlier neighbours give no later answer; a time above never counts as never
 unfoldable pub Earlier-no-later : Type 0
@@ -177,44 +200,65 @@ ordered b (Run tw th s z) xs = order-good b tw th xs
 
 unfoldable pub Order-free : Type 0
 Order-free =
-    (p : Handed) (j : Job) (w : ℕ) (xs ys : List ℕ) (q : Sheet) → ordered (p .board) j xs ≡ true → ordered (p .board) j ys ≡ true →
-    (ledger-after (call p j xs w) q ≡ ledger-after (call p j ys w) q) × (ledger-answer (call p j xs w) q ≡ ledger-answer (call p j ys w) q)
+    (p : Handed) (j : Job) (n w : ℕ) (xs ys ts : List ℕ) → ordered (p .board) j xs ≡ true → ordered (p .board) j ys ≡ true →
+    let c = call p j xs n w in
+    let d = call p j ys n w in
+    (times-after c ts ≡ times-after d ts) × (ledger-answer c ts ≡ ledger-answer d ts) × ((ss : List ℕ) → sides-left c ts ss ≡ sides-left d ts ss)
 
--- j single rounds with a tile run's arguments and bounds
-unfoldable pub single-rounds : (j : ℕ) → Handed → (tw th stride horizon : ℕ) → (order : List ℕ) → (work : ℕ) → List Call
-single-rounds zero p tw th s h xs w = []
-single-rounds (suc j) p tw th s h xs w =
-    single-rounds j p tw th s h xs w ++ (call p (Round tw th (min (suc j * s) h)) xs w ∷ [])
+-- round j + 1 of a tile run as a single round; and the first j of them
+abbrev pub single-round : (j : ℕ) → Handed → (tw th stride horizon : ℕ) → (order : List ℕ) → (sides work : ℕ) → Call
+single-round j p tw th s h xs n w = call p (Round tw th (min (suc j * s) h)) xs n w
 
--- what a tile run holds after its round j is what j single rounds leave, called in turn from all never, whatever sides are lent to the first
+unfoldable pub single-rounds : (j : ℕ) → Handed → (tw th stride horizon : ℕ) → (order : List ℕ) → (sides work : ℕ) → List Call
+single-rounds zero p tw th s h xs n w = []
+single-rounds (suc j) p tw th s h xs n w = single-rounds j p tw th s h xs n w ++ (single-round j p tw th s h xs n w ∷ [])
+
+-- the times that they leave, called in turn from all never
+abbrev pub rounds-leave : (j : ℕ) → Handed → (tw th stride horizon : ℕ) → (order : List ℕ) → (sides work : ℕ) → List ℕ
+rounds-leave j p tw th s h xs n w = ledger (single-rounds j p tw th s h xs n w) [] (all-never (p .board)) .times
+
+-- are those that a tile run holds after its round j; and the sides that the next one leaves, in whatever list it is lent, are the run's after that
 unfoldable pub Run-is-rounds : Type 0
 Run-is-rounds =
-    (p : Handed) (tw th s h w j : ℕ) (xs ss : List ℕ) → refusal (call p (Run tw th s h) xs w) (size (p .board)) (length ss) .number ≡ 0 →
-    let left = ledger (single-rounds j p tw th s h xs w) [] (sheet (all-never (p .board)) ss) .sheet in
-    (left .times ≡ after-rounds j (p .board) tw th s h) × (1 ≤ j → left .sides ≡ sides-after j (p .board) tw th s h)
+    (p : Handed) (tw th s h n w j : ℕ) (xs : List ℕ) → refusal (call p (Run tw th s h) xs n w) (size (p .board)) .number ≡ 0 →
+    let left = rounds-leave j p tw th s h xs n w in
+    (left ≡ after-rounds j (p .board) tw th s h)
+    × ((ss : List ℕ) → sides-left (single-round j p tw th s h xs n w) left ss ≡ sides-after (suc j) (p .board) tw th s h)
 
 -- two runs that differ in the order alone hold the same after every round,
 unfoldable pub Run-order-free : Type 0
 Run-order-free =
-    (p : Handed) (tw th s h w : ℕ) (xs ys : List ℕ) (q : Sheet) → order-good (p .board) tw th xs ≡ true → order-good (p .board) tw th ys ≡ true →
-    (j : ℕ) → ledger (single-rounds j p tw th s h xs w) [] q ≡ ledger (single-rounds j p tw th s h ys w) [] q
+    (p : Handed) (tw th s h n w : ℕ) (xs ys ts : List ℕ) → order-good (p .board) tw th xs ≡ true → order-good (p .board) tw th ys ≡ true →
+    (j : ℕ) → ledger (single-rounds j p tw th s h xs n w) [] ts ≡ ledger (single-rounds j p tw th s h ys n w) [] ts
 
--- equal sides among it: TWO ORDERS OF TILES GIVE EQUAL SIDES AFTER EACH ROUND
+-- and leave equal sides: TWO ORDERS OF TILES GIVE EQUAL SIDES AFTER EACH ROUND, whatever sides each round is lent
 unfoldable pub Sides-order-free : Type 0
 Sides-order-free =
-    (p : Handed) (tw th s h w : ℕ) (xs ys : List ℕ) (q : Sheet) → order-good (p .board) tw th xs ≡ true → order-good (p .board) tw th ys ≡ true →
-    (j : ℕ) → ledger (single-rounds j p tw th s h xs w) [] q .sheet .sides ≡ ledger (single-rounds j p tw th s h ys w) [] q .sheet .sides
+    (p : Handed) (tw th s h n w : ℕ) (xs ys ts : List ℕ) → order-good (p .board) tw th xs ≡ true → order-good (p .board) tw th ys ≡ true →
+    (j : ℕ) (us : List (List ℕ)) → ledger-sides (single-rounds j p tw th s h xs n w) us ts ≡ ledger-sides (single-rounds j p tw th s h ys n w) us ts
 
--- a list of calls, each of which meets its contract and is lent the times and sides that the one before left
-pub data Steps : Sheet → List Call → List Reply → (last : Sheet) → Type 0 where
-  done : (a : Sheet) → Steps a [] [] a
-  then : (l m : Lent) (z : Sheet) (c : Call) (x : Reply) (cs : List Call) (xs : List Reply)
-      → Says c x l m → Steps (m .sheet) cs xs z → Steps (l .sheet) (c ∷ cs) (x ∷ xs) z
+-- a list of calls, each of which meets its contract and is lent the times that the one before left, and sides of its own: those that they are lent and leave
+pub data Steps : (times : List ℕ) → List Call → List Reply → (lent left : List (List ℕ)) → (last : List ℕ) → Type 0 where
+  done : (a : List ℕ) → Steps a [] [] [] [] a
+  then : (l m : Lent) (z : List ℕ) (c : Call) (x : Reply) (cs : List Call) (xs : List Reply) (us vs : List (List ℕ))
+      → Says c x l m → Steps (m .sheet .times) cs xs us vs z
+      → Steps (l .sheet .times) (c ∷ cs) (x ∷ xs) (l .sheet .sides ∷ us) (m .sheet .sides ∷ vs) z
 
--- A SINGLE CLAIM ABOUT THE WHOLE LIST: answers, with counts and places, times and sides are the ledger's
+-- A SINGLE CLAIM ABOUT THE WHOLE LIST: answers, with counts and places, times, and what is left in the sides are the ledger's
 unfoldable pub Every-list : Type 0
 Every-list =
-    (cs : List Call) (xs : List Reply) (a z : Sheet) → Steps a cs xs z → book xs z ≡ ledger cs [] a
+    (cs : List Call) (xs : List Reply) (us vs : List (List ℕ)) (a z : List ℕ) → Steps a cs xs us vs z →
+    (book xs z ≡ ledger cs [] a) × (vs ≡ ledger-sides cs us a)
+
+-- where one list of sides is handed on, the first call being lent p and the last one leaving q, that is the ledger's too
+pub data Handed-on : (p : List ℕ) → (lent left : List (List ℕ)) → (q : List ℕ) → Type 0 where
+  done : (p : List ℕ) → Handed-on p [] [] p
+  then : (p r q : List ℕ) (us vs : List (List ℕ)) → Handed-on r us vs q → Handed-on p (p ∷ us) (r ∷ vs) q
+
+unfoldable pub Every-sheet : Type 0
+Every-sheet =
+    (cs : List Call) (xs : List Reply) (us vs : List (List ℕ)) (a z p q : List ℕ) → Steps a cs xs us vs z → Handed-on p us vs q →
+    (book xs z ≡ ledger cs [] a) × (q ≡ sides-along cs a p)
 
 -- and each place is that of the first start at fault
 pub data All-place : List Call → List Reply → Type 0 where
@@ -222,21 +266,37 @@ pub data All-place : List Call → List Reply → Type 0 where
   then : (c : Call) (x : Reply) (cs : List Call) (xs : List Reply) → Places c x → All-place cs xs → All-place (c ∷ cs) (x ∷ xs)
 
 unfoldable pub Every-place : Type 0
-Every-place = (cs : List Call) (xs : List Reply) (a z : Sheet) → Steps a cs xs z → All-place cs xs
+Every-place = (cs : List Call) (xs : List Reply) (us vs : List (List ℕ)) (a z : List ℕ) → Steps a cs xs us vs z → All-place cs xs
 
 -- the same of a program as a function: one that keeps the ledger in each call keeps it along every list
 pub record Done : Type 0 where
   pub answered : Reply
-  pub left : Sheet
+  pub times : List ℕ
+  pub sides : List ℕ
 
-unfoldable pub played : (program : Call → Sheet → Done) → List Call → (so-far : List Reply) → Sheet → Book
-played f [] xs q = book xs q
-played f (c ∷ cs) xs q = played f cs (xs ++ (f c q .answered ∷ [])) (f c q .left)
+abbrev pub Program : Type 0
+Program = Call → (times sides : List ℕ) → Done
+
+pub record Keeps (f : Program) (c : Call) (ts ss : List ℕ) : Type 0 where
+  pub answers : f c ts ss .answered ≡ ledger-answer c ts
+  pub times : f c ts ss .times ≡ times-after c ts
+  pub sides : f c ts ss .sides ≡ sides-left c ts ss
+
+unfoldable pub played : Program → List Call → (lent : List (List ℕ)) → (so-far : List Reply) → (times : List ℕ) → Book
+played f [] us xs ts = book xs ts
+played f (c ∷ cs) [] xs ts = book xs ts
+played f (c ∷ cs) (u ∷ us) xs ts = played f cs us (xs ++ (f c ts u .answered ∷ [])) (f c ts u .times)
+
+unfoldable pub played-sides : Program → List Call → (lent : List (List ℕ)) → (times : List ℕ) → List (List ℕ)
+played-sides f [] us ts = []
+played-sides f (c ∷ cs) [] ts = []
+played-sides f (c ∷ cs) (u ∷ us) ts = f c ts u .sides ∷ played-sides f cs us (f c ts u .times)
 
 unfoldable pub Lists-keep : Type 0
 Lists-keep =
-    (f : Call → Sheet → Done) (cs : List Call) (q : Sheet) →
-    ((c : Call) (p : Sheet) → (f c p .answered ≡ ledger-answer c p) × (f c p .left ≡ ledger-after c p)) → played f cs [] q ≡ ledger cs [] q
+    (f : Program) (cs : List Call) (us : List (List ℕ)) (ts : List ℕ) → length us ≡ length cs →
+    ((c : Call) (ts ss : List ℕ) → Keeps f c ts ss) →
+    (played f cs us [] ts ≡ ledger cs [] ts) × (played-sides f cs us ts ≡ ledger-sides cs us ts)
 
 -- RECORDS AND PLAIN LISTS get the same answers: a board is the same, handed in as records or as the plain lists of their cells and times,
 unfoldable pub Same-handed : Type 0
@@ -255,6 +315,7 @@ Same-answers = (c : Call) (x y : Reply) (l m n : Lent) → Says c x l m → Says
 pub record Third-condition : Type 0 where
   -- every list of marches, tile runs and rounds, refused ones too, over records and over plain lists as it comes, is the ledger's
   pub every-list : Every-list
+  pub every-sheet : Every-sheet
   pub every-place : Every-place
   -- just one set of times meets the rule in tiles, the one whose cut a round is by definition
   pub round-is-solution : Round-is-solution

@@ -7,16 +7,19 @@ use Prim.Native.Nat.{ℕ, _*_, _≤_, _<_}
 use lib.ListN.{length, getD, drop, replicate}
 use Rattle.eikonal.specs.Board.{Board, largest, time, marched}
 use Rattle.eikonal.specs.Tiles.{tiled, round}
-use Rattle.eikonal.specs.Refusals.{none, order-good}
-use Rattle.eikonal.specs.Ledger.{Sheet, Call, call-board, refusal, entered, counted, answer}
+use Rattle.eikonal.specs.Order.{none}
+use Rattle.eikonal.specs.Refusals.{order-good}
+use Rattle.eikonal.specs.Ledger.{Sheet, Call, call-board, own-refusal, entered, counted, answer}
 use Rattle.eikonal.specs.Inner.Good.{Good}
 use Rattle.eikonal.specs.Inner.Sides.{sides-by}
-use Rattle.eikonal.specs.Inner.Judge.{starts-rise, judge, nothing-judged}
+use Rattle.eikonal.specs.Inner.Good.{starts-rise}
+use Rattle.refusals.specs.Judge.{judge, nothing-judged}
 use Rattle.eikonal.specs.declared.Start.{Start}
+use Rattle.eikonal.specs.declared.Own.{Own}
 use Rattle.eikonal.specs.declared.Reply.{Reply}
 use Rattle.eikonal.specs.declared.Job.{Job}
 use Rattle.eikonal.specs.declared.Job.the-variants.{March, Round, Run}
-use Rattle.eikonal.specs.declared.refusals.Judged.{Judged}
+use Rattle.refusals.specs.declared.board.Judged.{Judged}
 use Rattle.front.specs.Board.{land}
 use Rattle.front.specs.State.{Placed, Empty, Seeded, Standing}
 use Rattle.front.specs.declared.Shape.{Shape}
@@ -92,8 +95,8 @@ pub record Some-judged (slow : List ℕ) (j : Judged) : Type 0 where
   pub is : j ≡ judge slow starts nothing-judged
 
 -- the call is refused and the work list kept, or it is emptied for the call's board
-pub record Opened (c : Call) (times sides : ℕ) (t : Task) (work work' : List ℕ) : Type 0 where
-  pub judged : t .refusal ≡ refusal c times sides
+pub record Opened (c : Call) (o : Own) (times : ℕ) (t : Task) (work work' : List ℕ) : Type 0 where
+  pub judged : t .refusal ≡ own-refusal c o times
   pub kept : t .refusal .number ≢ 0 → work' ≡ work
   pub shape-is : t .refusal .number ≡ 0 → t .shape ≡ shaped (call-board c .wide) (call-board c .high) (call-board c .storeys) (c .job)
   pub emptied : t .refusal .number ≡ 0 → Empty (t .shape .cells) work work'

@@ -1,27 +1,31 @@
 // Every call on the front has one form: its starts are judged, it begins, they are placed, it ends, and the sides of those that no front came before
-// are cleared. Here the starts are plain lists; where they are records, only judging, placing and clearing differ. A refused call touches no list.
+// are cleared. Here the starts are plain lists; where they are records, only judging, placing and clearing differ. A refused call touches no list. What
+// a call looks for beside a march's causes it has found before, as values.
 ghost use mathlib.Core.Path.{_≡_};
-ghost use mathlib.Core.List.{List, []};
+ghost use mathlib.Core.List.{List};
 ghost use Prim.Native.Nat.{_*_, _≤_};
 ghost use lib.Dec.{eqb};
 ghost use lib.ListN.{length};
 ghost use Rattle.eikonal.specs.Board.{board-of};
 ghost use Rattle.eikonal.specs.Refusals.{handed, by-lists, starts-of};
 ghost use Rattle.eikonal.specs.Ledger.{sheet, call};
-ghost use Rattle.eikonal.specs.Entry.{lent, Says};
-ghost use Rattle.eikonal.specs.Inner.Judge.{judge, nothing-judged};
+ghost use Rattle.eikonal.specs.Entry.{lent, Counts};
+ghost use Rattle.refusals.specs.Judge.{judge, nothing-judged};
 ghost use Rattle.eikonal.specs.declared.Start.{Start};
-ghost use Rattle.eikonal.specs.declared.Job.the-variants.{March, Round, Run};
 ghost use Rattle.engine.specs.Calls.{shape-with, shaped, Some-judged, Opened, Sowable, Sown, Endable, Ended, Clearable, Clear};
 use eikonal::Job;
+use eikonal::Own;
 use eikonal::Refusal;
 use eikonal::Reply;
-use eikonal::refusals::Judged;
-use eikonal::refusals::house_size;
-use eikonal::refusals::judge_starts;
-use eikonal::refusals::nothing_judged;
+use eikonal::house_size;
 use front::Shape;
 use queue::lists::wide;
+use refusals::board::Judged;
+use refusals::board::board_refusal;
+use refusals::board::flawless;
+use refusals::board::judge_starts;
+use refusals::board::nothing_judged;
+use refusals::call::call_refusal;
 
 // What is left to do of a call: nothing if it is refused.
 pub struct Task {
@@ -73,6 +77,7 @@ pub fn begin(
     cells: usize,
     begins: usize,
     judged: Judged,
+    own: Own,
     job: Job,
     order: &[u32],
     times: usize,
@@ -81,10 +86,10 @@ pub fn begin(
 ) -> Task
     requires { ⌜ Some-judged (now slow) judged ⌝ }
     ensures { λ r. ⌜ ((xs : List Start) → judged ≡ judge (now (slow .entry)) xs nothing-judged
-        → Opened (call (handed (board-of width height storeys (now (slow .entry)) xs) (eqb cells begins)) job (now (order .entry)) (length (now (work .entry))))
-        times sides r (now (work .entry)) (now (work .exit))) ⌝ }
+        → Opened (call (handed (board-of width height storeys (now (slow .entry)) xs) (eqb cells begins)) job (now (order .entry)) sides
+        (length (now (work .entry)))) own times r (now (work .entry)) (now (work .exit))) ⌝ }
 {
-    let board = eikonal::refusals::handed_refusal(
+    let board = board_refusal(
         width,
         height,
         storeys,
@@ -92,8 +97,11 @@ pub fn begin(
         cells,
         begins,
         judged,
+        flawless(),
+        own.ticks,
+        own.kinds,
     );
-    let refusal = refusals::call_refusal(
+    let refusal = call_refusal(
         board,
         width,
         height,
@@ -103,6 +111,7 @@ pub fn begin(
         times,
         sides,
         work.len(),
+        own,
     );
     if refusal.number != 0 {
         return Task {
@@ -160,21 +169,23 @@ fn clear(task: Task, cells: &[u32], begins: &[u32], times: &[u32], sides: &mut [
     sides::clear::clear(times, sides, cells, begins);
 }
 
-fn play(
+// Counts what the ledger counts: the cells that a march reaches, the times that a round alters, the rounds of a tile run.
+pub fn play(
     width: u32,
     height: u32,
     storeys: u32,
     slow: &[u32],
     cells: &[u32],
     begins: &[u32],
+    own: Own,
     job: Job,
     order: &[u32],
     times: &mut [u32],
     sides: &mut [u8],
     work: &mut [u32],
 ) -> Reply
-    ensures { λ x. ⌜ Says (call (by-lists width height storeys (now (slow .entry)) (now (cells .entry)) (now (begins .entry))) job (now (order .entry))
-        (length (now (work .entry))))
+    ensures { λ x. ⌜ Counts (call (by-lists width height storeys (now (slow .entry)) (now (cells .entry)) (now (begins .entry))) job (now (order .entry))
+        (length (now (sides .entry))) (length (now (work .entry)))) own
         x (lent (now (times .entry)) (now (sides .entry)) (now (work .entry))) (lent (now (times .exit)) (now (sides .exit)) (now (work .exit))) ⌝ }
 {
     let judged = judge_starts(slow, cells, begins, nothing_judged());
@@ -186,6 +197,7 @@ fn play(
         cells.len(),
         begins.len(),
         judged,
+        own,
         job,
         order,
         times.len(),
@@ -196,119 +208,4 @@ fn play(
     let reply = end(task, job, slow, order, times, sides, work);
     clear(task, cells, begins, times, sides);
     reply
-}
-
-// The times of the solution up to the horizon. Counts the cells reached. It has no order of tiles.
-pub fn march(
-    width: u32,
-    height: u32,
-    storeys: u32,
-    slow: &[u32],
-    cells: &[u32],
-    begins: &[u32],
-    horizon: u32,
-    times: &mut [u32],
-    sides: &mut [u8],
-    work: &mut [u32],
-) -> Reply
-    ensures { λ x. ⌜ Says (call (by-lists width height storeys (now (slow .entry)) (now (cells .entry)) (now (begins .entry))) (March horizon) []
-        (length (now (work .entry))))
-        x (lent (now (times .entry)) (now (sides .entry)) (now (work .entry))) (lent (now (times .exit)) (now (sides .exit)) (now (work .exit))) ⌝ }
-{
-    let job = Job::March { horizon: horizon };
-    play(
-        width,
-        height,
-        storeys,
-        slow,
-        cells,
-        begins,
-        job,
-        &slow[..0],
-        times,
-        sides,
-        work,
-    )
-}
-
-// One round over stored times. Counts the entries altered.
-pub fn one_round(
-    width: u32,
-    height: u32,
-    storeys: u32,
-    slow: &[u32],
-    cells: &[u32],
-    begins: &[u32],
-    across: u32,
-    down: u32,
-    bound: u32,
-    order: &[u32],
-    times: &mut [u32],
-    sides: &mut [u8],
-    work: &mut [u32],
-) -> Reply
-    ensures { λ x. ⌜ Says (call (by-lists width height storeys (now (slow .entry)) (now (cells .entry)) (now (begins .entry))) (Round across down bound)
-        (now (order .entry)) (length (now (work .entry))))
-        x (lent (now (times .entry)) (now (sides .entry)) (now (work .entry))) (lent (now (times .exit)) (now (sides .exit)) (now (work .exit))) ⌝ }
-{
-    let job = Job::Round {
-        across: across,
-        down: down,
-        bound: bound,
-    };
-    play(
-        width,
-        height,
-        storeys,
-        slow,
-        cells,
-        begins,
-        job,
-        order,
-        times,
-        sides,
-        work,
-    )
-}
-
-// Rounds from all never until one at the horizon alters nothing. Counts the rounds.
-pub fn tile_run(
-    width: u32,
-    height: u32,
-    storeys: u32,
-    slow: &[u32],
-    cells: &[u32],
-    begins: &[u32],
-    across: u32,
-    down: u32,
-    stride: u32,
-    horizon: u32,
-    order: &[u32],
-    times: &mut [u32],
-    sides: &mut [u8],
-    work: &mut [u32],
-) -> Reply
-    ensures { λ x. ⌜ Says (call (by-lists width height storeys (now (slow .entry)) (now (cells .entry)) (now (begins .entry))) (Run across down stride horizon)
-        (now (order .entry)) (length (now (work .entry))))
-        x (lent (now (times .entry)) (now (sides .entry)) (now (work .entry))) (lent (now (times .exit)) (now (sides .exit)) (now (work .exit))) ⌝ }
-{
-    let job = Job::Run {
-        across: across,
-        down: down,
-        stride: stride,
-        horizon: horizon,
-    };
-    play(
-        width,
-        height,
-        storeys,
-        slow,
-        cells,
-        begins,
-        job,
-        order,
-        times,
-        sides,
-        work,
-    )
 }

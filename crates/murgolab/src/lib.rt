@@ -12,6 +12,10 @@ ghost use Rattle.tablet.specs.Tablet.{Tablet-says};
 use eikonal::LocalReply;
 use eikonal::Reply;
 use eikonal::Start;
+use eikonal::march_job;
+use eikonal::nothing_own;
+use eikonal::round_job;
+use eikonal::run_job;
 use scenario::Scenario;
 use scenario::TurnReply;
 
@@ -52,17 +56,19 @@ pub extern "C" fn murgolab_march_plain(
     work: &mut [u32],
 ) -> Reply
     ensures { λ x. ⌜ Says (call (by-lists width height storeys (now (slow .entry)) (now (cells .entry)) (now (begins .entry)))
-        (March horizon) [] (length (now (work .entry))))
+        (March horizon) [] (length (now (sides .entry))) (length (now (work .entry))))
         x (lent (now (times .entry)) (now (sides .entry)) (now (work .entry))) (lent (now (times .exit)) (now (sides .exit)) (now (work .exit))) ⌝ }
 {
-    engine::calls::march(
+    engine::calls::play(
         width,
         height,
         storeys,
         slow,
         cells,
         begins,
-        horizon,
+        nothing_own(),
+        march_job(horizon),
+        &slow[..0],
         times,
         sides,
         work,
@@ -86,19 +92,18 @@ pub extern "C" fn murgolab_one_round_plain(
     work: &mut [u32],
 ) -> Reply
     ensures { λ x. ⌜ Says (call (by-lists width height storeys (now (slow .entry)) (now (cells .entry)) (now (begins .entry)))
-        (Round across down bound) (now (order .entry)) (length (now (work .entry))))
+        (Round across down bound) (now (order .entry)) (length (now (sides .entry))) (length (now (work .entry))))
         x (lent (now (times .entry)) (now (sides .entry)) (now (work .entry))) (lent (now (times .exit)) (now (sides .exit)) (now (work .exit))) ⌝ }
 {
-    engine::calls::one_round(
+    engine::calls::play(
         width,
         height,
         storeys,
         slow,
         cells,
         begins,
-        across,
-        down,
-        bound,
+        nothing_own(),
+        round_job(across, down, bound),
         order,
         times,
         sides,
@@ -124,20 +129,18 @@ pub extern "C" fn murgolab_tile_run_plain(
     work: &mut [u32],
 ) -> Reply
     ensures { λ x. ⌜ Says (call (by-lists width height storeys (now (slow .entry)) (now (cells .entry)) (now (begins .entry)))
-        (Run across down stride horizon) (now (order .entry)) (length (now (work .entry))))
+        (Run across down stride horizon) (now (order .entry)) (length (now (sides .entry))) (length (now (work .entry))))
         x (lent (now (times .entry)) (now (sides .entry)) (now (work .entry))) (lent (now (times .exit)) (now (sides .exit)) (now (work .exit))) ⌝ }
 {
-    engine::calls::tile_run(
+    engine::calls::play(
         width,
         height,
         storeys,
         slow,
         cells,
         begins,
-        across,
-        down,
-        stride,
-        horizon,
+        nothing_own(),
+        run_job(across, down, stride, horizon),
         order,
         times,
         sides,
@@ -205,19 +208,20 @@ pub extern "C" fn murgolab_march(
     sides: &mut [u8],
     work: &mut [u32],
 ) -> Reply
-    ensures { λ x. ⌜ Says (call (by-records width height storeys (now (slow .entry)) (now (starts .entry))) (March horizon) [] (length (now (work .entry))))
+    ensures { λ x. ⌜ Says (call (by-records width height storeys (now (slow .entry)) (now (starts .entry)))
+        (March horizon) [] (length (now (sides .entry))) (length (now (work .entry))))
         x (lent (now (times .entry)) (now (sides .entry)) (now (work .entry))) (lent (now (times .exit)) (now (sides .exit)) (now (work .exit))) ⌝ }
 {
-    // a march has no order of tiles, and reads none
-    let job = record_calls::calls::march_job(horizon);
+    // a march has no order of tiles
     record_calls::calls::play_records(
         width,
         height,
         storeys,
         slow,
         starts,
-        job,
-        slow,
+        nothing_own(),
+        march_job(horizon),
+        &slow[..0],
         times,
         sides,
         work,
@@ -240,17 +244,17 @@ pub extern "C" fn murgolab_one_round(
     work: &mut [u32],
 ) -> Reply
     ensures { λ x. ⌜ Says (call (by-records width height storeys (now (slow .entry)) (now (starts .entry)))
-        (Round across down bound) (now (order .entry)) (length (now (work .entry))))
+        (Round across down bound) (now (order .entry)) (length (now (sides .entry))) (length (now (work .entry))))
         x (lent (now (times .entry)) (now (sides .entry)) (now (work .entry))) (lent (now (times .exit)) (now (sides .exit)) (now (work .exit))) ⌝ }
 {
-    let job = record_calls::calls::round_job(across, down, bound);
     record_calls::calls::play_records(
         width,
         height,
         storeys,
         slow,
         starts,
-        job,
+        nothing_own(),
+        round_job(across, down, bound),
         order,
         times,
         sides,
@@ -275,17 +279,17 @@ pub extern "C" fn murgolab_tile_run(
     work: &mut [u32],
 ) -> Reply
     ensures { λ x. ⌜ Says (call (by-records width height storeys (now (slow .entry)) (now (starts .entry)))
-        (Run across down stride horizon) (now (order .entry)) (length (now (work .entry))))
+        (Run across down stride horizon) (now (order .entry)) (length (now (sides .entry))) (length (now (work .entry))))
         x (lent (now (times .entry)) (now (sides .entry)) (now (work .entry))) (lent (now (times .exit)) (now (sides .exit)) (now (work .exit))) ⌝ }
 {
-    let job = record_calls::calls::run_job(across, down, stride, horizon);
     record_calls::calls::play_records(
         width,
         height,
         storeys,
         slow,
         starts,
-        job,
+        nothing_own(),
+        run_job(across, down, stride, horizon),
         order,
         times,
         sides,

@@ -43,6 +43,6 @@ One-tile-beforehand =
 -- A TILE RUN that is accepted counts them, over records as over plain lists: by the board's times, and by those that it leaves
 unfoldable pub One-tile-run-counts : Type 0
 One-tile-run-counts =
-    (p : Handed) (tw th s z w : ℕ) (os : List ℕ) (x : Reply) (l m : Lent) →
-    Says (call p (Run tw th s z) os w) x l m → x .number ≡ 0 → p .board .wide ≤ tw → p .board .high ≤ th →
+    (p : Handed) (tw th s z n w : ℕ) (os : List ℕ) (x : Reply) (l m : Lent) →
+    Says (call p (Run tw th s z) os n w) x l m → x .number ≡ 0 → p .board .wide ≤ tw → p .board .high ≤ th →
     (x .count ≡ exact-rounds s z (solved (p .board))) × (x .count ≡ exact-rounds s z (m .sheet .times))

@@ -6,10 +6,10 @@ use native.Mathlib.Omega.{arith}
 use lib.ListN.{length, getD, take, length-take}
 use lib.Seq.{take-all, take-add}
 use Rattle.eikonal.specs.Refusals.{starts-of}
-use Rattle.eikonal.specs.Inner.Judge.{judge-by, judge, nothing-judged, Countable}
+use Rattle.refusals.specs.Judge.{judge-by, judge, nothing-judged, Countable}
 use Rattle.eikonal.specs.declared.Start.{Start}
-use Rattle.eikonal.specs.declared.refusals.Judged.{Judged}
-use Rattle.eikonal.proofs.Judging.{judge-append, judged-seen}
+use Rattle.refusals.specs.declared.board.Judged.{Judged}
+use Rattle.refusals.proofs.Judging.{judge-append, judged-seen}
 use Rattle.records.specs.declared.parts.Part.{Part}
 use Rattle.records.specs.Records.{part-of}
 use Rattle.records.proofs.Split.{part-at, part-long, part-starts, part-room}

@@ -10,7 +10,7 @@ use lib.ListN.{length, getD, drop, length-map, List·getD-map, List·getD-append
 use lib.Seq.{getD-take, getD-drop}
 use borrow.Author.Tests.{eq-eqb, ne-eqb}
 use Rattle.eikonal.specs.Refusals.{cells-of, begins-of}
-use Rattle.eikonal.specs.Inner.Judge.{starts-rise}
+use Rattle.eikonal.specs.Inner.Good.{starts-rise}
 use Rattle.eikonal.specs.declared.Start.{Start}
 use Rattle.eikonal.proofs.Ledger.{starts-again}
 use Rattle.front.proofs.Theory.Seeding.{starts-on}

@@ -3,7 +3,8 @@ use mathlib.Core.Path.{_≡_}
 use mathlib.Core.List.{List, _++_}
 use Prim.Native.Nat.{ℕ, _*_, _≤_}
 use lib.ListN.{length, take, drop}
-use Rattle.eikonal.specs.Refusals.{none, by-lists, by-records, cells-of, begins-of}
+use Rattle.eikonal.specs.Order.{none}
+use Rattle.eikonal.specs.Refusals.{by-lists, by-records, cells-of, begins-of}
 use Rattle.eikonal.specs.Ledger.{answer}
 use Rattle.eikonal.specs.declared.Reply.{Reply}
 use Rattle.eikonal.specs.declared.Start.{Start}

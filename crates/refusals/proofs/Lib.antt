@@ -1,1 +1,3 @@
+pub mod Judging
+pub mod Pairs
 pub mod Orders

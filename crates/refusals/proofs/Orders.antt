@@ -12,7 +12,7 @@ use lib.ListN.{length, getD, set, take, length-set}
 use lib.Seq.{take-suc, getD-set-same, getD-set-other}
 use borrow.Author.Tests.{eq-eqb, ne-eqb}
 use Rattle.eikonal.specs.Tiles.{up, tile-count}
-use Rattle.eikonal.specs.Refusals.{member, all-there, order-good, tiles-refusal, job-refusal}
+use Rattle.eikonal.specs.Refusals.{member, all-there, order-good, tile-causes, job-causes}
 use Rattle.eikonal.specs.declared.Start.{Start}
 use Rattle.eikonal.specs.declared.Job.{Job}
 use Rattle.eikonal.specs.declared.Job.the-variants.{March, Round, Run}
@@ -104,9 +104,9 @@ module _ (w h tw th : ℕ) (xs : List ℕ) (n m : ℕ) (across : n ≡ up w tw) 
   order-even e q t = rw (← across, ← down, eq-eqb (length xs) (n * m) e) t
 
 -- ---- of a board the causes 10, 11 and 12 see the sides alone
-pub same-sides : (w h s : ℕ) (slow : List ℕ) (ys : List Start) (j : Job) (xs : List ℕ) → job-refusal (board-of w h 1 [] []) j xs
-    ≡ job-refusal (board-of w h s slow ys) j xs
-unfolding job-refusal tiles-refusal order-good tile-count
+pub same-sides : (w h s : ℕ) (slow : List ℕ) (ys : List Start) (j : Job) (xs : List ℕ) → job-causes (board-of w h 1 [] []) j xs
+    ≡ job-causes (board-of w h s slow ys) j xs
+unfolding job-causes tile-causes order-good tile-count
 same-sides w h s slow ys (March z) xs = refl
 same-sides w h s slow ys (Round tw th m) xs = refl
 same-sides w h s slow ys (Run tw th k z) xs = refl

@@ -1,1 +1,3 @@
+pub mod Flaws
+pub mod Judge
 pub mod Orders

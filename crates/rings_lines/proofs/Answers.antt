@@ -4,19 +4,18 @@ use mathlib.Core.List.{List, _++_}
 use mathlib.Core.Logic.{_≢_}
 use Prim.Native.Nat.{ℕ, _+_, _≤_, _<_}
 use native.Mathlib.Omega.{arith}
-use lib.Dec.{ltb}
 use lib.ListN.{length, drop}
 use lib.Seq.{sets-eq, length-sets, length-take-le}
 use borrow.Author.Tests.{lt-ltb, le-ltb, eq-eqb, ne-eqb}
 use Rattle.eikonal.specs.declared.Refusal.{Refusal}
-use Rattle.eikonal.proofs.Causes.{passed}
-use Rattle.tablet.specs.Small.{small-refusal}
+use Rattle.eikonal.proofs.Causes.{None-met, none-met, unrefused, number-is}
+use Rattle.tablet.specs.Small.{small-causes, small-refusal}
 use Rattle.rings_lines.specs.Put.{Put}
-use Rattle.rings_lines.specs.Rings.{refused-line, longest, rings-refusal, board-lines, lines, room, Rings-says}
+use Rattle.rings_lines.specs.Rings.{refused-line, rings-causes, rings-refusal, board-lines, lines, room, Rings-says}
 
 pub small-file : (f : List ℕ) → rings-refusal f .number ≡ 0 → small-refusal f .number ≡ 0
-unfolding rings-refusal
-small-file f e = passed (ltb longest (length f)) 14 (small-refusal f) e .1
+unfolding None-met rings-refusal rings-causes small-refusal
+small-file f e = number-is (unrefused (small-causes f) (none-met (rings-causes f) e .1))
 
 -- ---- the lines, from what code has at hand
 pub lines-board : (f : List ℕ) → rings-refusal f .number ≡ 0 → board-lines f ≡ lines f

@@ -6,12 +6,12 @@ use Prim.Native.Nat.{ℕ, _+_, _%_, _≤_}
 use lib.Dec.{ltb, eqb}
 use lib.ListN.{length, take, drop}
 use Rattle.eikonal.specs.Board.{never, marched}
-use Rattle.eikonal.specs.Refusals.{cause}
+use Rattle.eikonal.specs.Order.{Cause, caused, first-of}
 use Rattle.eikonal.specs.declared.Refusal.{Refusal}
 use Rattle.scenario.specs.File.{file-size, head-in, held}
 use Rattle.scenario.specs.declared.Head.{Head}
 use Rattle.scenario.specs.Turns.{turn-of}
-use Rattle.tablet.specs.Small.{horizon, small-refusal}
+use Rattle.tablet.specs.Small.{horizon, small-causes}
 use Rattle.rings_lines.specs.Text.{decimal}
 
 -- the turn of a time, rounded up, `-` for never. 32 is a space, 10 a newline, 45 is `-`
@@ -38,9 +38,12 @@ refused-line n = (114 ∷ 101 ∷ 102 ∷ 117 ∷ 115 ∷ 101 ∷ 100 ∷ 32 ∷
 abbrev pub longest : ℕ
 longest = file-size 1024 1024
 
--- 15 comes first for a longer file
+-- a longer file is 15 before anything else of it is looked at; behind that the causes of a small file follow the one order
+unfoldable pub rings-causes : List ℕ → List Cause
+rings-causes f = caused 15 (ltb longest (length f)) ∷ small-causes f
+
 unfoldable pub rings-refusal : List ℕ → Refusal
-rings-refusal f = cond (ltb longest (length f)) (cause 15) (small-refusal f)
+rings-refusal f = first-of (rings-causes f)
 
 unfoldable pub board-lines : List ℕ → List ℕ
 board-lines f =

@@ -11,7 +11,7 @@ ghost use Rattle.front.specs.Board.{land};
 ghost use Rattle.rows.specs.Lists.{due};
 ghost use Rattle.rows.specs.Rows.{Entered, Everywhere, Block, Pillar, tile-in, Fitting, Wrote};
 use super::whole::clip;
-use eikonal::refusals::shorter;
+use eikonal::shorter;
 use front::Shape;
 
 fn differs(a: u32, b: u32) -> u32

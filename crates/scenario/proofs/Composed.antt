@@ -6,26 +6,29 @@ use Prim.Native.Nat.{ℕ, _*_, _≤_, min}
 use native.Mathlib.Omega.{arith}
 use lib.ListN.{length, take, drop, length-map}
 use lib.Seq.{take-at}
-use borrow.Author.Tests.{eq-eqb, eqb-true, le-ltb, le-leb}
+use borrow.Author.Tests.{eqb-true, le-ltb, le-leb}
 use Rattle.eikonal.specs.Board.{size}
-use Rattle.eikonal.specs.Refusals.{none, or-else, house-refusal, Handed, handed, by-records, by-lists, starts-of, cells-of, begins-of}
+use Rattle.eikonal.specs.Order.{none}
+use Rattle.eikonal.specs.Refusals.{Handed, handed, by-records, by-lists, starts-of, cells-of, begins-of}
 use Rattle.eikonal.specs.Ledger.{answer}
 use Rattle.eikonal.specs.Promise.{Same-handed, Lists-are-records}
 use Rattle.eikonal.specs.declared.Reply.{Reply}
+use Rattle.eikonal.proofs.Causes.{None-met, none-met, unrefused, met-append, number-is}
+use Rattle.eikonal.proofs.Good.{none-house}
 use Rattle.eikonal.proofs.Answers.{answered-number, answered-zero}
 use Rattle.eikonal.proofs.Ledger.{same-handed, lists-are-records}
 use Rattle.scenario.specs.Bytes.{Bytes}
-use Rattle.scenario.specs.File.{head-in, start-count, runs-in, starts-in, held, file-refusal}
-use Rattle.scenario.specs.Calls.{filled, scenario, scenario-of, room-good, reader-refusal, reader-answer, Reads}
-use Rattle.scenario.specs.Calls.{given-refusal, written, writer-refusal, Writes}
+use Rattle.scenario.specs.File.{head-in, start-count, runs-in, starts-in, held, file-causes, file-refusal}
+use Rattle.scenario.specs.Calls.{filled, scenario, scenario-of, room-good, reader-causes, reader-refusal, reader-answer, Reads}
+use Rattle.scenario.specs.Calls.{written, writer-causes, writer-refusal, Writes}
 use Rattle.scenario.specs.Promise.{Accepted-is-file-of, File-of-is-accepted, Read-then-write, Write-then-read}
 use Rattle.scenario.specs.declared.Scenario.{Scenario}
 use Rattle.scenario.proofs.Slows.{good-among, ground-alone}
 use Rattle.scenario.proofs.Painted.{painted-among}
-use Rattle.scenario.proofs.Causes.{Accepted, accepted}
+use Rattle.scenario.proofs.Causes.{pass-ticks, Given, gives, board-taken, Accepted, accepted}
 use Rattle.scenario.proofs.Answers.{reader-number, reader-zero, filled-in}
 use Rattle.scenario.proofs.Reading.{slow-length, count-starts, count-cells, count-begins, read-zero}
-use Rattle.scenario.proofs.Writing.{Taken, took, board-taken}
+use Rattle.scenario.proofs.Writing.{Taken, causes, took}
 use Rattle.scenario.proofs.Accepted.{accepted-is-file-of}
 use Rattle.scenario.proofs.Written.{file-of-is-accepted}
 
@@ -34,12 +37,12 @@ taken : (k n : ℕ) (xs old now : List ℕ) → k ≡ 0 → length xs ≡ n → 
 taken k n xs old now e l h = ap (take n) (h ∙ filled-in k xs old e) ∙ take-at xs (drop (length xs) old) n l
 
 -- ---- READ, THEN WRITTEN
-pub slows-held : (f : List ℕ) → Accepted f → let x = head-in f in
-    house-refusal (x .width) (x .height) (x .storeys) (x .ground ∷ held f .slow) .number ≡ 0
-unfolding held
-slows-held f a =
+pub held-given : (f : List ℕ) → Accepted f → Given (handed (held f) true) (head-in f .ground ∷ held f .slow)
+unfolding held size
+held-given f a =
     let x = head-in f in
-    good-among (x .width) (x .height) (x .storeys) _ _ (painted-among (x .width * x .height * x .storeys) (x .ground) (runs-in f)) (a .rest .slows)
+    let among = painted-among (x .width * x .height * x .storeys) (x .ground) (runs-in f) in
+    record { sides = a .front .sides; paired = refl; long = slow-length f a; slows = good-among _ _ _ _ _ among (a .slows); starts = a .starts }
 
 -- its board as the reader hands it on, in plain lists
 unfoldable pub held-lists : List ℕ → Handed
@@ -55,22 +58,13 @@ module _ (f : List ℕ) (h : Bytes f) (e : file-refusal f .number ≡ 0) where
   unfolding written Accepted-is-file-of
   held-written = rw (held-handed f) (sym (accepted-is-file-of f h e))
 
-  held-given : given-refusal (held-lists f) (head-in f .ticks) (head-in f .ground) .number ≡ 0
-  unfolding given-refusal held size
-  held-given =
-      let a = accepted f e in
-      let x = head-in f in
-      rw (
-        held-handed f,
-        a .front .sides,
-        a .front .ticks,
-        eq-eqb (length (held f .slow)) (x .width * x .height * x .storeys) (slow-length f a),
-      )
-      (slows-held f a)
-
   held-refusal : (n : ℕ) → length f ≤ n → writer-refusal (held-lists f) (head-in f .ticks) (head-in f .ground) n .number ≡ 0
-  unfolding writer-refusal or-else
-  held-refusal n l = rw (held-given, held-written, le-ltb n (length f) l, held-handed f, accepted f e .starts)
+  unfolding writer-refusal writer-causes None-met
+  held-refusal n l =
+      let a = accepted f e in
+      let board = gives _ _ _ none (held-given f a) (pass-ticks _ (a .ticks)) refl in
+      number-is (unrefused _ (met-append (causes (held-lists f) (head-in f .ticks) (head-in f .ground)) _
+      (rw (held-handed f) board) (rw held-written (le-ltb n (length f) l), tt)))
 
 -- what an accepted call of the writer leaves
 wrote : (p : Handed) (t g : ℕ) (out out-now f : List ℕ) (y : Reply) → Writes p t g out out-now y → writer-refusal p t g (length out) .number ≡ 0
@@ -94,7 +88,7 @@ read f slow slow-now cells cells-now begins begins-now x r z =
     let q = min (length cells) (length begins) in
     let k = reader-refusal f (length slow) q in
     let none : k .number ≡ 0 = sym (reader-number k f) ∙ ap (λ u. u .number) (sym (r .answers)) ∙ z in
-    let e = read-zero f (length slow) q none in
+    let e = read-zero f (length slow) q none .0 in
     record {
       accepted = e;
       is = r .answers ∙ reader-zero k f none;
@@ -115,7 +109,8 @@ read-then-write f slow slow-now cells cells-now begins begins-now x out out-now 
 module _ (p : Handed) (t g : ℕ) (k : Taken p t g) where
   found : let f = written p t g in (file-refusal f .number ≡ 0) × (held f ≡ p .board) × (head-in f .ticks ≡ t) × (head-in f .ground ≡ g)
   unfolding File-of-is-accepted written
-  found = file-of-is-accepted (p .board) t g (written p t g) (board-taken k) (k .given .ticks) (ground-alone _ _ _ g (p .board .slow) (k .given .slows)) refl
+  found = file-of-is-accepted (p .board) t g (written p t g) (board-taken (k .given)) (k .ticks)
+      (none-house _ _ _ _ (ground-alone _ _ _ g (p .board .slow) (k .given .slows))) refl
 
   found-sides : let x = head-in (written p t g) in (x .width ≡ p .board .wide) × (x .height ≡ p .board .high) × (x .storeys ≡ p .board .storeys)
   unfolding held
@@ -129,11 +124,12 @@ module _ (p : Handed) (t g : ℕ) (k : Taken p t g) where
   found-count = sym (count-starts (written p t g)) ∙ ap length found-starts
 
   found-refusal : (n q : ℕ) → length (p .board .slow) ≤ n → length (p .board .starts) ≤ q → reader-refusal (written p t g) n q .number ≡ 0
-  unfolding reader-refusal room-good or-else size
+  unfolding reader-refusal reader-causes room-good file-refusal None-met size
   found-refusal n q l m =
       let b = p .board in
       let room = le-leb (b .wide * b .high * b .storeys) n (omega (arith, k .given .long)) in
-      rw (found .0, found-sides .0, found-sides .1, found-sides .2, found-count, room, le-leb (length (b .starts)) q m)
+      number-is (unrefused _ (met-append (file-causes (written p t g)) _ (none-met _ (found .0))
+      (rw (found-sides .0, found-sides .1, found-sides .2, found-count, room, le-leb (length (b .starts)) q m) refl, tt)))
 
   found-answer : (n q : ℕ) → length (p .board .slow) ≤ n → length (p .board .starts) ≤ q → let f = written p t g in
       reader-answer (reader-refusal f n q) f ≡ scenario none (p .board .wide) (p .board .high) (p .board .storeys) t g (length (p .board .starts))

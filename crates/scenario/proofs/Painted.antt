@@ -9,7 +9,7 @@ use lib.Dec.{eqb}
 use lib.ListN.{length, replicate, length-append, length-replicate, replicate-append-replicate}
 use borrow.Author.Tests.{eqb-true, eq-eqb, ne-eqb}
 use Rattle.eikonal.proofs.Good.{and-true}
-use Rattle.eikonal.proofs.Pairs.{any-pair-append}
+use Rattle.refusals.proofs.Pairs.{any-pair-append}
 use Rattle.scenario.specs.declared.Run.{Run}
 use Rattle.scenario.specs.Runs.{run, end, painted, run-good, runs-good, closed, runs-on, runs-of}
 use Rattle.scenario.proofs.Slows.{Spares, spares-none, spares-rest, spares-more, Among}

@@ -1,60 +1,67 @@
--- The place that the reader and the writer answer is that of the first start at fault.
+-- The causes that the reader and the writer look for follow the one order, and the place that they answer is that of the first start at fault.
 use mathlib.Core.Path.{refl}
-use mathlib.Core.Bool.{_&&_, not}
-use mathlib.Core.List.{List, _∷_}
-use mathlib.Core.Logic.{inl}
-use Prim.Native.Nat.{ℕ, min}
+use mathlib.Core.Bool.{Bool, true, false, not, cond}
+use mathlib.Core.List.{List, [], _∷_, _++_}
+use Prim.Native.Nat.{ℕ}
 use native.Mathlib.Decide.{ℕ-discrete}
-use native.Mathlib.Omega.{arith}
-use lib.Dec.{ltb, eqb}
 use lib.ListN.{length}
+use lib.Dec.{ltb}
 use Rattle.eikonal.specs.Board.{size}
-use Rattle.eikonal.specs.Refusals.{none, sides-good}
+use Rattle.eikonal.specs.Order.{Cause, caused, cause, none, first-of, rank, rank-in, follows, In-order}
+use Rattle.eikonal.specs.Refusals.{Handed, board-causes, pair-causes, record-causes, start-causes}
 use Rattle.eikonal.specs.Promise.{First-at-fault}
 use Rattle.eikonal.specs.declared.Start.{Start}
 use Rattle.eikonal.specs.declared.Refusal.{Refusal}
-use Rattle.eikonal.proofs.Places.{Tells, hidden, unhidden, hides-either, hides-house, behind, tested, passes, after, tells-starts, tells-answer}
-use Rattle.scenario.specs.Runs.{runs-good}
-use Rattle.scenario.specs.File.{head-in, runs-in, held, ticks-good, length-good, head-refusal, runs-refusal, file-refusal}
-use Rattle.scenario.specs.Calls.{scenario, scenario-of, room-good, reader-refusal, reader-answer, given-refusal, written, writer-refusal}
-use Rattle.scenario.specs.Promise.{Reader-place, Writer-place}
-use Rattle.scenario.proofs.GoodRuns.{slows-of}
+use Rattle.eikonal.proofs.Places.{all-plain, in-front, in-the-rear, Tells, tells, tells-none, tells-answer}
+use Rattle.scenario.specs.File.{held, ticks-good, front-causes, rest-causes, file-causes}
+use Rattle.scenario.specs.Turns.{turn-refusal}
+use Rattle.scenario.specs.Calls.{scenario, scenario-of, reader-causes, reader-refusal, reader-answer, written, writer-causes, writer-refusal}
+use Rattle.scenario.specs.Promise.{Reader-in-order, Writer-in-order, Reader-place, Writer-place}
 use Rattle.scenario.proofs.Answers.{reader-zero, reader-refused}
 
+-- ---- the reader
+pub reader-in-order : Reader-in-order
+unfolding Reader-in-order reader-causes file-causes front-causes rest-causes pair-causes start-causes record-causes follows rank rank-in
+reader-in-order f n q = refl
+
 pub reader-place : Reader-place
-unfolding Reader-place reader-refusal file-refusal head-refusal runs-refusal scenario-of scenario
+unfolding Reader-place reader-refusal reader-causes file-causes front-causes rest-causes pair-causes start-causes record-causes scenario-of scenario
+    all-plain in-front in-the-rear rank rank-in
 reader-place f slow slow-now cells cells-now begins begins-now x r =
-    let n = size (held f) in
-    let xs = held f .starts in
-    let test = hidden n xs in
-    let h = head-in f in
-    rw (r .answers) (answers _ f n xs
-    (after n xs _ _
-    (behind n xs _ _
-    (test (not (length-good f)) _ _ refl
-    (test (not (sides-good (h .width) (h .height))) _ _ refl (test (not (ticks-good (h .ticks))) _ none refl (unhidden n xs))))
-    (behind n xs _ _
-    (hides-either n xs _ _ (hides-house n xs (h .width) (h .height) (h .storeys) (h .ground ∷ slows-of (runs-in f)))
-    (test (not (runs-good n (h .ground) 0 (h .ground) (runs-in f))) _ none refl (unhidden n xs)))
-    (tells-starts (held f))))
-    (λ q. tested n xs q (not (room-good h (length slow) (min (length cells) (length begins)))) _ none refl (passes n xs q))))
+    rw (r .answers) (answers _ (tells n xs (_ ∷ _ ∷ _ ∷ _ ∷ _ ∷ _ ∷ _ ∷ []) _ refl refl))
   where
-    answers : (k : Refusal) (f : List ℕ) (n : ℕ) (xs : List Start) → Tells n xs k → First-at-fault n xs (reader-answer k f .number) (reader-answer k f .place)
-    answers k f n xs t = elim (ℕ-discrete (k .number) 0) [
-      | yes z ↦ rw (reader-zero k f z) (passes n xs (t .right (inl z) (λ q. omega arith) (λ q. omega arith) (λ q. omega arith)))
+    n : ℕ
+    n = size (held f)
+
+    xs : List Start
+    xs = held f .starts
+
+    answers : (k : Refusal) → Tells n xs k → First-at-fault n xs (reader-answer k f .number) (reader-answer k f .place)
+    answers k t = elim (ℕ-discrete (k .number) 0) [
+      | yes z ↦ rw (reader-zero k f z) (tells-none n xs k z t)
       | no d ↦ rw (reader-refused k f d) t
     ]
 
+-- ---- the writer, whether 3 is met or not
+module _ (p : Handed) (g : ℕ) (short : Bool) where
+  by-ticks : (bad : Bool) → List Cause
+  by-ticks q = board-causes p (g ∷ p .board .slow) (cond q (cause 3) none) none ++ caused 14 short ∷ []
+
+  in-order : (bad : Bool) → In-order (by-ticks bad)
+  unfolding by-ticks board-causes pair-causes start-causes record-causes follows rank rank-in
+  in-order true = refl
+  in-order false = refl
+
+  says : (bad : Bool) → Tells (size (p .board)) (p .board .starts) (first-of (by-ticks bad))
+  unfolding by-ticks board-causes pair-causes start-causes record-causes all-plain in-front in-the-rear rank rank-in
+  says true = tells _ _ (_ ∷ _ ∷ _ ∷ _ ∷ _ ∷ _ ∷ _ ∷ []) _ refl refl
+  says false = tells _ _ (_ ∷ _ ∷ _ ∷ _ ∷ _ ∷ _ ∷ _ ∷ []) _ refl refl
+
+pub writer-in-order : Writer-in-order
+unfolding Writer-in-order writer-causes turn-refusal first-of by-ticks
+writer-in-order p t g n = in-order p g (ltb n (length (written p t g))) (not (ticks-good t))
+
 pub writer-place : Writer-place
-unfolding Writer-place writer-refusal given-refusal
+unfolding Writer-place writer-refusal writer-causes turn-refusal first-of by-ticks
 writer-place p t g out out-now y w =
-    let b = p .board in
-    let n = size b in
-    let xs = b .starts in
-    let test = hidden n xs in
-    rw (w .answers) (tells-answer n xs _ _
-    (behind n xs _ _
-    (test (not (sides-good (b .wide) (b .high))) _ _ refl
-    (test (not (ticks-good t)) _ _ refl
-    (test (not (p .paired && eqb (length (b .slow)) (size b))) _ _ refl (hides-house n xs (b .wide) (b .high) (b .storeys) (g ∷ b .slow)))))
-    (after n xs _ _ (tells-starts b) (λ q. tested n xs q (ltb (length out) (length (written p t g))) _ none refl (passes n xs q)))))
+    rw (w .answers) (tells-answer _ _ _ _ (says p g (ltb (length out) (length (written p t g))) (not (ticks-good t))))

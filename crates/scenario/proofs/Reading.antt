@@ -1,21 +1,23 @@
 -- The reader's call: what it has when its number is 0, and what its answer and lists come to.
 use mathlib.Core.Path.{_≡_, sym, ap, _∙_}
-use mathlib.Core.List.{List}
+use mathlib.Core.Bool.{true}
+use mathlib.Core.List.{List, [], _∷_}
 use Prim.Native.Nat.{ℕ, _*_, _≤_, min}
 use native.Mathlib.Omega.{arith}
 use lib.Dec.{leb}
 use lib.ListN.{length, drop, length-map}
-use borrow.Author.Tests.{leb-true}
+use borrow.Author.Tests.{leb-true, not-false}
 use Rattle.eikonal.specs.Board.{size}
 use Rattle.eikonal.specs.Refusals.{cells-of, begins-of}
-use Rattle.eikonal.proofs.Causes.{fulfilled, neither}
+use Rattle.eikonal.specs.Order.{caused}
+use Rattle.eikonal.proofs.Causes.{None-met, none-met, neither, number-is, first-append}
 use Rattle.eikonal.proofs.Good.{and-true, sides-within}
 use Rattle.scenario.specs.declared.Head.{Head}
 use Rattle.scenario.specs.declared.Scenario.{Scenario}
 use Rattle.scenario.specs.Bytes.{records}
 use Rattle.scenario.specs.File.{head-size, run-size, start-size, runs-end, file-size}
-use Rattle.scenario.specs.File.{head-in, run-in, start-in, start-count, runs-in, starts-in, held, file-refusal}
-use Rattle.scenario.specs.Calls.{filled, room-good, reader-refusal, reader-answer, Reads}
+use Rattle.scenario.specs.File.{head-in, run-in, start-in, start-count, runs-in, starts-in, held, file-causes, file-refusal}
+use Rattle.scenario.specs.Calls.{filled, room-good, reader-causes, reader-refusal, reader-answer, Reads}
 use Rattle.scenario.proofs.Records.{length-records}
 use Rattle.scenario.proofs.Painted.{length-painted}
 use Rattle.scenario.proofs.Causes.{Headed, Accepted}
@@ -25,7 +27,7 @@ pub slow-length : (f : List ℕ) → Accepted f → let x = head-in f in length 
 unfolding held size
 slow-length f a =
     let x = head-in f in
-    length-painted (x .width * x .height * x .storeys) (x .ground) 0 (x .ground) (runs-in f) (a .rest .runs) (omega arith) ∙ omega arith
+    length-painted (x .width * x .height * x .storeys) (x .ground) 0 (x .ground) (runs-in f) (a .runs) (omega arith) ∙ omega arith
 
 pub count-starts : (f : List ℕ) → length (starts-in f) ≡ start-count f
 unfolding starts-in
@@ -60,9 +62,11 @@ module _ (f : List ℕ) (x : Head) (e : x ≡ head-in f) where
   starts-read n base p q = rw (p, q, e)
 
 -- ---- the call
-pub read-zero : (f : List ℕ) (n q : ℕ) → reader-refusal f n q .number ≡ 0 → file-refusal f .number ≡ 0
-unfolding reader-refusal
-read-zero f n q e = neither (file-refusal f) _ e .0
+pub read-zero : (f : List ℕ) (n q : ℕ) → reader-refusal f n q .number ≡ 0 → (file-refusal f .number ≡ 0) × (room-good (head-in f) n q ≡ true)
+unfolding reader-refusal reader-causes file-refusal None-met
+read-zero f n q e =
+    let r = neither _ _ (sym (number-is (first-append (file-causes f) (caused 14 _ ∷ []))) ∙ e) in
+    (r .0, not-false _ (none-met (caused 14 _ ∷ []) (r .1) .0))
 
 -- a file that is accepted, with room for what it holds
 pub record Room (f : List ℕ) (n q : ℕ) : Type 0 where
@@ -71,11 +75,10 @@ pub record Room (f : List ℕ) (n q : ℕ) : Type 0 where
   pub starts : start-count f ≤ q
 
 pub room : (f : List ℕ) (n q : ℕ) (x : Scenario) → x ≡ reader-answer (reader-refusal f n q) f → x .number ≡ 0 → Room f n q
-unfolding reader-refusal room-good held size
+unfolding room-good held size
 room f n q x e z =
-    let k : reader-refusal f n q .number ≡ 0 = sym (reader-number (reader-refusal f n q) f) ∙ ap (λ u. u .number) (sym e) ∙ z in
-    let r = neither (file-refusal f) _ k in
-    let s = and-true (leb (size (held f)) n) (leb (start-count f) q) (fulfilled (room-good (head-in f) n q) 13 _ (r .1) .0) in
+    let r = read-zero f n q (sym (reader-number (reader-refusal f n q) f) ∙ ap (λ u. u .number) (sym e) ∙ z) in
+    let s = and-true (leb (size (held f)) n) (leb (start-count f) q) (r .1) in
     record { accepted = r .0; slows = leb-true (size (held f)) n (s .0); starts = leb-true (start-count f) q (s .1) }
 
 module _ (f slow slow-now cells begins : List ℕ) (x : Scenario) (q : ℕ) (shorter : q ≡ min (length cells) (length begins))

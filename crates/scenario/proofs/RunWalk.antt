@@ -6,9 +6,9 @@ use Prim.Native.Nat.{ℕ, _+_, _*_, _≤_, _<_}
 use lib.ListN.{drop}
 use lib.Seq.{drop-drop}
 use borrow.Author.Tests.{le-leb, lt-leb, not-true, not-false}
-use Rattle.eikonal.specs.Inner.Flaws.{with-pair, with-pairs}
-use Rattle.eikonal.specs.declared.refusals.Flaws.{Flaws}
-use Rattle.eikonal.proofs.Pairs.{with-no-pairs, with-pairs-more}
+use Rattle.refusals.specs.Flaws.{with-pair, with-pairs}
+use Rattle.refusals.specs.declared.board.Flaws.{Flaws}
+use Rattle.refusals.proofs.Pairs.{with-no-pairs, with-pairs-more}
 use Rattle.scenario.specs.declared.Run.{Run}
 use Rattle.scenario.specs.Bytes.{records}
 use Rattle.scenario.specs.Runs.{end, run-good, runs-good}

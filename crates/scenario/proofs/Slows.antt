@@ -1,5 +1,5 @@
 -- Slownesses that are none of 5, 21 and 23, and lists that have none but those of a list of such.
-use mathlib.Core.Path.{_≡_, refl}
+use mathlib.Core.Path.{_≡_, refl, sym, _∙_}
 use mathlib.Core.Bool.{Bool, false}
 use mathlib.Core.List.{List, [], _∷_}
 use Prim.Native.Nat.{ℕ, _≤_, _<_}
@@ -7,8 +7,11 @@ use native.Mathlib.Omega.{arith}
 use lib.Dec.{ltb}
 use borrow.Author.Tests.{ltb-false}
 use Rattle.eikonal.specs.Board.{along-row, down-column}
-use Rattle.eikonal.specs.Refusals.{steep, half-wall, uneven, any-pair, house-refusal}
+use Rattle.eikonal.specs.Refusals.{steep, half-wall, uneven, any-pair, pair-causes}
+use Rattle.refusals.specs.Flaws.{flawless, with-pair, with-pairs}
+use Rattle.eikonal.proofs.Causes.{None-met}
 use Rattle.eikonal.proofs.Good.{or-false, housed, houses}
+use Rattle.refusals.proofs.Pairs.{with-no-pairs, with-first}
 
 -- a test spares a list: no entry meets it
 module _ (p : (g h : ℕ) → Bool) where
@@ -45,8 +48,8 @@ abbrev pub Among : (ts ss : List ℕ) → Type 0
 Among ts ss = (p : (g h : ℕ) → Bool) → Spares p ss → Spares p ts
 
 module _ (w h s : ℕ) where
-  abbrev Good : List ℕ → Type 0
-  Good ss = house-refusal w h s ss .number ≡ 0
+  abbrev pub Good : List ℕ → Type 0
+  Good ss = None-met (pair-causes w h s ss)
 
   pub good-among : (ts ss : List ℕ) → Among ts ss → Good ss → Good ts
   good-among ts ss a e =
@@ -79,3 +82,7 @@ module _ (w h s : ℕ) where
         few = k .few;
         level = λ l. spares-more uneven g [] ss (r .level l) (k .level l);
       })
+
+-- the ground's pair alone, as it is looked at
+pub ground-pair : (g : ℕ) → with-pair g flawless ≡ with-pairs (g ∷ []) flawless
+ground-pair g = sym (with-no-pairs (with-pair g flawless)) ∙ with-first g []

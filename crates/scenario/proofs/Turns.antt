@@ -5,6 +5,7 @@ use Prim.Native.Nat.{ℕ, _+_, _*_, _/_, _-_, _≤_, _<_}
 use native.Mathlib.Omega.{arith}
 use borrow.Author.Tests.{lt-ltb, le-ltb}
 use Rattle.eikonal.specs.Board.{never, largest}
+use Rattle.eikonal.specs.Order.{first-of}
 use Rattle.eikonal.specs.Tiles.{up}
 use Rattle.eikonal.proofs.Up.{multiple-covers, multiple-below, up-covers, up-close, up-is}
 use Rattle.scenario.specs.File.{ticks-good}
@@ -34,12 +35,12 @@ one-turn t k n g h c l =
 -- ---- what the call answers
 module _ (t k : ℕ) (x : TurnReply) where
   pub says-refused : x ≡ turn-reply 3 0 0 → ticks-good k ≡ false → Turn-says t k x
-  unfolding Turn-says turn-refusal turn-answer
+  unfolding Turn-says turn-refusal first-of turn-answer
   says-refused e bad = rw bad e
 
   module _ (n g : ℕ) (e : x ≡ turn-reply 0 n g) (good : ticks-good k ≡ true) where
     says : (n ≡ turn-of t k) × (g ≡ to-go t k) → Turn-says t k x
-    unfolding Turn-says turn-refusal turn-answer
+    unfolding Turn-says turn-refusal first-of turn-answer
     says both = rw (good, ← both .0, ← both .1) e
 
     pub says-never : largest < t → n ≡ never → g ≡ 0 → Turn-says t k x
@@ -57,5 +58,5 @@ module _ (t k : ℕ) (x : TurnReply) where
       says (y / k) g e good (one-turn t k (y / k) g h (omega (arith, covers)) (omega (arith, covers, below)))
 
   pub turn-said : ticks-good k ≡ true → Turn-says t k x → x .turn ≡ turn-of t k
-  unfolding Turn-says turn-refusal turn-answer turn-reply
+  unfolding Turn-says turn-refusal first-of turn-answer turn-reply
   turn-said good e = ap (λ u. u .turn) e ∙ rw good

@@ -1,95 +1,77 @@
 -- The writer's call: what a board has that is not refused; all in front of the starts, then the starts.
 use mathlib.Core.Path.{_≡_, refl, sym, ap, ap₂, _∙_}
-use mathlib.Core.Bool.{true, _&&_}
-use mathlib.Core.List.{List, _∷_, _++_, append-assoc}
+use mathlib.Core.Bool.{true}
+use mathlib.Core.List.{List, [], _∷_, _++_, append-assoc}
 use mathlib.Core.Logic.{_≢_}
 use Prim.Native.Nat.{ℕ, _+_, _*_, _≤_, _<_}
 use native.Mathlib.Omega.{arith}
-use lib.Dec.{ltb, eqb}
+use lib.Dec.{ltb}
 use lib.ListN.{length, take, drop, length-append, length-drop}
 use lib.Seq.{take-at, drop-at, drop-drop}
-use borrow.Author.Tests.{eq-eqb, eqb-true, lt-ltb, le-ltb, ltb-false}
+use borrow.Author.Tests.{eqb-true, lt-ltb, le-ltb, ltb-false}
 use Rattle.eikonal.specs.Board.{size}
-use Rattle.eikonal.specs.Refusals.{cause, none, or-else, sides-good, house-refusal, starts-refusal, handed-refusal, board-refusal, Handed}
+use Rattle.eikonal.specs.Order.{Cause, caused, cause, none, or-else, first-of}
+use Rattle.eikonal.specs.Refusals.{Handed, board-causes}
 use Rattle.eikonal.specs.Ledger.{answer, answered}
-use Rattle.eikonal.specs.Inner.Judge.{judged-refusal}
 use Rattle.eikonal.specs.declared.Refusal.{Refusal}
 use Rattle.eikonal.specs.declared.Reply.{Reply}
 use Rattle.eikonal.specs.declared.Start.{Start}
-use Rattle.eikonal.specs.declared.refusals.Judged.{Judged}
-use Rattle.eikonal.proofs.Causes.{fulfilled, passed, neither, caused, spared, first, next}
-use Rattle.eikonal.proofs.Good.{and-true, housed, sound}
-use Rattle.eikonal.proofs.Judging.{judge-refuses}
+use Rattle.refusals.specs.declared.board.Judged.{Judged}
+use Rattle.eikonal.proofs.Causes.{None-met, none-met, neither, first, next, first-append, number-is}
+use Rattle.eikonal.proofs.Good.{housed, sound}
 use Rattle.eikonal.proofs.Answers.{answered-number, answered-zero, answered-refused}
 use Rattle.scenario.specs.Bytes.{bytes-of}
 use Rattle.scenario.specs.Runs.{runs-of}
 use Rattle.scenario.specs.File.{start-size, runs-end, file-size, start-bytes, head-of, front, file-of, ticks-good}
-use Rattle.scenario.specs.Calls.{filled, given-refusal, written, writer-refusal, Writes}
+use Rattle.scenario.specs.Turns.{turn-refusal}
+use Rattle.scenario.specs.Calls.{filled, written, writer-causes, writer-refusal, Writes}
 use Rattle.scenario.specs.Inner.Begin.{given-by, Judges, Begins}
-use Rattle.scenario.proofs.Slows.{cells-alone}
-use Rattle.scenario.proofs.Causes.{rise-count}
+use Rattle.scenario.proofs.Causes.{ticks-pass, unfound, Given, given, rise-count}
 use Rattle.scenario.proofs.Answers.{filled-in, kept}
 use Rattle.scenario.proofs.Written.{starts-length, front-length, length-file}
 
--- ---- a board that is not refused: by 2, 3, 4, 5, 21, 23, and by its starts
-pub record Given (p : Handed) (t g : ℕ) : Type 0 where
-  pub sides : sides-good (p .board .wide) (p .board .high) ≡ true
-  pub ticks : ticks-good t ≡ true
-  pub paired : p .paired ≡ true
-  pub long : length (p .board .slow) ≡ size (p .board)
-  pub slows : let b = p .board in house-refusal (b .wide) (b .high) (b .storeys) (g ∷ b .slow) .number ≡ 0
-
+-- ---- a board that is not refused
 pub record Taken (p : Handed) (t g : ℕ) : Type 0 where
-  pub given : Given p t g
-  pub starts : starts-refusal (p .board) .number ≡ 0
+  pub ticks : ticks-good t ≡ true
+  pub given : Given p (g ∷ p .board .slow)
 
 module _ (p : Handed) (t g : ℕ) where
-  pub gave : given-refusal p t g .number ≡ 0 → Given p t g
-  unfolding given-refusal
+  -- all causes but for 14
+  abbrev pub causes : List Cause
+  causes = board-causes p (g ∷ p .board .slow) (turn-refusal t) none
+
+  pub gave : first-of causes .number ≡ 0 → Taken p t g
+  unfolding None-met board-causes
   gave e =
-      let b = p .board in
-      let r2 = fulfilled (sides-good (b .wide) (b .high)) 1 _ e in
-      let r3 = fulfilled (ticks-good t) 2 _ (r2 .1) in
-      let r4 = fulfilled (p .paired && eqb (length (b .slow)) (size b)) 3 _ (r3 .1) in
-      let even = and-true (p .paired) (eqb (length (b .slow)) (size b)) (r4 .0) in
-      record { sides = r2 .0; ticks = r3 .0; paired = even .0; long = eqb-true (length (b .slow)) (size b) (even .1); slows = r4 .1 }
+      let n = none-met causes e in
+      record { ticks = ticks-pass t (unfound (turn-refusal t) (n .1 .0)); given = given p _ (turn-refusal t) none n }
 
-  pub took : (n : ℕ) → writer-refusal p t g n .number ≡ 0 → Taken p t g × (length (written p t g) ≤ n)
-  unfolding writer-refusal
-  took n e =
-      let r = neither (given-refusal p t g) _ e in
-      let s = neither (starts-refusal (p .board)) _ (r .1) in
-      let l = passed (ltb n (length (written p t g))) 13 _ (s .1) .0 in
-      (record { given = gave (r .0); starts = s .0 }, ltb-false n (length (written p t g)) l)
-
-  -- the refusal that code finds, cause by cause
   module _ (n : ℕ) where
-    pub refuses-given : (k : Refusal) → k ≡ given-refusal p t g → k .number ≢ 0 → k ≡ writer-refusal p t g n
-    unfolding writer-refusal
-    refuses-given k e d = first _ _ k e (λ z. d (ap (λ u. u .number) e ∙ z))
+    parts : writer-refusal p t g n ≡ or-else (first-of causes) (first-of (caused 14 (ltb n (length (written p t g))) ∷ []))
+    unfolding writer-refusal writer-causes
+    parts = first-append causes _
 
-    module _ (z : given-refusal p t g .number ≡ 0) where
-      pub refuses-starts : (k : Refusal) → k ≡ starts-refusal (p .board) → k .number ≢ 0 → k ≡ writer-refusal p t g n
-      unfolding writer-refusal
-      refuses-starts k e d = next _ _ k z (first _ _ k e (λ q. d (ap (λ u. u .number) e ∙ q)))
+    pub took : writer-refusal p t g n .number ≡ 0 → Taken p t g × (length (written p t g) ≤ n)
+    unfolding None-met
+    took e =
+        let r = neither _ _ (sym (number-is parts) ∙ e) in
+        (gave (r .0), ltb-false n _ (none-met (caused 14 _ ∷ []) (r .1) .0))
 
-      module _ (y : starts-refusal (p .board) .number ≡ 0) where
-        pub refuses-short : n < length (written p t g) → cause 14 ≡ writer-refusal p t g n
-        unfolding writer-refusal
-        refuses-short l = next _ _ _ z (next _ _ _ y (caused _ (cause 14) none (lt-ltb n (length (written p t g)) l)))
+    -- the refusal that code finds
+    pub refuses-board : (k : Refusal) → k ≡ first-of causes → k .number ≢ 0 → k ≡ writer-refusal p t g n
+    refuses-board k e d = first _ _ k e (λ z. d (number-is e ∙ z)) ∙ sym parts
 
-        pub refuses-none : length (written p t g) ≤ n → none ≡ writer-refusal p t g n
-        unfolding writer-refusal
-        refuses-none l = next _ _ _ z (next _ _ _ y (spared _ (cause 14) none none (le-ltb n (length (written p t g)) l) refl))
+    module _ (z : first-of causes .number ≡ 0) where
+      pub refuses-short : n < length (written p t g) → cause 14 ≡ writer-refusal p t g n
+      unfolding first-of
+      refuses-short l = next _ _ _ z (rw (lt-ltb n (length (written p t g)) l) refl) ∙ sym parts
+
+      pub refuses-none : length (written p t g) ≤ n → none ≡ writer-refusal p t g n
+      unfolding first-of
+      refuses-none l = next _ _ _ z (rw (le-ltb n (length (written p t g)) l) refl) ∙ sym parts
 
 -- it is small, and so is its file
 module _ {p : Handed} {t g : ℕ} (k : Taken p t g) where
-  pub board-taken : board-refusal (p .board) .number ≡ 0
-  unfolding handed-refusal or-else
-  board-taken =
-      let b = p .board in
-      rw (k .given .sides, eq-eqb (length (b .slow)) (size b) (k .given .long), cells-alone _ _ _ g (b .slow) (k .given .slows)) (k .starts)
-
   size-most : size (p .board) ≤ 65536
   unfolding size
   size-most = housed _ _ _ _ (k .given .slows) .few
@@ -100,24 +82,17 @@ module _ {p : Handed} {t g : ℕ} (k : Taken p t g) where
   pub starts-most : length (p .board .starts) ≤ 65536
   starts-most =
       let b = p .board in
-      omega (arith, size-most, rise-count (size b) 0 (b .starts) (sound b (k .starts) .rise) (omega arith))
+      omega (arith, size-most, rise-count (size b) 0 (b .starts) (sound b (k .given .starts) .rise) (omega arith))
 
 pub written-length : (p : Handed) (t g : ℕ) → length (written p t g) ≡ file-size (length (runs-of g (p .board .slow))) (length (p .board .starts))
 unfolding written
 written-length p t g = length-file t g (p .board)
 
 -- ---- the first part: its ways out, whatever the starts are that were judged
-module _ {ss : List ℕ} {cells begins : ℕ} {j : Judged} {xs : List Start} (js : Judges ss cells begins j xs) (w h s t g : ℕ)
-    (z : given-refusal (given-by w h s ss cells begins xs) t g .number ≡ 0) where
-  -- the judgement is the starts' refusal
-  pub judges-starts : judged-refusal j ≡ starts-refusal (given-by w h s ss cells begins xs .board)
-  judges-starts = let p = given-by w h s ss cells begins xs in ap judged-refusal (js .is) ∙ judge-refuses (p .board) (gave p t g z .long)
-
+module _ {ss : List ℕ} {cells begins : ℕ} {j : Judged} {xs : List Start} (js : Judges ss cells begins j xs) {w h s t g : ℕ}
+    (k : Taken (given-by w h s ss cells begins xs) t g) where
   pub judges-many : length xs ≡ cells
-  judges-many = js .many (eqb-true cells begins (gave (given-by w h s ss cells begins xs) t g z .paired))
-
-  pub judges-taken : judged-refusal j .number ≡ 0 → Taken (given-by w h s ss cells begins xs) t g
-  judges-taken y = record { given = gave (given-by w h s ss cells begins xs) t g z; starts = sym (ap (λ u. u .number) judges-starts) ∙ y }
+  judges-many = js .many (eqb-true cells begins (k .given .paired))
 
   pub judges-length : length (written (given-by w h s ss cells begins xs) t g) ≡ file-size (length (runs-of g ss)) cells
   judges-length = written-length (given-by w h s ss cells begins xs) t g ∙ ap (file-size (length (runs-of g ss))) judges-many

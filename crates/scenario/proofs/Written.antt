@@ -4,15 +4,14 @@ use mathlib.Core.Bool.{true}
 use mathlib.Core.List.{List, [], _∷_, _++_, append-assoc, append-nil}
 use Prim.Native.Nat.{ℕ, _*_, _≤_, _<_}
 use native.Mathlib.Omega.{arith}
-use lib.Dec.{eqb}
 use lib.ListN.{length, drop, length-append}
 use lib.Seq.{drop-at, drop-drop}
-use borrow.Author.Tests.{eqb-true}
 use Rattle.eikonal.specs.Board.{Board, size}
 use Rattle.eikonal.specs.declared.Start.{Start}
-use Rattle.eikonal.specs.Refusals.{sides-good, steep, house-refusal, starts-refusal, handed-refusal, board-refusal}
-use Rattle.eikonal.proofs.Causes.{fulfilled, neither}
-use Rattle.eikonal.proofs.Good.{sides-within, Housed, housed, Sound, sound}
+use Rattle.eikonal.specs.Order.{none}
+use Rattle.eikonal.specs.Refusals.{steep, handed, handed-refusal}
+use Rattle.eikonal.proofs.Causes.{none-met}
+use Rattle.eikonal.proofs.Good.{sides-within, Housed, housed, house-none, Sound, sound}
 use Rattle.scenario.specs.Bytes.{two, four, two-bytes, four-bytes, bytes-of}
 use Rattle.scenario.specs.declared.Head.{Head}
 use Rattle.scenario.specs.declared.Run.{Run}
@@ -22,12 +21,12 @@ use Rattle.scenario.specs.File.{head-in, run-in, start-in, runs-in, star
 use Rattle.scenario.specs.Promise.{File-of-is-accepted}
 use Rattle.scenario.proofs.Numbers.{two-front, four-front}
 use Rattle.scenario.proofs.Records.{read-back, length-bytes}
-use Rattle.scenario.proofs.Slows.{Spares, spares-rest, slow-fits, good-among, with-ground}
+use Rattle.scenario.proofs.Slows.{Good, Spares, spares-rest, slow-fits, good-among, with-ground}
 use Rattle.scenario.proofs.GoodRuns as GoodRuns
 use Rattle.scenario.proofs.GoodRuns.{runs-of-good, slows-of, runs-of-among, runs-of-count}
 use Rattle.scenario.proofs.Painted.{painted-runs}
 use Rattle.scenario.proofs.Causes as Causes
-use Rattle.scenario.proofs.Causes.{accepts, rise-count, some-ticks}
+use Rattle.scenario.proofs.Causes.{Given, given, accepts, rise-count, some-ticks}
 
 -- ---- a head, a run and a start come back from their bytes
 -- the numbers of a head fit their bytes
@@ -108,21 +107,7 @@ length-file t g b =
     omega (arith, length-append (front x (b .slow)) (bytes-of start-bytes (b .starts)), front-length x (b .slow), starts-length (b .starts))
 
 -- ---- a board that is not refused
-record Given (b : Board) : Type 0 where
-  sides : sides-good (b .wide) (b .high) ≡ true
-  long : length (b .slow) ≡ size b
-  slows : house-refusal (b .wide) (b .high) (b .storeys) (b .slow) .number ≡ 0
-  starts : starts-refusal b .number ≡ 0
-
-given : (b : Board) → board-refusal b .number ≡ 0 → Given b
-unfolding handed-refusal
-given b e =
-    let r2 = fulfilled (sides-good (b .wide) (b .high)) 1 _ e in
-    let r4 = fulfilled (eqb (length (b .slow)) (size b)) 3 _ (r2 .1) in
-    let r = neither (house-refusal (b .wide) (b .high) (b .storeys) (b .slow)) _ (r4 .1) in
-    record { sides = r2 .0; long = eqb-true (length (b .slow)) (size b) (r4 .0); slows = r .0; starts = r .1 }
-
-module _ (b : Board) (t g : ℕ) (a : Given b) (tl : t ≤ 65535) (gg : house-refusal (b .wide) (b .high) (b .storeys) (g ∷ []) .number ≡ 0) where
+module _ (b : Board) (t g : ℕ) (a : Given (handed b true) (b .slow)) (tl : t ≤ 65535) (gg : Good (b .wide) (b .high) (b .storeys) (g ∷ [])) where
   rs : List Run
   rs = runs-of g (b .slow)
 
@@ -143,7 +128,7 @@ module _ (b : Board) (t g : ℕ) (a : Given b) (tl : t ≤ 65535) (gg : house-re
   unfolding rs
   good = rw (a .long) at (runs-of-good g (b .slow))
 
-  slows : house-refusal (b .wide) (b .high) (b .storeys) (g ∷ slows-of rs) .number ≡ 0
+  slows : Good (b .wide) (b .high) (b .storeys) (g ∷ slows-of rs)
   unfolding rs
   slows =
       good-among _ _ _ (g ∷ slows-of (runs-of g (b .slow))) (g ∷ b .slow) (runs-of-among g (b .slow)) (with-ground _ _ _ g (b .slow) gg (a .slows))
@@ -213,8 +198,10 @@ module _ (b : Board) (t g : ℕ) (a : Given b) (tl : t ≤ 65535) (gg : house-re
   is-accepted : ticks-good t ≡ true → file-refusal f .number ≡ 0
   unfolding x head-of
   is-accepted tg = accepts f (record {
-    front = record { head = omega (arith, long); long = rw holds-head long; sides = rw holds-head (a .sides); ticks = rw holds-head tg };
-    rest = record { slows = rw (holds-head, holds-runs) slows; runs = rw (holds, holds-head, holds-runs) good };
+    front = record { head = omega (arith, long); long = rw holds-head long; sides = rw holds-head (a .sides) };
+    ticks = rw holds-head tg;
+    slows = rw (holds-head, holds-runs) slows;
+    runs = rw (holds, holds-head, holds-runs) good;
     starts = rw holds (a .starts);
   })
 
@@ -223,9 +210,10 @@ module _ (b : Board) (t g : ℕ) (a : Given b) (tl : t ≤ 65535) (gg : house-re
   is-read = rw holds-head (refl, refl)
 
 pub file-of-is-accepted : File-of-is-accepted
-unfolding File-of-is-accepted
+unfolding File-of-is-accepted handed-refusal
 file-of-is-accepted b t g file e tg gg q =
-    let a = given b e in
+    let a = given (handed b true) (b .slow) none none (none-met _ e) in
     let tl = some-ticks t tg .1 in
-    let read = is-read b t g a tl gg in
-    rw (q ∙ is-file b t g a tl gg) (is-accepted b t g a tl gg tg, holds b t g a tl gg, read .0, read .1)
+    let k = house-none _ _ _ _ gg in
+    let read = is-read b t g a tl k in
+    rw (q ∙ is-file b t g a tl k) (is-accepted b t g a tl k tg, holds b t g a tl k, read .0, read .1)

@@ -1,12 +1,13 @@
 -- The scenario file: its bytes, what it holds, and its refusals ("The scenario file" and "Turned down" of document 01).
-use mathlib.Core.Bool.{Bool, _&&_, not, cond}
-use mathlib.Core.List.{List, _∷_, _++_, map}
+use mathlib.Core.Bool.{Bool, _&&_, not}
+use mathlib.Core.List.{List, [], _∷_, _++_, map}
 use Prim.Native.Nat.{ℕ, _+_, _*_}
 use lib.Dec.{leb, eqb}
 use lib.ListN.{length, drop}
 use Rattle.eikonal.specs.Board.{Board, board-of, size}
 use Rattle.eikonal.specs.declared.Start.{Start}
-use Rattle.eikonal.specs.Refusals.{cause, none, or-else, sides-good, house-refusal, starts-refusal}
+use Rattle.eikonal.specs.Order.{Cause, caused, first-of}
+use Rattle.eikonal.specs.Refusals.{within, sides-good, pair-causes, start-causes}
 use Rattle.eikonal.specs.declared.Refusal.{Refusal}
 use Rattle.scenario.specs.Bytes.{two, four, two-bytes, four-bytes, records, bytes-of}
 use Rattle.scenario.specs.declared.Head.{Head}
@@ -87,25 +88,26 @@ held f =
 
 -- WHY A FILE IS REFUSED: the causes in the order in which they are looked for
 unfoldable pub ticks-good : ℕ → Bool
-ticks-good t = leb 1 t && leb t 65535
+ticks-good t = within 1 65535 t
 
 unfoldable pub length-good : List ℕ → Bool
 length-good f = leb head-size (length f) && eqb (length f) (file-size (head-in f .runs) (head-in f .starts))
 
--- 1, 2, 3: length, sides, ticks
-unfoldable pub head-refusal : List ℕ → Refusal
-head-refusal f =
-    let x = head-in f in
-    cond (not (length-good f)) (cause 1) (cond (not (sides-good (x .width) (x .height))) (cause 2) (cond (not (ticks-good (x .ticks))) (cause 3) none))
+-- 1, 2: its length, then the sides
+unfoldable pub front-causes : List ℕ → List Cause
+front-causes f = caused 1 (not (length-good f)) ∷ caused 2 (not (sides-good (head-in f .width) (head-in f .height))) ∷ []
 
--- 5, 21, 23, 6: the ground's and all runs' slownesses, with the storeys; then the rules of runs
-unfoldable pub runs-refusal : List ℕ → Refusal
-runs-refusal f =
+-- 3; 5, 21, 23 of the ground's and all runs' slownesses; 6, the rules of runs; 7, 18, 8, 9 are those of the board that it holds
+unfoldable pub rest-causes : List ℕ → List Cause
+rest-causes f =
     let x = head-in f in
     let g = x .ground in
-    or-else (house-refusal (x .width) (x .height) (x .storeys) (g ∷ map (λ y. y .slow) (runs-in f)))
-    (cond (not (runs-good (size (held f)) g 0 g (runs-in f))) (cause 6) none)
+    caused 3 (not (ticks-good (x .ticks)))
+    ∷ (pair-causes (x .width) (x .height) (x .storeys) (g ∷ map (λ y. y .slow) (runs-in f))
+    ++ caused 6 (not (runs-good (size (held f)) g 0 g (runs-in f))) ∷ start-causes (held f))
 
--- 7, 18, 8, 9 are those of the board that it holds
+unfoldable pub file-causes : List ℕ → List Cause
+file-causes f = front-causes f ++ rest-causes f
+
 unfoldable pub file-refusal : List ℕ → Refusal
-file-refusal f = or-else (head-refusal f) (or-else (runs-refusal f) (starts-refusal (held f)))
+file-refusal f = first-of (file-causes f)

@@ -5,13 +5,14 @@ use mathlib.Core.List.{List, [], _∷_, _++_}
 use Prim.Native.Nat.{ℕ, _+_, _*_, _≤_, _<_}
 use lib.ListN.{length, take, drop}
 use Rattle.eikonal.specs.Board.{Board, size, largest}
-use Rattle.eikonal.specs.Refusals.{Handed, none, house-refusal, board-refusal, by-lists}
+use Rattle.eikonal.specs.Order.{In-order, none}
+use Rattle.eikonal.specs.Refusals.{Handed, house-refusal, board-refusal, by-lists}
 use Rattle.eikonal.specs.Ledger.{answer}
 use Rattle.eikonal.specs.Promise.{First-at-fault}
 use Rattle.eikonal.specs.declared.Reply.{Reply}
 use Rattle.scenario.specs.Bytes.{Bytes}
 use Rattle.scenario.specs.File.{file-of, head-in, held, ticks-good, file-refusal}
-use Rattle.scenario.specs.Calls.{Reads, Writes, scenario}
+use Rattle.scenario.specs.Calls.{reader-causes, Reads, writer-causes, Writes, scenario}
 use Rattle.scenario.specs.Turns.{turn-of, to-go}
 use Rattle.scenario.specs.declared.Scenario.{Scenario}
 
@@ -51,6 +52,13 @@ Write-then-read =
     length slow ≤ length s → length cells ≤ length c → length cells ≤ length b →
     (x ≡ scenario none w h storeys t g (length cells)) × (s-now ≡ slow ++ drop (length slow) s)
     × (c-now ≡ cells ++ drop (length cells) c) × (b-now ≡ begins ++ drop (length begins) b)
+
+-- THE CAUSES that the reader and the writer look for follow the one order
+unfoldable pub Reader-in-order : Type 0
+Reader-in-order = (f : List ℕ) (slows starts : ℕ) → In-order (reader-causes f slows starts)
+
+unfoldable pub Writer-in-order : Type 0
+Writer-in-order = (p : Handed) (t g out : ℕ) → In-order (writer-causes p t g out)
 
 -- THE PLACE that the reader and the writer answer is that of the first start at fault
 unfoldable pub Reader-place : Type 0

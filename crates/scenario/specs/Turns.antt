@@ -1,10 +1,11 @@
 -- TURNS: tokens go down when a turn closes (Card 3 of document 02).
 use mathlib.Core.Path.{_≡_}
 use mathlib.Core.Bool.{not, cond}
+use mathlib.Core.List.{[], _∷_}
 use Prim.Native.Nat.{ℕ, _*_, _-_}
 use lib.Dec.{ltb, eqb}
 use Rattle.eikonal.specs.Board.{never, largest}
-use Rattle.eikonal.specs.Refusals.{cause, none}
+use Rattle.eikonal.specs.Order.{caused, first-of}
 use Rattle.eikonal.specs.Tiles.{up}
 use Rattle.eikonal.specs.declared.Refusal.{Refusal}
 use Rattle.scenario.specs.File.{ticks-good}
@@ -20,7 +21,7 @@ to-go t k = cond (ltb largest t) 0 (turn-of t k * k - t)
 
 -- ticks that are not 1 to 65,535 are 3, and nothing else is refused
 unfoldable pub turn-refusal : (ticks : ℕ) → Refusal
-turn-refusal k = cond (not (ticks-good k)) (cause 3) none
+turn-refusal k = first-of (caused 3 (not (ticks-good k)) ∷ [])
 
 unfoldable pub turn-reply : (number turn to-go : ℕ) → TurnReply
 turn-reply n t g = record { number = n; turn = t; «to_go» = g }

@@ -12,7 +12,7 @@ use super::bytes::put_four;
 use super::bytes::put_two;
 use super::bytes::two_at;
 use super::runs::wide;
-use eikonal::refusals::house_size;
+use eikonal::house_size;
 
 pub fn head_of(file: &[u8]) -> Head
     requires { ⌜ head-size ≤ length (now file) ⌝ }

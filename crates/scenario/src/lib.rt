@@ -5,12 +5,11 @@ pub mod runs;
 pub mod starts;
 
 ghost use mathlib.Core.Path.{_≡_};
-ghost use Rattle.eikonal.specs.Refusals.{sides-good};
 ghost use Rattle.scenario.specs.File.{ticks-good};
 ghost use Rattle.scenario.specs.Turns.{turn-reply, Turn-says};
 use eikonal::LARGEST;
 use eikonal::NEVER;
-use eikonal::refusals::side_good;
+use refusals::causes::within;
 
 // What a file holds besides its lists: number 0, the rest and the place 0, or a refusal's number and place and zeros.
 #[repr(C)]
@@ -58,22 +57,10 @@ pub struct Run {
     pub slow: u32,
 }
 
-pub fn sides_good(width: u32, height: u32) -> bool
-    ensures { λ r. ⌜ r ≡ sides-good width height ⌝ }
-{
-    if side_good(width) {
-        return side_good(height);
-    }
-    false
-}
-
 pub fn ticks_good(ticks: u32) -> bool
     ensures { λ r. ⌜ r ≡ ticks-good ticks ⌝ }
 {
-    if ticks < 1 {
-        return false;
-    }
-    ticks <= 65535
+    within(1, 65535, ticks as usize)
 }
 
 fn turn_reply(number: u32, turn: u32, rest: u32) -> TurnReply

@@ -3,7 +3,7 @@ ghost use mathlib.Core.Path.{_≡_};
 ghost use mathlib.Core.List.{_++_, map};
 ghost use Prim.Native.Nat.{_+_, _≤_};
 ghost use lib.ListN.{length, take, drop};
-ghost use Rattle.eikonal.specs.Inner.Flaws.{with-pairs};
+ghost use Rattle.refusals.specs.Flaws.{with-pairs};
 ghost use Rattle.scenario.specs.Bytes.{records};
 ghost use Rattle.scenario.specs.Runs.{run-good, runs-good};
 ghost use Rattle.scenario.specs.File.{head-size, run-size, runs-end, run-bytes, run-in};
@@ -14,8 +14,8 @@ use super::Run;
 use super::bytes::four_at;
 use super::bytes::put_four;
 use super::bytes::put_wide_pair;
-use eikonal::refusals::Flaws;
-use eikonal::refusals::with_pair;
+use refusals::board::Flaws;
+use refusals::board::with_pair;
 
 pub fn wide(x: u32) -> usize
     ensures { λ r. ⌜ r ≡ x ⌝ }

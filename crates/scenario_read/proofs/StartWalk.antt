@@ -12,8 +12,9 @@ use borrow.Author.Tests.{le-leb, lt-leb, ne-eqb, leb-true, ltb-true}
 use Rattle.eikonal.specs.Board.{Board, slowness}
 use Rattle.eikonal.specs.declared.Start.{Start}
 use Rattle.eikonal.specs.Refusals.{on-wall}
-use Rattle.eikonal.specs.Inner.Judge.{starts-rise, judge-start, judge-by}
-use Rattle.eikonal.specs.declared.refusals.Judged.{Judged}
+use Rattle.eikonal.specs.Inner.Good.{starts-rise}
+use Rattle.refusals.specs.Judge.{judge-start, judge-by}
+use Rattle.refusals.specs.declared.board.Judged.{Judged}
 use Rattle.eikonal.proofs.Good.{and-true}
 use Rattle.scenario.specs.declared.Run.{Run}
 use Rattle.scenario.specs.Bytes.{records}

@@ -11,7 +11,7 @@ ghost use Rattle.eikonal.specs.Refusals.{cells-of, begins-of};
 ghost use Rattle.scenario.specs.Bytes.{records};
 ghost use Rattle.scenario.specs.File.{start-size, held, start-in, start-count, starts-in, file-refusal};
 ghost use Rattle.scenario.specs.Calls.{filled, reader-refusal, reader-answer, Reads};
-use eikonal::refusals::shorter;
+use eikonal::shorter;
 use scenario::START;
 use scenario::Scenario;
 use scenario::heads::board_size;

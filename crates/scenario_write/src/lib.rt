@@ -1,18 +1,22 @@
 // The writer of scenario files.
-pub mod given;
 pub mod write;
 
 ghost use Rattle.eikonal.specs.Refusals.{by-lists};
 ghost use Rattle.scenario.specs.Calls.{Writes};
 ghost use Rattle.scenario.specs.Inner.Begin.{Judging, Begins};
 use eikonal::Reply;
-use eikonal::refusals::Judged;
-use eikonal::refusals::judge_starts;
-use eikonal::refusals::judged_refusal;
-use eikonal::refusals::nothing_judged;
+use eikonal::cause;
+use refusals::board::Judged;
+use refusals::board::board_refusal;
+use refusals::board::flawless;
+use refusals::board::judge_starts;
+use refusals::board::nothing_judged;
+use refusals::board::with_pair;
+use refusals::causes::when;
 use scenario::START;
 use scenario::heads::file_length;
 use scenario::heads::starts_base;
+use scenario::ticks_good;
 
 // Writes all but the starts, which are so many and judged already, and answers the whole file's length. A refused call
 // leaves the bytes as they were.
@@ -31,19 +35,26 @@ pub fn begin_file(
     requires { ⌜ Judging (now slow) cells begins «judged» ⌝ }
     ensures { λ x. ⌜ Begins width height storeys ticks ground (now (slow .entry)) cells begins «judged» (now (out .entry)) (now (out .exit)) x ⌝ }
 {
-    let given = given::given_refusal(width, height, storeys, ticks, ground, slow, cells, begins);
-    if given.number != 0 {
-        return eikonal::refused(given);
-    }
-    let starts = judged_refusal(judged);
-    if starts.number != 0 {
-        return eikonal::refused(starts);
+    let board = board_refusal(
+        width,
+        height,
+        storeys,
+        slow,
+        cells,
+        begins,
+        judged,
+        with_pair(ground, flawless()),
+        when(!ticks_good(ticks), 3, 0, cause(0)),
+        cause(0),
+    );
+    if board.number != 0 {
+        return eikonal::refused(board);
     }
     let head = write::head_for(width, height, storeys, ticks, ground, slow, cells);
     let at = starts_base(head);
     let need = file_length(head);
     if out.len() < need {
-        return eikonal::refused(eikonal::cause(14));
+        return eikonal::refused(cause(14));
     }
     write::write_front(&mut out[..at], head, slow);
     eikonal::counted(need as u32)

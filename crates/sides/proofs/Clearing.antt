@@ -12,7 +12,7 @@ use lib.Seq.{getD-set-same, getD-set-other, take-suc}
 use borrow.Author.Tests.{eq-eqb, ne-eqb}
 use Rattle.eikonal.specs.Refusals.{starts-of}
 use Rattle.eikonal.specs.declared.Start.{Start}
-use Rattle.eikonal.proofs.Judging.{starts-of-append, starts-of-take}
+use Rattle.eikonal.proofs.StartLists.{starts-of-append, starts-of-take}
 use Rattle.sides.specs.Clear.{begins-at, Cleared}
 
 -- of two lists of starts, in either

@@ -1,30 +1,21 @@
 -- What the tablet's call answers and leaves.
 use mathlib.Core.Path.{_≡_, refl, ap}
-use mathlib.Core.Bool.{_||_}
-use mathlib.Core.List.{List, _++_}
+use mathlib.Core.List.{List, [], _∷_, _++_}
 use mathlib.Core.Logic.{_≢_}
 use Prim.Native.Nat.{ℕ, _*_, _≤_}
-use native.Mathlib.Omega.{arith}
-use lib.Dec.{ltb, eqb}
+use lib.Dec.{leb}
 use lib.ListN.{length, drop}
-use borrow.Author.Tests.{eq-eqb, ne-eqb, eqb-false, ltb-false}
+use borrow.Author.Tests.{eq-eqb, ne-eqb, leb-true, ltb-false, not-false}
 use Rattle.eikonal.specs.Board.{size, largest}
 use Rattle.eikonal.specs.Tiles.{rounds}
-use Rattle.eikonal.specs.Refusals.{sides-good}
+use Rattle.eikonal.specs.Order.{caused}
 use Rattle.eikonal.specs.declared.Refusal.{Refusal}
-use Rattle.eikonal.proofs.Causes.{fulfilled, passed, neither}
-use Rattle.eikonal.proofs.Good.{or-false}
+use Rattle.eikonal.proofs.Causes.{None-met, none-met, unrefused, met-parts, number-is}
+use Rattle.eikonal.proofs.Good.{and-true}
 use Rattle.scenario.specs.File.{held}
 use Rattle.scenario.proofs.Answers.{kept, part-entered}
-use Rattle.tablet.specs.Small.{horizon, small-refusal, Tiled}
-use Rattle.tablet.specs.Tablet.{tiling-refusal, tablet-refusal, tablet-answer, times-bytes, Tablet-says}
-
-pub tiling : (s tw th : ℕ) → tiling-refusal s tw th .number ≡ 0 → Tiled s tw th
-unfolding tiling-refusal
-tiling s tw th e =
-    let r = passed (eqb s 0 || ltb largest s) 9 _ e in
-    let q = or-false (eqb s 0) (ltb largest s) (r .0) in
-    record { least = omega (arith, eqb-false s 0 (q .0)); most = ltb-false largest s (q .1); sides = fulfilled (sides-good tw th) 10 _ (r .1) .0 }
+use Rattle.tablet.specs.Small.{horizon, small-causes, small-refusal, Tiled}
+use Rattle.tablet.specs.Tablet.{tablet-causes, tablet-refusal, tablet-answer, times-bytes, Tablet-says}
 
 pub record Taken (f : List ℕ) (s tw th n : ℕ) : Type 0 where
   pub accepted : small-refusal f .number ≡ 0
@@ -32,12 +23,16 @@ pub record Taken (f : List ℕ) (s tw th n : ℕ) : Type 0 where
   pub room : 4 * size (held f) ≤ n
 
 pub taken : (f : List ℕ) (s tw th n : ℕ) → tablet-refusal f s tw th n .number ≡ 0 → Taken f s tw th n
-unfolding tablet-refusal
+unfolding None-met tablet-refusal tablet-causes small-refusal
 taken f s tw th n e =
-    let n4 = 4 * size (held f) in
-    let r = neither (small-refusal f) _ e in
-    let q = neither (tiling-refusal s tw th) _ (r .1) in
-    record { accepted = r .0; tiles = tiling s tw th (q .0); room = ltb-false n n4 (passed (ltb n n4) 13 _ (q .1) .0) }
+    let m = met-parts (small-causes f) (caused 10 _ ∷ caused 11 _ ∷ caused 14 _ ∷ []) (none-met (tablet-causes f s tw th n) e) in
+    let k = m .1 in
+    let stride = and-true (leb 1 s) (leb s largest) (not-false _ (k .0)) in
+    record {
+      accepted = number-is (unrefused (small-causes f) (m .0));
+      tiles = record { least = leb-true 1 s (stride .0); most = leb-true s largest (stride .1); sides = not-false _ (k .1 .0) };
+      room = ltb-false n (4 * size (held f)) (k .1 .1 .0);
+    }
 
 module _ (f : List ℕ) (s tw th : ℕ) (out : List ℕ) (k : Refusal) (e : k ≡ tablet-refusal f s tw th (length out)) where
   pub says-refused : k .number ≢ 0 → Tablet-says f s tw th out out (k .number)

@@ -1,5 +1,5 @@
 -- THE PROMISES of the tablet's call: each statement of specs/Promise.antt with its proof.
-use mathlib.Core.Path.{_≡_, sym, ap, _∙_}
+use mathlib.Core.Path.{_≡_, refl, sym, ap, _∙_}
 use mathlib.Core.Bool.{true}
 use mathlib.Core.List.{List}
 use Prim.Native.Nat.{ℕ, _+_, _*_, _-_, _≤_}
@@ -8,24 +8,36 @@ use lib.ListN.{length}
 use borrow.Author.Tests.{eq-eqb}
 use Rattle.eikonal.specs.Board.{size, solved, marched}
 use Rattle.eikonal.specs.Tiles.{rounds}
-use Rattle.eikonal.specs.Refusals.{board-refusal}
+use Rattle.eikonal.specs.Order.{rank, rank-in, follows}
+use Rattle.eikonal.specs.Refusals.{pair-causes, record-causes, start-causes, board-refusal}
 use Rattle.eikonal.specs.Promise.{board-good}
 use Rattle.one_tile.specs.Rounds.{strides, exact-rounds}
 use Rattle.one_tile.specs.Promise.{One-tile-rounds, One-tile-beforehand}
 use Rattle.one_tile.proofs.LastSpan.{strides-some, comes, exact-cut}
 use Rattle.one_tile.proofs.Promises.{one-tile-rounds, one-tile-beforehand}
-use Rattle.scenario.specs.File.{held}
-use Rattle.tablet.specs.Small.{horizon}
-use Rattle.tablet.specs.Tablet.{tablet-refusal, tablet-answer, Tablet-says}
-use Rattle.tablet.specs.Promise.{One-tile-tablet-counts, One-tile-tablet-beforehand}
-use Rattle.tablet.proofs.SmallFiles.{small, board-taken, cells-few}
+use Rattle.scenario.specs.File.{held, front-causes, rest-causes}
+use Rattle.scenario.proofs.Causes.{board-taken}
+use Rattle.scenario.proofs.Composed.{held-given}
+use Rattle.tablet.specs.Small.{horizon, small-causes}
+use Rattle.tablet.specs.Tablet.{tablet-causes, tablet-refusal, tablet-answer, Tablet-says}
+use Rattle.tablet.specs.Promise.{Small-in-order, Tablet-in-order, One-tile-tablet-counts, One-tile-tablet-beforehand}
+use Rattle.tablet.proofs.SmallFiles.{small, cells-few}
 use Rattle.tablet.proofs.Answers.{taken}
+
+-- ---- the one order: computed
+pub small-in-order : Small-in-order
+unfolding Small-in-order small-causes front-causes rest-causes pair-causes start-causes record-causes follows rank rank-in
+small-in-order f = refl
+
+pub tablet-in-order : Tablet-in-order
+unfolding Tablet-in-order tablet-causes small-causes front-causes rest-causes pair-causes start-causes record-causes follows rank rank-in
+tablet-in-order f s tw th n = refl
 
 -- ---- a call that is accepted: its board, its stride, its answer
 module _ (f : List ℕ) (s tw th n : ℕ) (e : tablet-refusal f s tw th n .number ≡ 0) where
   legal : board-good (held f) ≡ true
   unfolding board-good
-  legal = eq-eqb (board-refusal (held f) .number) 0 (board-taken f (small f (taken f s tw th n e .accepted) .taken))
+  legal = eq-eqb (board-refusal (held f) .number) 0 (board-taken (held-given f (small f (taken f s tw th n e .accepted) .taken)))
 
   few : size (held f) ≤ 1024
   few = cells-few f (small f (taken f s tw th n e .accepted))

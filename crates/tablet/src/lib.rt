@@ -3,50 +3,47 @@ pub mod run;
 pub mod small;
 
 ghost use mathlib.Core.Path.{_≡_};
+ghost use mathlib.Core.List.{[], _∷_};
 ghost use Prim.Native.Nat.{_*_};
+ghost use lib.Dec.{ltb};
 ghost use lib.ListN.{length};
+ghost use Rattle.eikonal.specs.Board.{size};
+ghost use Rattle.eikonal.specs.Order.{caused, or-else, first-of};
 ghost use Rattle.scenario.specs.Bytes.{four-bytes, bytes-of};
-ghost use Rattle.tablet.specs.Tablet.{tiling-refusal, tablet-refusal, Tablet-says};
+ghost use Rattle.scenario.specs.File.{held};
+ghost use Rattle.tablet.specs.Small.{small-refusal};
+ghost use Rattle.tablet.specs.Tablet.{tablet-refusal, Tablet-says};
 use eikonal::LARGEST;
 use eikonal::Refusal;
 use eikonal::cause;
+use refusals::board::sides_good;
+use refusals::causes::below;
+use refusals::causes::or_else;
+use refusals::causes::when;
+use refusals::causes::within;
 use scenario::bytes::put_four;
 use scenario::heads::board_size;
 use scenario::heads::head_of;
-use scenario::sides_good;
 
-// 10 and 11.
-fn tiling_refusal(stride: u32, across: u32, down: u32) -> Refusal
-    ensures { λ r. ⌜ r ≡ tiling-refusal stride across down ⌝ }
+// 14, where nothing was found before.
+fn room_refusal(so_far: Refusal, file: &[u8], room: usize) -> Refusal
+    requires { ⌜ («so_far» .number ≡ 0 → small-refusal (now file) .number ≡ 0) ⌝ }
+    ensures { λ r. ⌜ r ≡ or-else «so_far» (first-of (caused 14 (ltb room (4 * size (held (now (file .entry))))) ∷ [])) ⌝ }
 {
-    if stride == 0 {
-        return cause(10);
+    if so_far.number != 0 {
+        return so_far;
     }
-    if stride > LARGEST {
-        return cause(10);
-    }
-    if !sides_good(across, down) {
-        return cause(11);
-    }
-    cause(0)
+    let short = below(room, 4 * board_size(head_of(file)));
+    when(short, 14, 0, cause(0))
 }
 
 // All that the tablet is refused by, for an output of so many bytes.
 fn tablet_refusal(file: &[u8], stride: u32, across: u32, down: u32, room: usize) -> Refusal
     ensures { λ r. ⌜ r ≡ tablet-refusal (now (file .entry)) stride across down room ⌝ }
 {
-    let small = small::small_refusal(file);
-    if small.number != 0 {
-        return small;
-    }
-    let tiling = tiling_refusal(stride, across, down);
-    if tiling.number != 0 {
-        return tiling;
-    }
-    if room < 4 * board_size(head_of(file)) {
-        return cause(14);
-    }
-    cause(0)
+    let by_11 = when(!sides_good(across, down), 11, 0, cause(0));
+    let tiling = when(!within(1, LARGEST as usize, stride as usize), 10, 0, by_11);
+    room_refusal(or_else(small::small_refusal(file), tiling), file, room)
 }
 
 // Each time as 4 bytes, into a list that is just as long.

@@ -7,7 +7,9 @@ ghost use Rattle.eikonal.specs.Tiles.{rounds};
 ghost use Rattle.eikonal.specs.Refusals.{by-lists, handed-refusal};
 ghost use Rattle.scenario.specs.File.{held};
 ghost use Rattle.tablet.specs.Small.{horizon, small-refusal, Tiled};
-use refusals::tiles_along;
+use eikonal::nothing_own;
+use eikonal::run_job;
+use refusals::tiles::tiles_along;
 use scenario::heads::head_of;
 use scenario::heads::starts_base;
 use scenario::runs::wide;
@@ -74,17 +76,15 @@ fn run_board(
     let n = times.len();
     let mut sides = side_entries();
     let mut work = work_entries();
-    let reply = engine::calls::tile_run(
+    let reply = engine::calls::play(
         width,
         height,
         storeys,
         slow,
         cells,
         begins,
-        across,
-        down,
-        stride,
-        HORIZON,
+        nothing_own(),
+        run_job(across, down, stride, HORIZON),
         &order[..tiles],
         times,
         &mut sides[..n],

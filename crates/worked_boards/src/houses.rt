@@ -24,7 +24,7 @@ pub fn house() {
     let mut times = [0u32; 8];
     let mut sides = [0u8; 8];
     let mut work = [0u32; 32];
-    let march = engine::calls::march(
+    let march = murgolab::murgolab_march_plain(
         2,
         2,
         2,
@@ -39,7 +39,7 @@ pub fn house() {
     super::tell::tell_reply(b"house, refusal and cells reached: ", march, 0, 8);
     super::tell::tell(b"its times: ", &times, &want);
     super::tell::tell_sides(&sides, &want_sides);
-    let run = engine::calls::tile_run(
+    let run = murgolab::murgolab_tile_run_plain(
         2,
         2,
         2,
@@ -71,7 +71,7 @@ fn tower(
     count: u32,
 ) {
     let mut work = [0u32; 36];
-    let reply = engine::calls::march(
+    let reply = murgolab::murgolab_march_plain(
         1,
         1,
         storeys,

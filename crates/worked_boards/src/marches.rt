@@ -16,7 +16,7 @@ fn march(
     let mut times = [0u32; 9];
     let mut sides = [0u8; 9];
     let mut work = [0u32; 36];
-    let reply = engine::calls::march(
+    let reply = murgolab::murgolab_march_plain(
         3,
         3,
         1,
@@ -100,7 +100,7 @@ fn side(name: &[u8], width: u32, height: u32, number: u32, count: u32) {
     let mut times = [0u32; 256];
     let mut sides = [0u8; 256];
     let mut work = [0u32; 1024];
-    let reply = engine::calls::march(
+    let reply = murgolab::murgolab_march_plain(
         width,
         height,
         1,
@@ -135,7 +135,7 @@ pub fn turns() {
     let mut times = [0u32; 9];
     let mut sides = [0u8; 9];
     let mut work = [0u32; 36];
-    engine::calls::march(
+    murgolab::murgolab_march_plain(
         3,
         3,
         1,

@@ -27,7 +27,7 @@ pub fn ploughed() {
     let mut times = [0u32; 9];
     let mut sides = [0u8; 9];
     let mut work = [0u32; 36];
-    let march = engine::calls::march(
+    let march = murgolab::murgolab_march_plain(
         3,
         3,
         1,
@@ -42,7 +42,7 @@ pub fn ploughed() {
     super::tell::tell_reply(b"ploughed, refusal and cells reached: ", march, 0, 9);
     super::tell::tell(b"its times: ", &times, &want);
     super::tell::tell_sides(&sides, &want_sides);
-    let run = engine::calls::tile_run(
+    let run = murgolab::murgolab_tile_run_plain(
         3,
         3,
         1,

@@ -13,7 +13,7 @@ fn round(name: &[u8], bound: u32, times: &mut [u32], want: &[u32], want_sides: &
     let order = [0u32, 1, 2, 3];
     let mut sides = [0u8; 9];
     let mut work = [0u32; 36];
-    engine::calls::one_round(
+    murgolab::murgolab_one_round_plain(
         3,
         3,
         1,
@@ -53,7 +53,7 @@ fn narrow_round(name: &[u8], count: u32, times: &mut [u32], want: &[u32], want_s
     let order = [0u32, 1, 2, 3];
     let mut sides = [0u8; 4];
     let mut work = [0u32; 16];
-    let reply = engine::calls::one_round(
+    let reply = murgolab::murgolab_one_round_plain(
         4,
         1,
         1,
@@ -109,7 +109,7 @@ fn run(name: &[u8], side: u32, order: &[u32], rounds: u32) {
     let mut times = [0u32; 9];
     let mut sides = [0u8; 9];
     let mut work = [0u32; 36];
-    let reply = engine::calls::tile_run(
+    let reply = murgolab::murgolab_tile_run_plain(
         3,
         3,
         1,

@@ -7,11 +7,10 @@ use native.Mathlib.Omega.{arith}
 use lib.Dec.{ltb, eqb}
 use borrow.Author.Tests.{ltb-false, eqb-true, ne-eqb, not-false}
 use Rattle.eikonal.specs.Board.{never, largest, earlier, local-of, local}
-use Rattle.eikonal.specs.Refusals.{none, steep, half-wall}
-use Rattle.eikonal.specs.Entry.{seen, pair-refusal, local-refusal}
+use Rattle.eikonal.specs.Entry.{seen, local-causes, local-refusal}
 use Rattle.eikonal.specs.Inner.Good.{Known, Pair}
-use Rattle.eikonal.proofs.Causes.{neither, passed}
-use Rattle.eikonal.proofs.Good.{unflawed, to-pair}
+use Rattle.eikonal.proofs.Causes.{None-met, none-met}
+use Rattle.eikonal.proofs.Good.{to-pair}
 use Rattle.eikonal.proofs.Local.{local-is}
 use Rattle.eikonal.proofs.Solution.{earlier-known, local-known}
 use Rattle.eikonal.proofs.Walls.{unequal}
@@ -21,15 +20,15 @@ use Rattle.arrival.proofs.local_time.Tie as tie
 
 -- a pair that is not refused
 spared : (g h o n : ℕ) → local-refusal g h o n .number ≡ 0 → Pair g h
-unfolding local-refusal pair-refusal
-spared g h o n e = let f = unflawed (steep g h) (half-wall g h) (neither _ _ e .0) in to-pair g h (f .0) (f .1)
+unfolding local-refusal local-causes None-met
+spared g h o n e = let r = none-met (local-causes g h o n) e in to-pair g h (r .0) (r .1 .0)
 
 -- and has no time over or under if its numbers differ
 flat : (g h o n : ℕ) → local-refusal g h o n .number ≡ 0 → (g ≡ h → ⊥) → earlier (seen o) (seen n) ≡ never
-unfolding local-refusal
+unfolding local-refusal local-causes None-met
 flat g h o n e d =
     let z = earlier (seen o) (seen n) in
-    let p : not (eqb g h) && not (eqb z never) ≡ false = passed _ 22 none (neither (pair-refusal g h) _ e .1) .0 in
+    let p : not (eqb g h) && not (eqb z never) ≡ false = none-met (local-causes g h o n) e .1 .1 .0 in
     eqb-true z never (not-false _ (rw (ne-eqb g h d) at p))
 
 seen-known : (t : ℕ) → Known largest (seen t)

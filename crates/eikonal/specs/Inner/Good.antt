@@ -1,9 +1,18 @@
 -- What a board that is not refused has. No public promise rests on these.
 use mathlib.Core.Path.{_≡_}
+use mathlib.Core.Bool.{Bool, true, _&&_}
+use mathlib.Core.List.{List, [], _∷_}
 use mathlib.Core.Logic.{_⊎_}
-use Prim.Native.Nat.{ℕ, _≤_}
+use Prim.Native.Nat.{ℕ, suc, _≤_}
+use lib.Dec.{ltb, leb}
 use lib.ListN.{length}
 use Rattle.eikonal.specs.Board.{Board, size, slowness, along-row, down-column, never, start-time}
+use Rattle.eikonal.specs.declared.Start.{Start}
+
+-- cells on the board, each above the one before
+unfoldable pub starts-rise : (n least : ℕ) → List Start → Bool
+starts-rise n l [] = true
+starts-rise n l (x ∷ xs) = (leb l (x .cell) && ltb (x .cell) n) && starts-rise n (suc (x .cell)) xs
 
 -- a time up to the most, or never
 abbrev pub Known : (most t : ℕ) → Type 0

@@ -15,7 +15,7 @@ use Rattle.eikonal.specs.Sides.{march-sides, round-sides}
 use Rattle.eikonal.specs.Ledger.{entered}
 use Rattle.eikonal.specs.Inner.Clip.{clip}
 use Rattle.eikonal.specs.Inner.Good.{Good}
-use Rattle.eikonal.specs.Inner.Judge.{starts-rise}
+use Rattle.eikonal.specs.Inner.Good.{starts-rise}
 use Rattle.eikonal.specs.Inner.Sides.{sides-by, found}
 use Rattle.eikonal.specs.declared.Job.{Job}
 use Rattle.eikonal.specs.declared.Job.the-variants.{March, Round, Run}

@@ -10,15 +10,18 @@ use lib.ListN.{length, replicate}
 use borrow.Author.Tests.{eq-eqb, ne-eqb}
 use Rattle.eikonal.specs.Board.{Board, largest, size}
 use Rattle.eikonal.specs.Tiles.{tile-count}
-use Rattle.eikonal.specs.Refusals.{none, Handed, handed-refusal, order-good, job-refusal}
-use Rattle.eikonal.specs.Ledger.{Sheet, sheet, Call, call-board, refusal, entered, answer, ledger-answer, ledger-after, work-after}
-use Rattle.eikonal.specs.Entry.{lent, Says}
+use Rattle.eikonal.specs.Order.{none, first-of}
+use Rattle.eikonal.specs.Refusals.{Handed, board-causes, order-good, job-causes}
+use Rattle.eikonal.specs.Ledger.{Sheet, sheet, Call, call-board, own-refusal, entered, answer, own-answer, own-times, own-sides, own-work}
+use Rattle.eikonal.specs.Entry.{lent, Counts}
 use Rattle.eikonal.specs.declared.Refusal.{Refusal}
+use Rattle.eikonal.specs.declared.Own.{Own}
 use Rattle.eikonal.specs.declared.Reply.{Reply}
 use Rattle.eikonal.specs.declared.Job.{Job}
 use Rattle.eikonal.specs.declared.Job.the-variants.{March, Round, Run}
 use Rattle.eikonal.specs.declared.Start.{Start}
-use Rattle.eikonal.proofs.Good.{size-most, accepted}
+use Rattle.eikonal.proofs.Causes.{None-met, none-met, number-is}
+use Rattle.eikonal.proofs.Good.{size-most, passes}
 use Rattle.eikonal.proofs.Accepted.{Fits, fits, march-can, round-can, run-can}
 use Rattle.eikonal.proofs.Answers.{answered-zero, answered-refused}
 use Rattle.front.specs.State.{Begun}
@@ -33,18 +36,18 @@ use Rattle.engine.proofs.Theory.Calls.{drop-same}
 
 -- ---- an accepted job can be done in its shape, whose tiles have good sides
 module _ (b : Board) (xs : List ℕ) (wide : b .wide ≤ 256) (high : b .high ≤ 256) where
-  doable : (j : Job) → job-refusal b j xs .number ≡ 0 → Doable j (shaped (b .wide) (b .high) (b .storeys) j) xs
+  doable : (j : Job) → None-met (job-causes b j xs) → Doable j (shaped (b .wide) (b .high) (b .storeys) j) xs
   unfolding Doable order-good tile-count
   doable (March z) e = (wide, high, march-can b xs z e)
   doable (Round tw th m) e = let r = round-can b xs tw th m e in (refl, refl, r .0, r .1 .ordered)
   doable (Run tw th d z) e = let r = run-can b xs tw th d z e in (refl, refl, r .1, r .2, r .0)
 
-  bound-low : (j : Job) → job-refusal b j xs .number ≡ 0 → bound-of j ≤ largest
+  bound-low : (j : Job) → None-met (job-causes b j xs) → bound-of j ≤ largest
   bound-low (March z) e = march-can b xs z e
   bound-low (Round tw th m) e = round-can b xs tw th m e .0
   bound-low (Run tw th d z) e = run-can b xs tw th d z e .0
 
-  tiles-sided : (j : Job) → job-refusal b j xs .number ≡ 0 → (s : Shape) → s ≡ shaped (b .wide) (b .high) (b .storeys) j
+  tiles-sided : (j : Job) → None-met (job-causes b j xs) → (s : Shape) → s ≡ shaped (b .wide) (b .high) (b .storeys) j
       → (1 ≤ s .across) × (s .across ≤ 256) × (1 ≤ s .down) × (s .down ≤ 256)
   tiles-sided (March z) e s is = rw is (omega arith, omega arith, omega arith, omega arith)
   tiles-sided (Round tw th m) e s is = let r = round-can b xs tw th m e .1 in rw is (r .across-low, r .across-high, r .down-low, r .down-high)
@@ -65,14 +68,14 @@ in-shape b (Round tw th m) s is = rw is (record { wide = refl; high = refl; stor
 in-shape b (Run tw th d z) s is = rw is (record { wide = refl; high = refl; storeys = refl; whole = refl; cells = refl })
 
 -- ---- what a call that is not refused gives its beginning: sides that fit, and room
-pub sides-fit : (p : Handed) (r : Refusal) → r ≡ handed-refusal p → r .number ≡ 0
+pub sides-fit : (p : Handed) (u v r : Refusal) → r ≡ first-of (board-causes p (p .board .slow) u v) → r .number ≡ 0
     → (p .board .wide ≤ 256) × (p .board .high ≤ 256) × (p .board .wide * p .board .high * p .board .storeys ≤ 65536)
 unfolding size
-sides-fit p r e z = let g = accepted p (sym (ap (λ (k : Refusal). k .number) e) ∙ z) .good in (g .wide-high, g .high-high, g .few)
+sides-fit p u v r e z = let g = passes p u v (none-met _ (sym (number-is e) ∙ z)) .good in (g .wide-high, g .high-high, g .few)
 
-module _ (c : Call) (t s : ℕ) (r : Refusal) (e : r ≡ refusal c t s) (z : r .number ≡ 0) where
-  fine : Fits c t s
-  fine = fits c t s (sym (ap (λ (k : Refusal). k .number) e) ∙ z)
+module _ (c : Call) (o : Own) (t : ℕ) (r : Refusal) (e : r ≡ own-refusal c o t) (z : r .number ≡ 0) where
+  fine : Fits c t
+  fine = fits c o t (sym (number-is e) ∙ z)
 
   pub board-sides : (call-board c .wide ≤ 256) × (call-board c .high ≤ 256) × (call-board c .wide * call-board c .high * call-board c .storeys ≤ 65536)
   unfolding size
@@ -95,15 +98,16 @@ through-from {n = n} {v = v} {v' = v'} be th = record {
 }
 
 -- ---- the call c, with the task that its beginning leaves
-module _ (c : Call) (t : Task) (ts ss v v0 : List ℕ) (same : c .work ≡ length v) (op : Opened c (length ts) (length ss) t v v0) where
+module _ (c : Call) (o : Own) (t : Task) (ts ss v v0 : List ℕ) (broad : c .sides ≡ length ss) (same : c .work ≡ length v)
+    (op : Opened c o (length ts) t v v0) where
   abbrev refused : Refusal
-  refused = refusal c (length ts) (length ss)
+  refused = own-refusal c o (length ts)
 
   not-refused : t .refusal .number ≡ 0 → refused .number ≡ 0
-  not-refused z = sym (ap (λ (k : Refusal). k .number) (op .judged)) ∙ z
+  not-refused z = sym (number-is (op .judged)) ∙ z
 
-  fit : t .refusal .number ≡ 0 → Fits c (length ts) (length ss)
-  fit z = fits c (length ts) (length ss) (not-refused z)
+  fit : t .refusal .number ≡ 0 → Fits c (length ts)
+  fit z = fits c o (length ts) (not-refused z)
 
   cells-are : t .refusal .number ≡ 0 → t .shape .cells ≡ size (call-board c)
   cells-are z = in-shape (call-board c) (c .job) (t .shape) (op .shape-is z) .cells
@@ -135,7 +139,7 @@ module _ (c : Call) (t : Task) (ts ss v v0 : List ℕ) (same : c .work ≡ lengt
           down-low = d .2;
           down-high = d .3;
           many = fit z .times-fit ∙ sym (i .cells);
-          sided = fit z .sides-fit ∙ sym (i .cells);
+          sided = sym broad ∙ fit z .sides-fit ∙ sym (i .cells);
           room = omega (arith, fit z .work-fits, i .cells, stands z .long, same);
         }
 
@@ -165,19 +169,19 @@ module _ (c : Call) (t : Task) (ts ss v v0 : List ℕ) (same : c .work ≡ lengt
           (th .sided ∙ sym (th .timed), rw (th .timed) (size-most (g .good)), rw (th .timed) (g .starts .rise))
 
       -- and when they are, the call has kept its contract
-      pub says : (ps : List ℕ) → Clear t (call-board c .starts) us qs ps → Says c x (lent ts ss v) (lent us ps u)
-      unfolding ledger-answer ledger-after work-after
+      pub says : (ps : List ℕ) → Clear t (call-board c .starts) us qs ps → Counts c o x (lent ts ss v) (lent us ps u)
+      unfolding own-answer own-times own-sides own-work
       says ps cl = elim (ℕ-discrete (t .refusal .number) 0) [
         | yes z ↦
             let k = not-refused z in
             let th = through z in
             record {
               answers = en .gone-through z .0 ∙ ap (answer none) (th .counts) ∙ sym (answered-zero refused _ k);
-              leaves = entered-now z ps (cl .cleared z) ∙ rw (eq-eqb (refused .number) 0 k);
+              leaves = entered-now z ps (cl .cleared z) ∙ rw (eq-eqb (refused .number) 0 k) refl;
               works = th .wipes ∙ rw (eq-eqb (refused .number) 0 k);
             }
         | no d ↦
-            let k : refused .number ≢ 0 = λ e. d (ap (λ (q : Refusal). q .number) (op .judged) ∙ e) in
+            let k : refused .number ≢ 0 = λ e. d (number-is (op .judged) ∙ e) in
             let r = en .turned-down d in
             record {
               answers = r .0 ∙ ap (λ (q : Refusal). answer q 0) (op .judged) ∙ sym (answered-refused refused _ k);

@@ -9,7 +9,7 @@ use Rattle.eikonal.specs.Axes.{given-on}
 use Rattle.eikonal.specs.Board.{Board, never, size, start-time, arrival}
 use Rattle.eikonal.specs.declared.Start.{Start}
 use Rattle.eikonal.specs.Refusals.{late}
-use Rattle.eikonal.specs.Inner.Judge.{starts-rise}
+use Rattle.eikonal.specs.Inner.Good.{starts-rise}
 use Rattle.eikonal.specs.Promise.{Neighbour}
 use Rattle.eikonal.specs.Inner.Good.{Good}
 use Rattle.eikonal.proofs.Lattices.{Given, stays, comes, is-given, nothing-seen}

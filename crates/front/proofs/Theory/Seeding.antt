@@ -13,9 +13,9 @@ use borrow.Author.Tests.{eq-eqb, ne-eqb, eqb-true, leb-true, ltb-true, ltb-false
 use Rattle.eikonal.specs.Board.{never, start-time}
 use Rattle.eikonal.specs.declared.Start.{Start}
 use Rattle.eikonal.specs.Refusals.{late, starts-of}
-use Rattle.eikonal.specs.Inner.Judge.{starts-rise}
+use Rattle.eikonal.specs.Inner.Good.{starts-rise}
 use Rattle.eikonal.proofs.Good.{and-true, or-false}
-use Rattle.eikonal.proofs.Judging.{starts-of-append, starts-of-take}
+use Rattle.eikonal.proofs.StartLists.{starts-of-append, starts-of-take}
 use Rattle.queue.specs.Lists.{Filled}
 use Rattle.queue.specs.Heap.{Put}
 use Rattle.queue.proofs.Heap.{heap-empty, keys-empty}

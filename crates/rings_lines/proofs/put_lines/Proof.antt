@@ -23,11 +23,11 @@ put-rows-requires c κs =
     let h = c .before .before .before .before .before .before in
     let x = h .head-of .ensures in
     let p = h .before .before .before .before in
-    let s = few p .taken .front in
+    let s = few p .taken in
     let y = head-in (p .args .file .now) in (
       omega (arith, p .pre .0 .0, p .pre .1 .1, l .ensures .1, l .kept .0),
       p .pre .1 .1,
-      omega (arith, c .wide .ensures, ap (λ u. u .width) x, sides-within (y .width) (y .height) (s .sides) .0),
+      omega (arith, c .wide .ensures, ap (λ u. u .width) x, sides-within (y .width) (y .height) (s .front .sides) .0),
       ap (λ u. ticks-good (u .ticks)) x ∙ s .ticks,
     )
 

@@ -37,7 +37,7 @@ read-slow-requires c κs =
     let b = c .before in
     let h = b .before .head-of .ensures in
     let g = accepted _ (b .before .before .before .before .pre .0) in
-    ((h, omega (arith, file-long _ _ h (g .front))), rw (h, long b ∙ cells b) (g .rest .runs))
+    ((h, omega (arith, file-long _ _ h (g .front))), rw (h, long b ∙ cells b) (g .runs))
 
 returns : tie.Need-returns
 unfolding held size

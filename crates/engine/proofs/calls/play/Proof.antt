@@ -8,7 +8,7 @@ use borrow.Author.Tests.{eqb-true}
 use Rattle.eikonal.specs.Board.{board-of}
 use Rattle.eikonal.specs.Refusals.{handed, starts-of, by-lists}
 use Rattle.eikonal.specs.Ledger.{call}
-use Rattle.eikonal.specs.Inner.Judge.{judge}
+use Rattle.refusals.specs.Judge.{judge}
 use Rattle.engine.specs.Calls.{Opened}
 use Rattle.engine.proofs.Theory.Steps.{even, sowable, endable, clearable, says}
 use Rattle.engine.proofs.calls.play.Statement.{statement}
@@ -40,8 +40,8 @@ begin-requires c κs =
 opened : (c : tie.After-begin) → let a = start c .args in let cs = a .cells .now in let bs = a .begins .now in
     Opened
     (call (handed (board-of (a .width) (a .height) (a .storeys) (a .slow .now) (starts-of cs bs)) (eqb (length cs) (length bs))) (a .job) (a .order .now)
-    (length (a .work .now)))
-    (length (a .times .now)) (length (a .sides .now)) (c .begin .result) (a .work .now) (c .begin .last .1 .1 .1 .1 .1 .1 .1 .1 .1 .1 .1 .0)
+    (length (a .sides .now)) (length (a .work .now)))
+    (a .own) (length (a .times .now)) (c .begin .result) (a .work .now) (c .begin .last .1 .1 .1 .1 .1 .1 .1 .1 .1 .1 .1 .1 .0)
 opened c =
     let a = start c .args in
     let xs = starts-of (a .cells .now) (a .begins .now) in
@@ -53,15 +53,15 @@ seed-requires c κs =
     let b = c .before .before .before in
     let a = start b .args in
     let op = opened b in (
-      sowable _ _ (a .times .now) (a .sides .now) (a .work .now) _ refl op,
-      λ z. eqb-true _ _ (even _ _ (a .times .now) (a .sides .now) (a .work .now) _ refl op z),
+      sowable _ _ _ (a .times .now) (a .sides .now) (a .work .now) _ refl refl op,
+      λ z. eqb-true _ _ (even _ _ _ (a .times .now) (a .sides .now) (a .work .now) _ refl refl op z),
     )
 
 end-requires : tie.Need-end-requires
 end-requires c κs =
     let s = c .before .before .before .before .before in
     let a = start (opens s) .args in
-    endable _ _ (a .times .now) (a .sides .now) (a .work .now) _ refl (opened (opens s)) _ (s .seed .ensures)
+    endable _ _ _ (a .times .now) (a .sides .now) (a .work .now) _ refl refl (opened (opens s)) _ (s .seed .ensures)
 
 clear-requires : tie.Need-clear-requires
 clear-requires c κs =
@@ -69,8 +69,8 @@ clear-requires c κs =
     let s = sows e in
     let a = start (opens s) .args in
     let op = opened (opens s) in (
-      clearable _ _ (a .times .now) (a .sides .now) (a .work .now) _ refl op _ (s .seed .ensures) _ _ _ _ (e .end .ensures),
-      λ z. eqb-true _ _ (even _ _ (a .times .now) (a .sides .now) (a .work .now) _ refl op z),
+      clearable _ _ _ (a .times .now) (a .sides .now) (a .work .now) _ refl refl op _ (s .seed .ensures) _ _ _ _ (e .end .ensures),
+      λ z. eqb-true _ _ (even _ _ _ (a .times .now) (a .sides .now) (a .work .now) _ refl refl op z),
     )
 
 returns : tie.Need-returns
@@ -80,7 +80,8 @@ returns c =
     let e = ends cl in
     let s = sows e in
     let a = start (opens s) .args in
-    says _ _ (a .times .now) (a .sides .now) (a .work .now) _ refl (opened (opens s)) _ (s .seed .ensures) _ _ _ _ (e .end .ensures) _ (cl .clear .ensures)
+    says _ _ _ (a .times .now) (a .sides .now) (a .work .now) _ refl refl (opened (opens s)) _ (s .seed .ensures) _ _ _ _ (e .end .ensures) _
+    (cl .clear .ensures)
 
 pub play-spec : {M : Type 1} → statement M
 play-spec =

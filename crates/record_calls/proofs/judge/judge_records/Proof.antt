@@ -9,16 +9,16 @@ use Rattle.records.proofs.Calling.{_&_, contract-of, number, asked, shares, cal
 use Rattle.records.proofs.Locals.{reads, and-reads, length-of, sets, resets-last, lands-value, lands-again, takes, frees-at, frees-room}
 use Rattle.records.proofs.Loops.{bare, full, frame, Come, come, around, tests, leaves}
 use Rattle.eikonal.specs.declared.Start.{Start}
-use Rattle.eikonal.specs.declared.refusals.Judged.{Judged}
+use Rattle.refusals.specs.declared.board.Judged.{Judged}
 use Rattle.record_calls.proofs.Judging.{judged-to, judged-none, part-counts, judged-more, judged-all}
 use Rattle.eikonal.proofs.Start as Start-type
-use Rattle.eikonal.proofs.refusals.Judged as Judged-type
-use Rattle.eikonal.proofs.refusals.Judged.Laws as Judged-laws
 use Rattle.records.proofs.parts.Part as Part-type
 use Rattle.records.proofs.parts.Part.Laws as Part-laws
-use Rattle.eikonal.proofs.refusals.nothing_judged as nj
-use Rattle.eikonal.proofs.refusals.nothing_judged.Symbol as nj-def
-use Rattle.eikonal.proofs.refusals.nothing_judged.Met as nj-thm
+use Rattle.refusals.proofs.board.Judged as Judged-type
+use Rattle.refusals.proofs.board.Judged.Laws as Judged-laws
+use Rattle.refusals.proofs.board.nothing_judged as nj
+use Rattle.refusals.proofs.board.nothing_judged.Symbol as nj-def
+use Rattle.refusals.proofs.board.nothing_judged.Met as nj-thm
 use Rattle.records.proofs.parts.unpack as un
 use Rattle.records.proofs.parts.unpack.Symbol as un-def
 use Rattle.records.proofs.parts.unpack.Met as un-thm
@@ -105,6 +105,6 @@ judge-records-spec 𝓤 H 𝓜 𝓖 𝓡 =
     entered 𝓤 H (tripleOf 𝓤 H (𝓖 .A) f.signature (f.spec 𝓤 H (𝓖 .A) (𝓜 .mem) (𝓡 .run)))
     (tables 𝓤 H 𝓜 𝓡 code.env .C) (tables 𝓤 H 𝓜 𝓡 code.env .Λ) key.name code.function (code.unfolded 𝓤 H 𝓜 𝓡)
     (holds 𝓤 H (𝓖 .A) (givenOf 𝓤 H 𝓜 𝓖) (𝓜 .mem) (𝓡 .run) (tablesOf 𝓤 H 𝓜 (tables 𝓤 H 𝓜 𝓡 code.env))
-    (cited 𝓤 H _ 𝓜 𝓡 code.env nj-def.name nj-def.routine code.calls-eikonal·refusals·nothing-judged (nj-thm.met 𝓤 H 𝓜 𝓖 𝓡))
+    (cited 𝓤 H _ 𝓜 𝓡 code.env nj-def.name nj-def.routine code.calls-refusals·board·nothing-judged (nj-thm.met 𝓤 H 𝓜 𝓖 𝓡))
     (cited 𝓤 H _ 𝓜 𝓡 code.env un-def.name un-def.routine code.calls-records·parts·unpack (un-thm.met 𝓤 H 𝓜 𝓖 𝓡))
     (cited 𝓤 H _ 𝓜 𝓡 code.env jp-def.name jp-def.routine code.calls-record-calls·judge·judge-part (jp-thm.met 𝓤 H 𝓜 𝓖 𝓡)))

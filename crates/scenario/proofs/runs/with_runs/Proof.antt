@@ -3,7 +3,7 @@ use mathlib.Core.Path.{_≡_, sym, ap, _∙_}
 use Prim.Native.Nat.{_-_, _≤_}
 use native.Mathlib.Omega.{arith}
 use borrow.Author.Needs.{needs}
-use Rattle.eikonal.specs.Inner.Flaws.{with-pair}
+use Rattle.refusals.specs.Flaws.{with-pair}
 use Rattle.scenario.proofs.RunWalk.{after-runs, after-none, after-more}
 use Rattle.scenario.proofs.runs.with_runs.Statement.{statement}
 use Rattle.scenario.proofs.runs.with_runs.Tie as tie

@@ -5,7 +5,7 @@ use Prim.Native.Nat.{_-_, _≤_}
 use lib.ListN.{drop}
 use borrow.Author.Needs.{needs}
 use Rattle.eikonal.specs.Board.{size}
-use Rattle.eikonal.specs.Inner.Judge.{starts-rise}
+use Rattle.eikonal.specs.Inner.Good.{starts-rise}
 use Rattle.scenario.specs.Bytes.{records}
 use Rattle.scenario.specs.File.{head-size, run-size, start-size, run-in, start-in, held}
 use Rattle.scenario.specs.Inner.Walk.{runs-onward, starts-onward, wall-among}

@@ -70,10 +70,10 @@ order-back : (c : tie.After-rise) → let t = c .before .before in
 order-back c = let t = c .before .before in back _ (t .before .before .entries .result) _ (fits t) (c .rise .kept .0)
 
 array-share-prefix-order : tie.Need-array-share-prefix-order
-array-share-prefix-order c = order-back (c .before .before .before) .fits
+array-share-prefix-order c = order-back (c .before .before .before .before .before) .fits
 
-slice-aggregate-tile-run : tie.Need-slice-aggregate-tile-run
-slice-aggregate-tile-run c = order-back (c .before .before .before .before) .count
+slice-aggregate-play : tie.Need-slice-aggregate-play
+slice-aggregate-play c = order-back (c .before .before .before .before .before .before) .count
 
 -- the sides have room for the cells
 sides-fit : (c : tie.After-side-entries) → length (c .before .before .before .before .before .before .before .before .before .before .before .args .times .now)
@@ -83,13 +83,13 @@ sides-fit c =
     omega (arith, c .side-entries .ensures, small .2, small .3)
 
 array-borrow-prefix-sides : tie.Need-array-borrow-prefix-sides
-array-borrow-prefix-sides c = sides-fit (c .before .before .before)
+array-borrow-prefix-sides c = sides-fit (c .before .before .before .before .before)
 
-slice-aggregate-tile-run-2 : tie.Need-slice-aggregate-tile-run-2
-slice-aggregate-tile-run-2 c = let e = c .before .before .before .before in sym (length-take-le _ (e .side-entries .result) (sides-fit e))
+slice-aggregate-play-2 : tie.Need-slice-aggregate-play-2
+slice-aggregate-play-2 c = let e = c .before .before .before .before .before .before in sym (length-take-le _ (e .side-entries .result) (sides-fit e))
 
-slice-aggregate-tile-run-3 : tie.Need-slice-aggregate-tile-run-3
-slice-aggregate-tile-run-3 c = sym (c .before .before .before .before .work-entries .ensures)
+slice-aggregate-play-3 : tie.Need-slice-aggregate-play-3
+slice-aggregate-play-3 c = sym (c .before .before .before .before .before .before .work-entries .ensures)
 
 -- the rising order is good
 ordered : (c : tie.After-rise) → let t = c .before .before in let n = t .before .tiles-along .result * t .tiles-along2 .result in
@@ -106,16 +106,19 @@ returns : tie.Need-returns
 unfolding by-lists
 returns c =
     let n = c .before .before .before .before in
-    let w = n .before .before .before .before .before in
+    let j = n .before .before .before .before .before in
+    let w = j .before .before in
     let d = w .before in
     let r = d .before .before in
     let s = r .before .before .before .before .before .before .before .before .before in
     let a = s .args in
     let p = by-lists (a .width) (a .height) (a .storeys) (a .slow .now) (a .cells .now) (a .begins .now) in
-    let e = n .tile-run .ensures in
-    let even = length-take-le (length (a .times .now)) (d .side-entries .result) (sides-fit d) in (
-      run-rounds p _ _ _ _ (s .pre .0) (s .pre .1 .0) (s .pre .1 .1) (ordered r) even (w .work-entries .ensures) _ _ _ _ _ e (omega arith),
-      run-times p _ _ _ _ (s .pre .0) (s .pre .1 .0) (s .pre .1 .1) (ordered r) even (w .work-entries .ensures) _ _ _ _ _ e (omega arith),
+    let even = length-take-le (length (a .times .now)) (d .side-entries .result) (sides-fit d) in
+    let e = n .play .ensures in
+    let job = j .run-job .ensures in
+    let own = j .before .nothing-own .ensures in (
+      run-rounds p _ _ _ _ (s .pre .0) (s .pre .1 .0) (s .pre .1 .1) (ordered r) even (w .work-entries .ensures) _ _ _ _ _ _ _ e job (omega arith) own,
+      run-times p _ _ _ _ (s .pre .0) (s .pre .1 .0) (s .pre .1 .1) (ordered r) even (w .work-entries .ensures) _ _ _ _ _ _ _ e job (omega arith) own,
     )
 
 pub run-board-spec : {M : Type 1} → statement M
@@ -123,5 +126,5 @@ run-board-spec =
     tie.close
     (tie.spec
     (λ c κs. tt) tiles-along-requires tiles-along-requires-2 mul-tiles cast-tiles array-borrow-prefix-order slice-aggregate-rise
-    rise-requires (λ c κs. tt) (λ c κs. tt) array-share-prefix-order slice-aggregate-tile-run array-borrow-prefix-sides slice-aggregate-tile-run-2
-    slice-aggregate-tile-run-3 (λ c κs. tt) (λ c. search needs) returns)
+    rise-requires (λ c κs. tt) (λ c κs. tt) (λ c κs. tt) (λ c κs. tt) array-share-prefix-order slice-aggregate-play array-borrow-prefix-sides
+    slice-aggregate-play-2 slice-aggregate-play-3 (λ c κs. tt) (λ c. search needs) returns)

@@ -1,0 +1,13 @@
+-- `refusals::tiles::tiles_along` meets its contract.
+use mathlib.Core.Path.{refl}
+use borrow.Author.Needs.{needs}
+use Rattle.eikonal.specs.Tiles.{up}
+use Rattle.refusals.proofs.tiles.tiles_along.Statement.{statement}
+use Rattle.refusals.proofs.tiles.tiles_along.Tie as tie
+
+returns : tie.Need-returns
+unfolding up
+returns c = refl
+
+pub tiles-along-spec : {M : Type 1} → statement M
+tiles-along-spec = tie.close (tie.spec (λ c. search needs) (λ c. search needs) (λ c. search needs) returns)
