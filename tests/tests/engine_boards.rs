@@ -450,9 +450,11 @@ fn sides_of_one_and_256_and_eight_storeys_pass() {
         let board = generate::board_of(&mut r, sides);
         let (reply, _) = outcome(&board, Kind::March { horizon: LARGEST });
         assert_eq!(reply.number, 0);
+        // the second solver works every round out: many of them on boards of few cells alone
+        let stride = if board.slow.len() <= 256 { 1_000 } else { 100_000 };
         for (across, down) in [(1, 1), (256, 256), (1, 256), (256, 1), (255, 7)] {
             let order = rising(&board, across, down);
-            let run = Kind::Run { across, down, stride: 1_000, horizon: 3_000_000, order };
+            let run = Kind::Run { across, down, stride, horizon: 3_000_000, order };
             assert_eq!(outcome(&board, run).0.number, 0);
         }
     }

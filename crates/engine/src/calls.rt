@@ -13,6 +13,7 @@ ghost use Rattle.eikonal.specs.Entry.{lent, Counts};
 ghost use Rattle.refusals.specs.Judge.{judge, nothing-judged};
 ghost use Rattle.eikonal.specs.declared.Start.{Start};
 ghost use Rattle.engine.specs.Calls.{shape-with, shaped, Some-judged, Opened, Sowable, Sown, Endable, Ended, Clearable, Clear};
+use call_refusals::call_refusal;
 use eikonal::Job;
 use eikonal::Own;
 use eikonal::Refusal;
@@ -25,7 +26,6 @@ use refusals::board::board_refusal;
 use refusals::board::flawless;
 use refusals::board::judge_starts;
 use refusals::board::nothing_judged;
-use refusals::call::call_refusal;
 
 // What is left to do of a call: nothing if it is refused.
 pub struct Task {

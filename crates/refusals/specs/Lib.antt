@@ -1,3 +1,2 @@
 pub mod Flaws
 pub mod Judge
-pub mod Orders

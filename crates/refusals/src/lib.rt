@@ -1,5 +1,3 @@
-// Whether a board or a call is refused, and why: causes are looked for in the one order, and the first that is met is given.
+// Whether a board is refused, and why: causes are looked for in the one order, and the first that is met is given.
 pub mod board;
-pub mod call;
 pub mod causes;
-pub mod tiles;
