@@ -271,8 +271,10 @@ fn axis(one: u32, other: u32) -> u32
 fn local_refusal(g: u32, h: u32, over: u32, under: u32) -> Refusal
     ensures { λ r. ⌜ r ≡ local-refusal g h over under ⌝ }
 {
-    let by_23 = when((g != h) & (axis(over, under) != NEVER), 23, 0, cause(0));
-    let by_21 = when(is_half_wall(g, h), 21, 0, by_23);
+    let half = is_half_wall(g, h);
+    let stacked = (g != h) & (axis(over, under) != NEVER);
+    let by_23 = when(stacked, 23, 0, cause(0));
+    let by_21 = when(half, 21, 0, by_23);
     when(is_steep(g, h), 5, 0, by_21)
 }
 

@@ -9,15 +9,16 @@ returns : tie.Need-returns
 unfolding local-refusal local-causes first-of
 returns c =
     let h = c .before .before in
-    let w = h .before .before in
+    let w = h .before in
+    let x = w .before .before in
     rw (
       c .when3 .ensures,
       c .before .is-steep .ensures,
       h .when2 .ensures,
-      h .before .is-half-wall .ensures,
       w .when .ensures,
       w .before .cause .ensures,
-      w .before .before .axis .ensures,
+      x .axis .ensures,
+      x .before .is-half-wall .ensures,
     ) refl
 
 pub local-refusal-spec : {M : Type 1} → statement M
