@@ -4,7 +4,7 @@ use Prim.Native.Nat.{ℕ, zero, suc, ◌+◌, ◌*◌, ◌-◌, ◌/◌, ◌≤�
 use native.Mathlib.Omega.{arith}
 use native.Mathlib.Decide.{dec_le, dec_lt}
 use native.Mathlib.Nat.{mul-le-mul, mul-le-mul_left, mul-le-mul_right, le_of_mul-le-mul_left, div-mul-le_self, le-div_iff_mul-le}
-use Rattle.eikonal.specs.Inner.Weighed.{weighed, three-squares}
+use Rattle.eikonal.specs.Inner.Weighed.{weighed, three_squares}
 
 -- e ticks past the later axis are enough for what is due
 abbrev pub Enough : (due v w d e : ℕ) → Type 0
@@ -18,8 +18,8 @@ as_many due v w d e h = omega arith
 small : (x : ℕ) → x < 8192 → x * x ≤ 67092481
 small x h = let k : x ≤ 8191 = omega arith in mul-le-mul k k
 
-pub squares-fit : (d e : ℕ) → d + e < 8192 → (d + e) * (d + e) + e * e ≤ 134184962
-squares-fit d e h = omega (arith, small (d + e) h, small e (omega arith))
+pub squares_fit : (d e : ℕ) → d + e < 8192 → (d + e) * (d + e) + e * e ≤ 134184962
+squares_fit d e h = omega (arith, small (d + e) h, small e (omega arith))
 
 pub square-most : {a : ℕ} → a ≤ 4095 → a * a ≤ 16769025
 square-most h = mul-le-mul h h
@@ -59,8 +59,8 @@ past-lines s d e h = elim (dec_le (185 * s) (154 * (d + e) + 102 * e)) [
 ]
 
 -- and the plane: of the squares of three numbers, three times the sum is no less than the square of theirs; and 3 × 15² ≤ 26²
-pub past-plane : (s d f e : ℕ) → 26 * s - 15 * (d + f) ≤ 45 * e → s * s ≤ three-squares d f e
-past-plane s d f e h = through (d + e) (f + e) e (omega arith)
+pub past_plane : (s d f e : ℕ) → 26 * s - 15 * (d + f) ≤ 45 * e → s * s ≤ three_squares d f e
+past_plane s d f e h = through (d + e) (f + e) e (omega arith)
   where
     through : (x y z : ℕ) → 26 * s ≤ 15 * (x + y + z) → s * s ≤ x * x + y * y + z * z
     through x y z k =
@@ -69,7 +69,7 @@ past-plane s d f e h = through (d + e) (f + e) e (omega arith)
         (omega arith)
 
 -- so many ticks from any of the axes that it alone is enough
-pub any-side : (s d f e : ℕ) → s ≤ max e (max d f) → s * s ≤ three-squares d f e
+pub any-side : (s d f e : ℕ) → s ≤ max e (max d f) → s * s ≤ three_squares d f e
 any-side s d f e h = elim (dec_le s e) [
   | yes k ↦ omega (arith, mul-le-mul k k)
   | no k ↦ elim (dec_le s d) [
@@ -79,7 +79,7 @@ any-side s d f e h = elim (dec_le s e) [
 ]
 
 -- where no ticks are enough, neither of the others is a straight step before the last, and the plane is not yet reached
-pub sides-short : (s d f : ℕ) → three-squares d f 0 < s * s → (d < s) × (f < s) × (15 * (d + f) ≤ 26 * s)
+pub sides-short : (s d f : ℕ) → three_squares d f 0 < s * s → (d < s) × (f < s) × (15 * (d + f) ≤ 26 * s)
 sides-short s d f h = (side d (omega arith), side f (omega arith), before)
   where
     side : (x : ℕ) → x * x < s * s → x < s
@@ -155,24 +155,24 @@ module _ (due f h k : ℕ) (curved : 1 ≤ k) (low : f < due) where
 abbrev Rising : (ℕ → ℕ) → Type 0
 Rising f = (i j : ℕ) → i ≤ j → f i ≤ f j
 
-no-fewer-of : (f : ℕ → ℕ) → Rising f → (due e k : ℕ) → f (e - 1) < due → due ≤ f k → e ≤ k
-no-fewer-of f up due e k l g = elim (dec_le e k) [
+no_fewer_of : (f : ℕ → ℕ) → Rising f → (due e k : ℕ) → f (e - 1) < due → due ≤ f k → e ≤ k
+no_fewer_of f up due e k l g = elim (dec_le e k) [
   | yes i ↦ i
   | no i ↦ absurd (omega (arith, up k (e - 1) (omega arith)))
 ]
 
-pub no-fewer : (due v w d e k : ℕ) → weighed v w d (e - 1) < due → Enough due v w d k → e ≤ k
-no-fewer due v w d = no-fewer-of (weighed v w d) up due
+pub no_fewer : (due v w d e k : ℕ) → weighed v w d (e - 1) < due → Enough due v w d k → e ≤ k
+no_fewer due v w d = no_fewer_of (weighed v w d) up due
   where
     up : Rising (weighed v w d)
     up i j l =
         let x : d + i ≤ d + j = omega arith in
         omega (arith, mul-le-mul_left v (mul-le-mul x x), mul-le-mul_left w (mul-le-mul l l))
 
-pub no-fewer-three : (due d f e k : ℕ) → three-squares d f (e - 1) < due → due ≤ three-squares d f k → e ≤ k
-no-fewer-three due d f = no-fewer-of (three-squares d f) up due
+pub no_fewer_three : (due d f e k : ℕ) → three_squares d f (e - 1) < due → due ≤ three_squares d f k → e ≤ k
+no_fewer_three due d f = no_fewer_of (three_squares d f) up due
   where
-    up : Rising (three-squares d f)
+    up : Rising (three_squares d f)
     up i j l =
         let x : d + i ≤ d + j = omega arith in
         let y : f + i ≤ f + j = omega arith in

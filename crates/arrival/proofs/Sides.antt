@@ -8,7 +8,7 @@ use native.Mathlib.Decide.{ℕ_discrete}
 use lib.Dec.{ltb, leb, eqb}
 use borrow.Author.Tests.{lt-ltb, le-ltb, le-leb, lt-leb, eq-eqb, ne_eqb}
 use Rattle.eikonal.specs.Board.{never}
-use Rattle.eikonal.specs.Sides.{side, sides-of}
+use Rattle.eikonal.specs.Sides.{side, sides_of}
 use Rattle.eikonal.proofs.Levels.{order}
 use Rattle.eikonal.proofs.Sides.{sides-none}
 
@@ -41,9 +41,9 @@ second-side x y t e l = go (below x y t e)
         go_on true = refl
         go_on false = refl
 
-pub no-side : (x y t : ℕ) → ltb x t || ltb y t ≡ false → side x y t ≡ 0
+pub no_side : (x y t : ℕ) → ltb x t || ltb y t ≡ false → side x y t ≡ 0
 unfolding side
-no-side x y t e = go (order x t) (order y t)
+no_side x y t e = go (order x t) (order y t)
   where
     go : (x < t) ⊎ (t ≤ x) → (y < t) ⊎ (t ≤ y) → cond {A = ℕ} (ltb x t && leb x y) 1 (cond (ltb y t) 2 0) ≡ 0
     go (inl i) j = absurd (false≢true (sym (rw (lt-ltb x t i) at e)))
@@ -52,7 +52,7 @@ no-side x y t e = go (order x t) (order y t)
 
 -- below never, all of a time counts; never has no sides
 pub sides-shown : (l r u d o n t : ℕ) → t ≤ never
-    → sides-of l r u d o n (cond (leb t 4294967294) t 0) ≡ cond (eqb t never) 0 (sides-of l r u d o n t)
+    → sides_of l r u d o n (cond (leb t 4294967294) t 0) ≡ cond (eqb t never) 0 (sides_of l r u d o n t)
 sides-shown l r u d o n t i = elim (ℕ_discrete t never) [
   | yes q ↦ rw (eq-eqb t never q, lt-leb t 4294967294 (omega arith)) (sides-none l r u d o n)
   | no q ↦ rw (ne_eqb t never q, le-leb t 4294967294 (omega arith))

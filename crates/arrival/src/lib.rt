@@ -4,10 +4,10 @@
 // Over or under is the third axis, of equal numbers alone. Where it counts, the last of the three comes `far` and `near` ticks after the others, and
 // `past` ticks after the last are enough if (far + past)² + (near + past)² + past² reaches the square of the slowness.
 ghost use Rattle.std.specs.Prelude.{◌≡◌, ◌+◌, ◌-◌, ◌*◌, ◌≤◌, ◌<◌, min, max, cond, ltb, leb};
-ghost use Rattle.eikonal.specs.Board.{never, earlier, local-of, local};
-ghost use Rattle.eikonal.specs.Sides.{side, sides-of};
-ghost use Rattle.eikonal.specs.Entry.{seen, local-refusal, Local-says};
-ghost use Rattle.eikonal.specs.Inner.Weighed.{weighed, three-squares};
+ghost use Rattle.eikonal.specs.Board.{never, earlier, local_of, local};
+ghost use Rattle.eikonal.specs.Sides.{side, sides_of};
+ghost use Rattle.eikonal.specs.Entry.{seen, local_refusal, LocalSays};
+ghost use Rattle.eikonal.specs.Inner.Weighed.{weighed, three_squares};
 
 use eikonal::{LARGEST, LocalReply, NEVER, Refusal, cause};
 use refusals::board::{is_half_wall, is_steep};
@@ -82,7 +82,7 @@ fn too_few(slowness: u32, apart: u32, past: u32) -> bool
 // first, so that Newton's steps are spent only where they lower it.
 pub fn of_equal(limit: u32, slowness: u32, across: u32, down: u32) -> u32
     requires { slowness ≤ 4095 }
-    ensures { result ≡ min limit (local-of slowness slowness across down never) }
+    ensures { result ≡ min limit (local_of slowness slowness across down never) }
 {
     if slowness == 0 {
         return limit;
@@ -105,7 +105,7 @@ pub fn of_equal(limit: u32, slowness: u32, across: u32, down: u32) -> u32
 // What so many ticks past the last of three axes come to.
 fn three_squares(far: u32, near: u32, past: u32) -> u32
     requires { (far ≤ 4095) × (near ≤ 4095) × (past ≤ 4095) }
-    ensures { result ≡ three-squares far near past }
+    ensures { result ≡ three_squares far near past }
 {
     let first = far + past;
     let second = near + past;
@@ -114,16 +114,16 @@ fn three_squares(far: u32, near: u32, past: u32) -> u32
 
 // As `enough`: (far + past, near + past, past) lies past a plane that clears the ball, since 3 × 15² ≤ 26².
 fn enough_three(slowness: u32, far: u32, near: u32) -> u32
-    requires { (slowness ≤ 4095) × (three-squares far near 0 < slowness * slowness) }
-    ensures { (result ≤ 4095) × (slowness * slowness ≤ three-squares far near result) }
+    requires { (slowness ≤ 4095) × (three_squares far near 0 < slowness * slowness) }
+    ensures { (result ≤ 4095) × (slowness * slowness ≤ three_squares far near result) }
 {
     (26 * slowness - 15 * (far + near) + 44) / 45
 }
 
 // As `least_past`, with what is over counted 3 too high: most often two divisions at most.
 fn least_past_three(slowness: u32, far: u32, near: u32) -> u32
-    requires { (slowness ≤ 4095) × (three-squares far near 0 < slowness * slowness) }
-    ensures { (1 ≤ result) × (slowness * slowness ≤ three-squares far near result) × (three-squares far near (result - 1) < slowness * slowness) }
+    requires { (slowness ≤ 4095) × (three_squares far near 0 < slowness * slowness) }
+    ensures { (1 ≤ result) × (slowness * slowness ≤ three_squares far near result) × (three_squares far near (result - 1) < slowness * slowness) }
 {
     let due = slowness * slowness;
     let mut past = enough_three(slowness, far, near);
@@ -140,7 +140,7 @@ fn least_past_three(slowness: u32, far: u32, near: u32) -> u32
 // As `too_few`: as many ticks as the slowness are enough, from whichever axis.
 fn too_few_three(slowness: u32, far: u32, near: u32, past: u32) -> bool
     requires { slowness ≤ 4095 }
-    ensures { result ≡ ltb (three-squares far near past) (slowness * slowness) }
+    ensures { result ≡ ltb (three_squares far near past) (slowness * slowness) }
 {
     if greater(past, greater(far, near)) >= slowness {
         return false;
@@ -151,7 +151,7 @@ fn too_few_three(slowness: u32, far: u32, near: u32, past: u32) -> bool
 // As `of_equal`, of three axes. The last one counts only if 0 ticks past it are too few: else the other two are enough by then.
 pub fn of_three(limit: u32, slowness: u32, across: u32, down: u32, storey: u32) -> u32
     requires { slowness ≤ 4095 }
-    ensures { result ≡ min limit (local-of slowness slowness across down storey) }
+    ensures { result ≡ min limit (local_of slowness slowness across down storey) }
 {
     let low = lesser(across, down);
     let high = greater(across, down);
@@ -221,7 +221,7 @@ fn too_few_of(x: u32, y: u32, apart: u32, past: u32) -> bool
 // As `of_equal`, of unequal numbers, with the axis that comes first: x is its own.
 fn from_first(limit: u32, x: u32, y: u32, first: u32, second: u32) -> u32
     requires { (1 ≤ x) × (x ≤ 4095) × (1 ≤ y) × (y ≤ 4095) × (first ≤ second) }
-    ensures { result ≡ min limit (local-of x y first second never) }
+    ensures { result ≡ min limit (local_of x y first second never) }
 {
     let apart = second - first;
     if apart >= x {
@@ -239,7 +239,7 @@ fn from_first(limit: u32, x: u32, y: u32, first: u32, second: u32) -> u32
 // The local rule of unequal numbers, at most the limit: there are two axes.
 pub fn of_unequal(limit: u32, g: u32, h: u32, across: u32, down: u32) -> u32
     requires { (1 ≤ g) × (g ≤ 4095) × (1 ≤ h) × (h ≤ 4095) }
-    ensures { result ≡ min limit (local-of g h across down never) }
+    ensures { result ≡ min limit (local_of g h across down never) }
 {
     if across <= down {
         return from_first(limit, g, h, across, down);
@@ -262,7 +262,7 @@ fn axis(one: u32, other: u32) -> u32
 }
 
 fn local_refusal(g: u32, h: u32, over: u32, under: u32) -> Refusal
-    ensures { result ≡ local-refusal g h over under }
+    ensures { result ≡ local_refusal g h over under }
 {
     let half = is_half_wall(g, h);
     let stacked = (g != h) & (axis(over, under) != NEVER);
@@ -282,7 +282,7 @@ fn local_time(
     over: u32,
     under: u32,
 ) -> u32
-    requires { (local-refusal g h over under).number ≡ 0 }
+    requires { (local_refusal g h over under).number ≡ 0 }
     ensures { result ≡ local g h (seen left) (seen right) (seen above) (seen below) (seen over) (seen under) }
 {
     let across = axis(left, right);
@@ -318,7 +318,7 @@ pub fn flat_sides(left: u32, right: u32, above: u32, below: u32, t: u32) -> u8
 }
 
 fn sides_of(left: u32, right: u32, above: u32, below: u32, over: u32, under: u32, t: u32) -> u8
-    ensures { result ≡ sides-of left right above below over under t }
+    ensures { result ≡ sides_of left right above below over under t }
 {
     flat_sides(left, right, above, below, t) + 16 * side(over, under, t)
 }
@@ -341,7 +341,7 @@ pub fn local_rule(
     over: u32,
     under: u32,
 ) -> LocalReply
-    ensures { Local-says g h left right above below over under result }
+    ensures { LocalSays g h left right above below over under result }
 {
     let refusal = local_refusal(g, h, over, under);
     if refusal.number != 0 {

@@ -1,9 +1,9 @@
 // Whether a march, a round or a tile run is refused, and why, with what a call looks for of its own.
 ghost use Rattle.std.specs.Prelude.{◌≡◌, Bool, true, not, List, [], ◌∷◌, ℕ, ◌*◌, ◌≤◌};
-ghost use Rattle.eikonal.specs.Board.{board-of};
+ghost use Rattle.eikonal.specs.Board.{board_of};
 ghost use Rattle.eikonal.specs.Order.{caused, or_else, first_of};
-ghost use Rattle.eikonal.specs.Refusals.{sides-good, order-good, tile-causes, job-causes, list-causes, handed, board-causes};
-ghost use Rattle.eikonal.specs.Ledger.{call, own-refusal};
+ghost use Rattle.eikonal.specs.Refusals.{sides_good, order_good, tile_causes, job_causes, list_causes, handed, board_causes};
+ghost use Rattle.eikonal.specs.Ledger.{call, own_refusal};
 ghost use Rattle.eikonal.specs.declared.Start.{Start};
 
 use eikonal::{Job, LARGEST, Own, Refusal, cause, house_size};
@@ -20,8 +20,8 @@ fn order_refusal(
     down: u32,
     order: &[u32],
 ) -> Refusal
-    requires { so_far.number ≡ 0 → (width ≤ 256) × (height ≤ 256) × (sides-good across down ≡ true) }
-    ensures { result ≡ or_else so_far (first_of (caused 12 (not (order-good (board-of width height 1 [] []) across down order.now)) ∷ [])) }
+    requires { so_far.number ≡ 0 → (width ≤ 256) × (height ≤ 256) × (sides_good across down ≡ true) }
+    ensures { result ≡ or_else so_far (first_of (caused 12 (not (order_good (board_of width height 1 [] []) across down order.now)) ∷ [])) }
 {
     if so_far.number != 0 {
         return so_far;
@@ -45,7 +45,7 @@ fn tiles_refusal(
     order: &[u32],
 ) -> Refusal
     requires { so_far.number ≡ 0 → (width ≤ 256) × (height ≤ 256) }
-    ensures { result ≡ or_else so_far (first_of (caused 10 far ∷ tile-causes (board-of width height 1 [] []) across down order.now)) }
+    ensures { result ≡ or_else so_far (first_of (caused 10 far ∷ tile_causes (board_of width height 1 [] []) across down order.now)) }
 {
     let by_11 = when(!sides_good(across, down), 11, 0, cause(0));
     let sides = or_else(so_far, when(far, 10, 0, by_11));
@@ -55,7 +55,7 @@ fn tiles_refusal(
 // 10, 11 and 12 of what is to be done.
 fn job_refusal(so_far: Refusal, width: u32, height: u32, job: Job, order: &[u32]) -> Refusal
     requires { so_far.number ≡ 0 → (width ≤ 256) × (height ≤ 256) }
-    ensures { result ≡ or_else so_far (first_of (job-causes (board-of width height 1 [] []) job order.now)) }
+    ensures { result ≡ or_else so_far (first_of (job_causes (board_of width height 1 [] []) job order.now)) }
 {
     match job {
         Job::March { horizon } => {
@@ -95,7 +95,7 @@ fn lists_refusal(
     own: Own,
 ) -> Refusal
     requires { so_far.number ≡ 0 → (width ≤ 256) × (height ≤ 256) × (width * height * storeys ≤ 65536) }
-    ensures { result ≡ or_else so_far (first_of (list-causes (width * height * storeys) times sides work own)) }
+    ensures { result ≡ or_else so_far (first_of (list_causes (width * height * storeys) times sides work own)) }
 {
     if so_far.number != 0 {
         return so_far;
@@ -122,8 +122,8 @@ pub fn call_refusal(
 ) -> Refusal
     requires { board.number ≡ 0 → (width ≤ 256) × (height ≤ 256) × (width * height * storeys ≤ 65536) }
     ensures { (slow : List ℕ) (xs : List Start) (paired : Bool)
-        → board ≡ first_of (board-causes (handed (board-of width height storeys slow xs) paired) slow own.ticks own.kinds)
-        → result ≡ own-refusal (call (handed (board-of width height storeys slow xs) paired) job order.now sides work) own times }
+        → board ≡ first_of (board_causes (handed (board_of width height storeys slow xs) paired) slow own.ticks own.kinds)
+        → result ≡ own_refusal (call (handed (board_of width height storeys slow xs) paired) job order.now sides work) own times }
 {
     let given = or_else(board, own.cell);
     let can = job_refusal(given, width, height, job, order);

@@ -14,7 +14,7 @@ use Rattle.eikonal.specs.Board.{square, diagonal}
 use Rattle.eikonal.specs.Inner.Weighed.{weighed}
 use Rattle.eikonal.proofs.Good.{and-true}
 use Rattle.eikonal.proofs.Levels.{order}
-use Rattle.eikonal.proofs.Least.{least, least-bound}
+use Rattle.eikonal.proofs.Least.{least, least_bound}
 
 -- x is the least with 2 x² at least s²: it passes, and x - 1, if there is one, does not
 unfoldable pub right : (s x : ℕ) → Bool
@@ -35,7 +35,7 @@ is-least s x p no_less =
     omega (
       arith,
       no_less (diagonal s) (leb-true _ _ (l.found whole)),
-      least-bound l x (omega arith) (le-leb (s * s) (2 * (x * x)) p),
+      least_bound l x (omega arith) (le-leb (s * s) (2 * (x * x)) p),
     )
 
 -- a number that passes, and of which one less does not, is D

@@ -3,7 +3,7 @@ mod table;
 
 ghost use Rattle.std.specs.Prelude.{◌≡◌, ◌≤◌};
 ghost use Rattle.eikonal.specs.Board.{diagonal};
-ghost use Rattle.eikonal.specs.Entry.{Diagonal-says};
+ghost use Rattle.eikonal.specs.Entry.{DiagonalSays};
 
 use eikonal::Reply;
 
@@ -28,7 +28,7 @@ fn step(slowness: u32) -> u32
 
 // The step, or 5 for a slowness above 4,095.
 pub fn diagonal(slowness: u32) -> Reply
-    ensures { Diagonal-says slowness result }
+    ensures { DiagonalSays slowness result }
 {
     if slowness > 4095 {
         return eikonal::refused(eikonal::cause(5));

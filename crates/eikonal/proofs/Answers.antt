@@ -5,7 +5,7 @@ use native.Mathlib.Decide.{ℕ_discrete}
 use borrow.Author.Tests.{eq-eqb, ne_eqb}
 use Rattle.eikonal.specs.Order.{none}
 use Rattle.eikonal.specs.Ledger.{answer, answered}
-use Rattle.eikonal.specs.Entry.{local-answer, local-answered}
+use Rattle.eikonal.specs.Entry.{local_answer, local_answered}
 use Rattle.eikonal.specs.declared.Refusal.{Refusal}
 
 pub answered-number : (k : Refusal) (c : ℕ) → (answered k c).number ≡ k.number
@@ -23,10 +23,10 @@ pub answered-refused : (k : Refusal) (c : ℕ) → (k.number ≡ 0 → ⊥) → 
 unfolding answered
 answered-refused k c h = rw (ne_eqb k.number 0 h)
 
-pub local-answered-zero : (k : Refusal) (t s : ℕ) → k.number ≡ 0 → local-answered k t s ≡ local-answer 0 t s
-unfolding local-answered
+pub local-answered-zero : (k : Refusal) (t s : ℕ) → k.number ≡ 0 → local_answered k t s ≡ local_answer 0 t s
+unfolding local_answered
 local-answered-zero k t s e = rw (eq-eqb k.number 0 e)
 
-pub local-answered-refused : (k : Refusal) (t s : ℕ) → (k.number ≡ 0 → ⊥) → local-answered k t s ≡ local-answer k.number 0 0
-unfolding local-answered
+pub local-answered-refused : (k : Refusal) (t s : ℕ) → (k.number ≡ 0 → ⊥) → local_answered k t s ≡ local_answer k.number 0 0
+unfolding local_answered
 local-answered-refused k t s h = rw (ne_eqb k.number 0 h)

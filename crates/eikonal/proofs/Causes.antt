@@ -9,7 +9,7 @@ use native.Mathlib.Omega.{arith}
 use native.Mathlib.Decide.{ℕ_discrete}
 use lib.Dec.{ltb, eqb}
 use borrow.Author.Tests.{eqb-true, eqb-false, eq-eqb, ne_eqb, lt-ltb, le-ltb, ltb-true}
-use Rattle.eikonal.specs.Order.{Cause, caused, found, cause, cause-at, none, or_else, first_of}
+use Rattle.eikonal.specs.Order.{Cause, caused, found, cause, cause_at, none, or_else, first_of}
 use Rattle.eikonal.specs.declared.Refusal.{Refusal}
 
 -- two refusals with one number, by the value
@@ -34,36 +34,36 @@ pub next : (a b x : Refusal) → a.number ≡ 0 → x ≡ b → x ≡ or_else a 
 unfolding or_else
 next a b x z e = rw (eq-eqb a.number 0 z) e
 
-pub or-else-assoc : (a b c : Refusal) → or_else (or_else a b) c ≡ or_else a (or_else b c)
+pub or_else_assoc : (a b c : Refusal) → or_else (or_else a b) c ≡ or_else a (or_else b c)
 unfolding or_else
-or-else-assoc a b c = elim (ℕ_discrete a.number 0) [
+or_else_assoc a b c = elim (ℕ_discrete a.number 0) [
   | yes z ↦ rw (eq-eqb a.number 0 z) refl
   | no d ↦ rw (ne_eqb a.number 0 d) (rw (ne_eqb a.number 0 d) refl)
 ]
 
 -- what is looked for behind a refusal matters where it is none
-pub alike-behind : (a b c : Refusal) → (a.number ≡ 0 → b ≡ c) → or_else a b ≡ or_else a c
+pub alike_behind : (a b c : Refusal) → (a.number ≡ 0 → b ≡ c) → or_else a b ≡ or_else a c
 unfolding or_else
-alike-behind a b c e = elim (ℕ_discrete a.number 0) [ yes z ↦ rw (eq-eqb a.number 0 z) (e z) | no d ↦ rw (ne_eqb a.number 0 d) refl ]
+alike_behind a b c e = elim (ℕ_discrete a.number 0) [ yes z ↦ rw (eq-eqb a.number 0 z) (e z) | no d ↦ rw (ne_eqb a.number 0 d) refl ]
 
 -- ---- NOTHING IS REFUSED just if no cause is met
-unfoldable pub None-met : List Cause → Type 0
-None-met [] = Unit {0}
-None-met (k ∷ ks) = (ltb 0 k.number && k.met ≡ false) × None-met ks
+unfoldable pub NoneMet : List Cause → Type 0
+NoneMet [] = Unit {0}
+NoneMet (k ∷ ks) = (ltb 0 k.number && k.met ≡ false) × NoneMet ks
 
-pub none-met : (ks : List Cause) → (first_of ks).number ≡ 0 → None-met ks
-unfolding first_of None-met
+pub none-met : (ks : List Cause) → (first_of ks).number ≡ 0 → NoneMet ks
+unfolding first_of NoneMet
 none-met [] e = tt
 none-met (k ∷ ks) e = go (ltb 0 k.number) k.met refl (none-met ks) e
   where
-    go : (p q : Bool) → ltb 0 k.number ≡ p → ((first_of ks).number ≡ 0 → None-met ks)
-        → (cond (p && q) (cause-at k.number k.place) (first_of ks)).number ≡ 0 → (p && q ≡ false) × None-met ks
+    go : (p q : Bool) → ltb 0 k.number ≡ p → ((first_of ks).number ≡ 0 → NoneMet ks)
+        → (cond (p && q) (cause_at k.number k.place) (first_of ks)).number ≡ 0 → (p && q ≡ false) × NoneMet ks
     go true true a on e = absurd (omega (arith, ltb-true 0 k.number a))
     go true false a on e = (refl, on e)
     go false q a on e = (refl, on e)
 
-pub unrefused : (ks : List Cause) → None-met ks → first_of ks ≡ none
-unfolding first_of None-met
+pub unrefused : (ks : List Cause) → NoneMet ks → first_of ks ≡ none
+unfolding first_of NoneMet
 unrefused [] n = refl
 unrefused (k ∷ ks) n = rw n.0 (unrefused ks n.1)
 
@@ -74,7 +74,7 @@ first-append [] ks = refl
 first-append (k ∷ js) ks = go (ltb 0 k.number) k.met refl (first-append js ks)
   where
     go : (p q : Bool) → ltb 0 k.number ≡ p → first_of (js ++ ks) ≡ or_else (first_of js) (first_of ks)
-        → (let r = cause-at k.number k.place in cond (p && q) r (first_of (js ++ ks)) ≡ or_else (cond (p && q) r (first_of js)) (first_of ks))
+        → (let r = cause_at k.number k.place in cond (p && q) r (first_of (js ++ ks)) ≡ or_else (cond (p && q) r (first_of js)) (first_of ks))
     go true true a on = let h = ltb-true 0 k.number a in rw (ne_eqb k.number 0 (λ z. omega arith)) refl
     go true false a on = on
     go false q a on = on
@@ -86,17 +86,17 @@ both js ks e p q = e ∙ ap₂ or_else p q ∙ sym (first-append js ks)
 -- behind what was found so far
 pub further : (a : Refusal) (js ks : List Cause) {x y : Refusal} → x ≡ or_else y (first_of ks) → y ≡ or_else a (first_of js)
     → x ≡ or_else a (first_of (js ++ ks))
-further a js ks e q = e ∙ ap (λ y. or_else y (first_of ks)) q ∙ or-else-assoc a (first_of js) (first_of ks) ∙ ap (or_else a) (sym (first-append js ks))
+further a js ks e q = e ∙ ap (λ y. or_else y (first_of ks)) q ∙ or_else_assoc a (first_of js) (first_of ks) ∙ ap (or_else a) (sym (first-append js ks))
 
-pub met-append : (js ks : List Cause) → None-met js → None-met ks → None-met (js ++ ks)
-unfolding None-met
+pub met-append : (js ks : List Cause) → NoneMet js → NoneMet ks → NoneMet (js ++ ks)
+unfolding NoneMet
 met-append [] ks a b = b
 met-append (j ∷ js) ks a b = (a.0, met-append js ks a.1 b)
 
-pub met-parts : (js ks : List Cause) → None-met (js ++ ks) → None-met js × None-met ks
-unfolding None-met
-met-parts [] ks n = (tt, n)
-met-parts (j ∷ js) ks n = let r = met-parts js ks n.1 in ((n.0, r.0), r.1)
+pub met_parts : (js ks : List Cause) → NoneMet (js ++ ks) → NoneMet js × NoneMet ks
+unfolding NoneMet
+met_parts [] ks n = (tt, n)
+met_parts (j ∷ js) ks n = let r = met_parts js ks n.1 in ((n.0, r.0), r.1)
 
 -- ---- a value that was found
 pub first_found : (r : Refusal) (ks : List Cause) → first_of (found r ∷ ks) ≡ or_else r (first_of ks)

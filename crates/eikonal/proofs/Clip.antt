@@ -31,8 +31,8 @@ clip-keeps h t l = go (clipped h t)
     go (kept i p) = p
     go (lost i p) = absurd (omega arith)
 
-pub clip-loses : (h t : ℕ) → h < t → clip h t ≡ never
-clip-loses h t l = go (clipped h t)
+pub clip_loses : (h t : ℕ) → h < t → clip h t ≡ never
+clip_loses h t l = go (clipped h t)
   where
     go : Clipped h t → clip h t ≡ never
     go (kept i p) = absurd (omega arith)
@@ -46,8 +46,8 @@ clip-never h = go (clipped h never)
     go (lost i p) = p
 
 -- a later bound keeps what an earlier one kept
-pub clip-again : (k h x : ℕ) → h ≤ k → clip k (clip h x) ≡ clip h x
-clip-again k h x l = go (clipped h x)
+pub clip_again : (k h x : ℕ) → h ≤ k → clip k (clip h x) ≡ clip h x
+clip_again k h x l = go (clipped h x)
   where
     go : Clipped h x → clip k (clip h x) ≡ clip h x
     go (kept i p) = rw p (clip-keeps k x (omega arith))

@@ -9,7 +9,7 @@ use native.Mathlib.Nat.{suc-mod, mod-lt, mod-eq_of_lt, mod_self, zero-mod, div-a
 use lib.Dec.{eqb}
 use lib.ListN.{length}
 use borrow.Author.Tests.{eqb-false, ne_eqb}
-use Rattle.eikonal.specs.Axes.{Axis, place, before, behind, sight, sights, Next, Next-on, here, there, Near, Spans, All-span, also}
+use Rattle.eikonal.specs.Axes.{Axis, place, before, behind, sight, sights, Next, NextOn, here, there, Near, Spans, All-span, also}
 use Rattle.eikonal.specs.Axes.{never, earlier, earliest}
 use Rattle.eikonal.proofs.Levels.{order}
 use Rattle.eikonal.proofs.Local.{earlier-min}
@@ -22,8 +22,8 @@ goes_on : (n x : ℕ) → 1 ≤ n → suc (x % n) ≢ n → suc x % n ≡ suc (x
 goes_on n x h e = suc-mod x n ∙ mod-eq_of_lt (omega (arith, mod-lt x h, e))
 
 -- a quotient is below what the whole is below so many times
-pub quotient-low : (x n k : ℕ) → x < k * n → x / n < k
-quotient-low x n k l = go (order (x / n) k)
+pub quotient_low : (x n k : ℕ) → x < k * n → x / n < k
+quotient_low x n k l = go (order (x / n) k)
   where
     go : (x / n < k) ⊎ (k ≤ x / n) → x / n < k
     go (inl i) = i
@@ -32,7 +32,7 @@ quotient-low x n k l = go (order (x / n) k)
 -- ---- AN AXIS
 module _ {n : ℕ} {a : Axis} (sp : Spans n a) where
   steps : (c : ℕ) → (c + a.unit) / a.unit ≡ suc (c / a.unit)
-  steps c = omega (arith, add-div_right c sp.unit-low)
+  steps c = omega (arith, add-div_right c sp.unit_low)
 
   pub place-low : (c : ℕ) → place a c < a.count
   unfolding place
@@ -43,9 +43,9 @@ module _ {n : ℕ} {a : Axis} (sp : Spans n a) where
   unfolding place
   place-on c q = rw (steps c) (goes_on a.count (c / a.unit) sp.count_low q)
 
-  pub place-wraps : (c : ℕ) → suc (place a c) ≡ a.count → place a (c + a.unit) ≡ 0
+  pub place_wraps : (c : ℕ) → suc (place a c) ≡ a.count → place a (c + a.unit) ≡ 0
   unfolding place
-  place-wraps c q = rw (steps c) (wraps a.count (c / a.unit) q)
+  place_wraps c q = rw (steps c) (wraps a.count (c / a.unit) q)
 
   -- one back
   pub unit-most : (c : ℕ) → place a c ≢ 0 → a.unit ≤ c
@@ -62,7 +62,7 @@ module _ {n : ℕ} {a : Axis} (sp : Spans n a) where
   back_on c q = omega (arith, unit-most c q)
 
   pub not_last : (c : ℕ) → place a c ≢ 0 → suc (place a (c - a.unit)) ≢ a.count
-  not_last c q e = q (ap (place a) (sym (back_on c q)) ∙ place-wraps (c - a.unit) e)
+  not_last c q e = q (ap (place a) (sym (back_on c q)) ∙ place_wraps (c - a.unit) e)
 
   pub place-back : (c : ℕ) → place a c ≢ 0 → suc (place a (c - a.unit)) ≡ place a c
   place-back c q = sym (place-on (c - a.unit) (not_last c q)) ∙ ap (place a) (back_on c q)
@@ -73,10 +73,10 @@ module _ {n : ℕ} {a : Axis} (sp : Spans n a) where
   on-cell c l q =
       let u = a.unit in
       let x = c / u in
-      let rounds : x / a.count < sp.many = quotient-low x a.count sp.many (quotient-low c u (sp.many * a.count) (omega (arith, sp.whole))) in
+      let rounds : x / a.count < sp.many = quotient_low x a.count sp.many (quotient_low c u (sp.many * a.count) (omega (arith, sp.whole))) in
       let full = mul-le-mul_right a.count rounds in
       let next : suc (suc x) ≤ sp.many * a.count = omega (arith, div-add-mod' x a.count, mod-lt x sp.count_low, q) in
-      omega (arith, mul-le-mul_right u next, div-add-mod' c u, mod-lt c sp.unit-low, sp.whole)
+      omega (arith, mul-le-mul_right u next, div-add-mod' c u, mod-lt c sp.unit_low, sp.whole)
 
   -- ---- the two neighbours on it
   cell-before : (c : ℕ) → c < n → place a c ≢ 0 → (c - a.unit < n) × Next a (c - a.unit) c
@@ -149,13 +149,13 @@ pub near-there : {a : Axis} {xs : List Axis} {c e : ℕ} → Near xs c e → Nea
 near-there (inl k) = inl (there k)
 near-there (inr k) = inr (there k)
 
-pub near-which : {a : Axis} {xs : List Axis} {c e : ℕ} → Near (a ∷ xs) c e → (Next a c e ⊎ Next a e c) ⊎ Near xs c e
-near-which (inl (here k)) = inl (inl k)
-near-which (inl (there k)) = inr (inl k)
-near-which (inr (here k)) = inl (inr k)
-near-which (inr (there k)) = inr (inr k)
+pub near_which : {a : Axis} {xs : List Axis} {c e : ℕ} → Near (a ∷ xs) c e → (Next a c e ⊎ Next a e c) ⊎ Near xs c e
+near_which (inl (here k)) = inl (inl k)
+near_which (inl (there k)) = inr (inl k)
+near_which (inr (here k)) = inl (inr k)
+near_which (inr (there k)) = inr (inr k)
 
-next-some : {c e : ℕ} {xs : List Axis} → Next-on xs c e → 1 ≤ length xs
+next-some : {c e : ℕ} {xs : List Axis} → NextOn xs c e → 1 ≤ length xs
 next-some (here k) = omega arith
 next-some (there k) = omega arith
 
@@ -168,13 +168,13 @@ module _ (n : ℕ) (f : ℕ → ℕ) where
   pub seen-earliest : (a : Axis) (xs : List Axis) (ws : List ℕ) → length ws ≡ length xs → All-span n (a ∷ xs) → (c e : ℕ) → Near (a ∷ xs) c e
       → earliest ws (sights (a ∷ xs) c f) ≤ f e
   unfolding earliest
-  seen-earliest a xs [] q (also s sp) c e k = go (near-which k)
+  seen-earliest a xs [] q (also s sp) c e k = go (near_which k)
     where
       go : (Next a c e ⊎ Next a e c) ⊎ Near xs c e → sight a c f ≤ f e
       go (inl h) = sees s f h
       go (inr h) = absurd (none-near xs q h)
   seen-earliest a [] (w ∷ ws) q sp c e k = absurd (omega arith)
-  seen-earliest a (b ∷ xs) (w ∷ ws) q (also s sp) c e k = go (near-which k) (seen-earliest b xs ws (omega arith) sp c e)
+  seen-earliest a (b ∷ xs) (w ∷ ws) q (also s sp) c e k = go (near_which k) (seen-earliest b xs ws (omega arith) sp c e)
     where
       go : (Next a c e ⊎ Next a e c) ⊎ Near (b ∷ xs) c e → (Near (b ∷ xs) c e → earliest ws (sights (b ∷ xs) c f) ≤ f e)
           → min (sight a c f) (earliest ws (sights (b ∷ xs) c f)) ≤ f e

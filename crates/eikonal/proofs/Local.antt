@@ -8,10 +8,10 @@ use native.Mathlib.Omega.{arith}
 use native.Mathlib.Nat.{mul-le-mul_left}
 use lib.Dec.{ltb, leb}
 use borrow.Author.Tests.{ltb-true, ltb-false, le-leb}
-use Rattle.eikonal.specs.Board.{never, earlier, square, passes, local-of, local}
+use Rattle.eikonal.specs.Board.{never, earlier, square, passes, local_of, local}
 use Rattle.eikonal.proofs.Least.{Least}
-use Rattle.eikonal.specs.Axes.{earliest, pull, passes-axes, local-axes, Enough}
-use Rattle.eikonal.proofs.Axes.{axes-on, axes-step, Answers-axes, axes-answers, axes-passes, passes-local-axes, bounded, axes-agree}
+use Rattle.eikonal.specs.Axes.{earliest, pull, passes_axes, local_axes, Enough}
+use Rattle.eikonal.proofs.Axes.{axes-on, axes-step, Answers-axes, axes-answers, axes-passes, passes-local_axes, bounded, axes-agree}
 
 -- ---- the earlier of two
 pub earlier-min : (a b : ℕ) → earlier a b ≡ min a b
@@ -60,8 +60,8 @@ enough g h =
     (omega (arith, mul-le-mul_left h x), (mul-le-mul_left g y, mul-le-mul_left g y))
 
 -- of axes whose times some function has by number
-passes-by : (g h : ℕ) (f : ℕ → ℕ) (t : ℕ) → passes g h (f 0) (f 1) (f 2) t ≡ passes-axes (g * h) h (others g) f t
-unfolding passes passes-axes pull square
+passes-by : (g h : ℕ) (f : ℕ → ℕ) (t : ℕ) → passes g h (f 0) (f 1) (f 2) t ≡ passes_axes (g * h) h (others g) f t
+unfolding passes passes_axes pull square
 passes-by g h f t =
     let due : g * g * (h * h) ≡ g * h * (g * h) = omega arith in
     ap₂ leb due (sum (t - f 0) (t - f 1) (t - f 2))
@@ -73,12 +73,12 @@ earliest-by : (g : ℕ) (f : ℕ → ℕ) → earliest (others g) f ≡ min (f 0
 unfolding earliest
 earliest-by g f = refl
 
-pub local_by : (g h : ℕ) (f : ℕ → ℕ) → local-of g h (f 0) (f 1) (f 2) ≡ local-axes (max g h) (g * h) h (others g) f
-unfolding local-of local-axes
+pub local_by : (g h : ℕ) (f : ℕ → ℕ) → local_of g h (f 0) (f 1) (f 2) ≡ local_axes (max g h) (g * h) h (others g) f
+unfolding local_of local_axes
 local_by g h f = rw (fun_ext (passes-by g h f), earlier-three (f 0) (f 1) (f 2), earliest-by g f)
 
 -- of three times
-passes-is : (g h a b z t : ℕ) → passes g h a b z t ≡ passes-axes (g * h) h (others g) (three a b z) t
+passes-is : (g h a b z t : ℕ) → passes g h a b z t ≡ passes_axes (g * h) h (others g) (three a b z) t
 unfolding three
 passes-is g h a b z = passes-by g h (three a b z)
 
@@ -86,11 +86,11 @@ earliest-is : (g a b z : ℕ) → earliest (others g) (three a b z) ≡ min a (m
 unfolding three
 earliest-is g a b z = earliest-by g (three a b z)
 
-local-axes-is : (g h a b z : ℕ) → local-of g h a b z ≡ local-axes (max g h) (g * h) h (others g) (three a b z)
+local_axes-is : (g h a b z : ℕ) → local_of g h a b z ≡ local_axes (max g h) (g * h) h (others g) (three a b z)
 unfolding three
-local-axes-is g h a b z = local_by g h (three a b z)
+local_axes-is g h a b z = local_by g h (three a b z)
 
-pub local-is : (g h l r u d o n : ℕ) → local g h l r u d o n ≡ local-of g h (earlier l r) (earlier u d) (earlier o n)
+pub local-is : (g h l r u d o n : ℕ) → local g h l r u d o n ≡ local_of g h (earlier l r) (earlier u d) (earlier o n)
 unfolding local
 local-is g h l r u d o n = refl
 
@@ -107,17 +107,17 @@ far-passes g h a b z =
     ∙ (rw (earliest-is g a b z) at (axes-step (max g h) (g * h) h (others g) (enough g h) (three a b z)))
 
 -- the axes of the weight g the other way round
-passes-turn : (g h a b z t : ℕ) → passes g h a b z t ≡ passes g h a z b t
+passes_turn : (g h a b z t : ℕ) → passes g h a b z t ≡ passes g h a z b t
 unfolding passes square
-passes-turn g h a b z t = ap₂ leb refl (sum ((t - a) * (t - a)) ((t - b) * (t - b)) ((t - z) * (t - z)))
+passes_turn g h a b z t = ap₂ leb refl (sum ((t - a) * (t - a)) ((t - b) * (t - b)) ((t - z) * (t - z)))
   where
     sum : (p q r : ℕ) → p * (h * h) + q * (g * g) + r * (g * g) ≡ p * (h * h) + r * (g * g) + q * (g * g)
     sum p q r = omega arith
 
 -- a straight step is enough, from each axis
-pub along-passes : (g h a b z : ℕ) → passes g h a b z (a + g) ≡ true
+pub along_passes : (g h a b z : ℕ) → passes g h a b z (a + g) ≡ true
 unfolding passes square
-along-passes g h a b z =
+along_passes g h a b z =
     let x : a + g - a ≡ g = omega arith in
     rw x (le-leb _ _ (most ((a + g - b) * (a + g - b)) ((a + g - z) * (a + g - z))))
   where
@@ -133,58 +133,58 @@ down-passes g h a b z =
     most : (p r : ℕ) → g * g * (h * h) ≤ p * (h * h) + h * h * (g * g) + r * (g * g)
     most p r = omega arith
 
-pub storey-passes : (g h a b z : ℕ) → passes g h a b z (z + h) ≡ true
-storey-passes g h a b z = passes-turn g h a b z (z + h) ∙ down-passes g h a z b
+pub storey_passes : (g h a b z : ℕ) → passes g h a b z (z + h) ≡ true
+storey_passes g h a b z = passes_turn g h a b z (z + h) ∙ down-passes g h a z b
 
 -- it stays never for a wall or where no side is reached; else it is the least that passes from the earliest side on
 pub data Answers (g h a b z : ℕ) : Type 0 where
-  stays : (g * h ≡ 0) ⊎ (min a (min b z) ≡ never) → local-of g h a b z ≡ never → Answers g h a b z
+  stays : (g * h ≡ 0) ⊎ (min a (min b z) ≡ never) → local_of g h a b z ≡ never → Answers g h a b z
   comes : 1 ≤ g * h → min a (min b z) ≢ never
-      → Least (λ t. passes g h a b z t) (min a (min b z)) (min a (min b z) + max g h) (local-of g h a b z) → Answers g h a b z
+      → Least (λ t. passes g h a b z t) (min a (min b z)) (min a (min b z) + max g h) (local_of g h a b z) → Answers g h a b z
 
 pub local-answers : (g h a b z : ℕ) → Answers g h a b z
 unfolding earliest three
 local-answers g h a b z = go (axes-answers (max g h) (g * h) h (others g) (enough g h) (three a b z))
   where
     go : Answers-axes (max g h) (g * h) h (others g) (enough g h) (three a b z) → Answers g h a b z
-    go (Answers-axes.stays e f) = stays e (local-axes-is g h a b z ∙ f)
-    go (Answers-axes.comes p n l) = comes p n (rw (fun_ext (passes-is g h a b z), local-axes-is g h a b z) l)
+    go (Answers-axes.stays e f) = stays e (local_axes-is g h a b z ∙ f)
+    go (Answers-axes.comes p n l) = comes p n (rw (fun_ext (passes-is g h a b z), local_axes-is g h a b z) l)
 
 -- THE LAW: the answer is at most v, before never, just if v passes
-pub local-passes : (g h a b z v : ℕ) → v < never → local-of g h a b z ≤ v → (1 ≤ g * h) × (passes g h a b z v ≡ true)
+pub local-passes : (g h a b z v : ℕ) → v < never → local_of g h a b z ≤ v → (1 ≤ g * h) × (passes g h a b z v ≡ true)
 local-passes g h a b z v l k =
-    let r = axes-passes (max g h) (g * h) h (others g) (enough g h) (three a b z) v l (rw (local-axes-is g h a b z) at k) in
+    let r = axes-passes (max g h) (g * h) h (others g) (enough g h) (three a b z) v l (rw (local_axes-is g h a b z) at k) in
     (r.0, passes-is g h a b z v ∙ r.1)
 
-pub passes-local : (g h a b z v : ℕ) → v < never → 1 ≤ g * h → passes g h a b z v ≡ true → local-of g h a b z ≤ v
+pub passes-local : (g h a b z v : ℕ) → v < never → 1 ≤ g * h → passes g h a b z v ≡ true → local_of g h a b z ≤ v
 passes-local g h a b z v l p k =
-    rw (local-axes-is g h a b z)
-    (passes-local-axes (max g h) (g * h) h (others g) (enough g h) (three a b z) v l p (sym (passes-is g h a b z v) ∙ k))
+    rw (local_axes-is g h a b z)
+    (passes-local_axes (max g h) (g * h) h (others g) (enough g h) (three a b z) v l p (sym (passes-is g h a b z v) ∙ k))
 
 -- CAUSAL
 local-agree : (g h a b z x y w t : ℕ) → t < never → min t a ≡ min t x → min t b ≡ min t y → min t z ≡ min t w
-    → min (suc t) (local-of g h a b z) ≡ min (suc t) (local-of g h x y w)
+    → min (suc t) (local_of g h a b z) ≡ min (suc t) (local_of g h x y w)
 local-agree g h a b z x y w t l p q r =
-    rw (local-axes-is g h a b z, local-axes-is g h x y w)
+    rw (local_axes-is g h a b z, local_axes-is g h x y w)
     (axes-agree (max g h) (g * h) h (others g) (enough g h) (three a b z) (three x y w) t l (each (λ i j. min t i ≡ min t j) a b z x y w p q r))
 
 -- TWO AXES ARE ENOUGH where the third is not before their answer, cut at a limit
-pub third-late : (limit g h a b z : ℕ) → limit ≤ never → min limit (local-of g h a b never) ≤ z
-    → min limit (local-of g h a b z) ≡ min limit (local-of g h a b never)
-third-late limit g h a b z fits l =
+pub third_late : (limit g h a b z : ℕ) → limit ≤ never → min limit (local_of g h a b never) ≤ z
+    → min limit (local_of g h a b z) ≡ min limit (local_of g h a b never)
+third_late limit g h a b z fits l =
     omega (arith, local-agree g h a b z a b never (min z (never - 1)) (omega arith) refl refl (omega arith))
 
 -- ---- the rule, its axes the other way round: the two of the weight g
-pub local-turn : (g h a b z : ℕ) → local-of g h a b z ≡ local-of g h a z b
-unfolding local-of
-local-turn g h a b z =
+pub local_turn : (g h a b z : ℕ) → local_of g h a b z ≡ local_of g h a z b
+unfolding local_of
+local_turn g h a b z =
     let m : earlier b z ≡ earlier z b = rw (earlier-min b z, earlier-min z b) (omega arith) in
-    rw (fun_ext (passes-turn g h a b z), m)
+    rw (fun_ext (passes_turn g h a b z), m)
 
 -- and the row's with the column's, where the numbers are equal or the third axis is never
-passes-swap : (g h a b z t : ℕ) → (g ≡ h) ⊎ (t ≤ z) → passes g h a b z t ≡ passes h g b a z t
+passes_swap : (g h a b z t : ℕ) → (g ≡ h) ⊎ (t ≤ z) → passes g h a b z t ≡ passes h g b a z t
 unfolding passes square
-passes-swap g h a b z t k =
+passes_swap g h a b z t k =
     let due : g * g * (h * h) ≡ h * h * (g * g) = omega arith in
     ap₂ leb due (go k (t - a) (t - b))
   where
@@ -193,16 +193,16 @@ passes-swap g h a b z t k =
     go (inl e) p q = rw e (omega arith)
     go (inr l) p q = let none : t - z ≡ 0 = omega arith in rw none (omega arith)
 
-swap-under : (g h a b z : ℕ) → ((v : ℕ) → v < never → (g ≡ h) ⊎ (v ≤ z)) → min never (local-of g h a b z) ≤ local-of h g b a z
-swap-under g h a b z k = bounded never _ _ follow
+swap_under : (g h a b z : ℕ) → ((v : ℕ) → v < never → (g ≡ h) ⊎ (v ≤ z)) → min never (local_of g h a b z) ≤ local_of h g b a z
+swap_under g h a b z k = bounded never _ _ follow
   where
-    follow : (v : ℕ) → v < never → local-of h g b a z ≤ v → local-of g h a b z ≤ v
+    follow : (v : ℕ) → v < never → local_of h g b a z ≤ v → local_of g h a b z ≤ v
     follow v l i =
         let r = local-passes h g b a z v l i in
-        passes-local g h a b z v l (omega (arith, r.0)) (passes-swap g h a b z v (k v l) ∙ r.1)
+        passes-local g h a b z v l (omega (arith, r.0)) (passes_swap g h a b z v (k v l) ∙ r.1)
 
-pub local-swap : (g h a b z : ℕ) → (g ≡ h) ⊎ (never ≤ z) → min never (local-of g h a b z) ≡ min never (local-of h g b a z)
-local-swap g h a b z k = omega (arith, swap-under g h a b z (go k), swap-under h g b a z (λ v l. other (go k v l)))
+pub local_swap : (g h a b z : ℕ) → (g ≡ h) ⊎ (never ≤ z) → min never (local_of g h a b z) ≡ min never (local_of h g b a z)
+local_swap g h a b z k = omega (arith, swap_under g h a b z (go k), swap_under h g b a z (λ v l. other (go k v l)))
   where
     go : (g ≡ h) ⊎ (never ≤ z) → (v : ℕ) → v < never → (g ≡ h) ⊎ (v ≤ z)
     go (inl e) v l = inl e

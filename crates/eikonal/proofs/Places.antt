@@ -10,13 +10,13 @@ use lib.Dec.{ltb, leb, eqb}
 use lib.ListN.{length}
 use borrow.Author.Tests.{ltb-true, ltb-false, leb-true, leb-false, eqb-true, ne_eqb}
 use Rattle.eikonal.specs.Board.{size}
-use Rattle.eikonal.specs.Order.{Cause, at-fault, cause, cause-at, none, first_of, rank, rank-in, follows, In-order}
-use Rattle.eikonal.specs.Refusals.{Handed, on-board, first_off, first-low, board-causes, pair-causes, record-causes, start-causes, tile-causes}
-use Rattle.eikonal.specs.Refusals.{job-causes, list-causes, nothing-own}
-use Rattle.eikonal.specs.Ledger.{Call, call, call-board, call-causes, own-refusal, own-answer, answer, answered}
-use Rattle.eikonal.specs.Entry.{local-causes}
-use Rattle.eikonal.specs.Promise.{Calls-in-order, Local-in-order, cell_at, All-on, All-rise, First-at-fault, Place-is-first}
-use Rattle.eikonal.specs.Promise.{Steps, All-place, Every-place}
+use Rattle.eikonal.specs.Order.{Cause, at_fault, cause, cause_at, none, first_of, rank, rank_in, follows, InOrder}
+use Rattle.eikonal.specs.Refusals.{Handed, on_board, first_off, first_low, board_causes, pair_causes, record_causes, start_causes, tile_causes}
+use Rattle.eikonal.specs.Refusals.{job_causes, list_causes, nothing_own}
+use Rattle.eikonal.specs.Ledger.{Call, call, call_board, call_causes, own_refusal, own_answer, answer, answered}
+use Rattle.eikonal.specs.Entry.{local_causes}
+use Rattle.eikonal.specs.Promise.{CallsInOrder, LocalInOrder, cell_at, AllOn, AllRise, First-at-fault, PlaceIsFirst}
+use Rattle.eikonal.specs.Promise.{Steps, AllPlace, EveryPlace}
 use Rattle.eikonal.specs.declared.Start.{Start}
 use Rattle.eikonal.specs.declared.Refusal.{Refusal}
 use Rattle.eikonal.specs.declared.Reply.{Reply}
@@ -27,37 +27,37 @@ use Rattle.eikonal.proofs.Good.{and-true}
 use Rattle.eikonal.proofs.Answers.{answered-zero, answered-refused}
 
 -- ---- the lists of causes follow the one order: computed
-pub calls-in-order : Calls-in-order
-unfolding Calls-in-order call-causes board-causes pair-causes start-causes record-causes job-causes tile-causes list-causes follows rank rank-in
-calls-in-order c t = go c.handed c.job c.order c.sides c.work
+pub calls_in_order : CallsInOrder
+unfolding CallsInOrder call_causes board_causes pair_causes start_causes record_causes job_causes tile_causes list_causes follows rank rank_in
+calls_in_order c t = go c.handed c.job c.order c.sides c.work
   where
-    go : (p : Handed) (j : Job) (ys : List ℕ) (n w : ℕ) → In-order (call-causes (call p j ys n w) nothing-own t)
+    go : (p : Handed) (j : Job) (ys : List ℕ) (n w : ℕ) → InOrder (call_causes (call p j ys n w) nothing_own t)
     go p (March z) ys n w = refl
     go p (Round tw th m) ys n w = refl
     go p (Run tw th s z) ys n w = refl
 
-pub local-in-order : Local-in-order
-unfolding Local-in-order local-causes follows rank rank-in
-local-in-order g h o n = refl
+pub local_in_order : LocalInOrder
+unfolding LocalInOrder local_causes follows rank rank_in
+local_in_order g h o n = refl
 
 -- ---- causes in front of the starts' and behind them: their numbers are looked for there, and none has a place
 unfoldable pub all_plain : (test : ℕ → Bool) → List Cause → Bool
 all_plain p [] = true
 all_plain p (k ∷ ks) = ((eqb k.number 0 || p k.number) && eqb k.place 0) && all_plain p ks
 
-unfoldable pub in-front : (number : ℕ) → Bool
-in-front m = ltb (rank m) (rank 7)
+unfoldable pub in_front : (number : ℕ) → Bool
+in_front m = ltb (rank m) (rank 7)
 
-unfoldable pub in-the-rear : (number : ℕ) → Bool
-in-the-rear m = ltb (rank 18) (rank m)
+unfoldable pub in_the_rear : (number : ℕ) → Bool
+in_the_rear m = ltb (rank 18) (rank m)
 
-seven-first : rank 7 < rank 18
-unfolding rank rank-in
-seven-first = omega arith
+seven_first : rank 7 < rank 18
+unfolding rank rank_in
+seven_first = omega arith
 
 -- nothing found stands behind all
 pub nothing-last : rank 18 < rank 0
-unfolding rank rank-in
+unfolding rank rank_in
 nothing-last = omega arith
 
 -- a cell below the least that it may be is not the first, and not above the one before
@@ -74,7 +74,7 @@ module _ (n : ℕ) (xs : List Start) where
 
   -- no start is at fault
   abbrev Right : Type 0
-  Right = All-on n xs (length xs) × All-rise xs (length xs)
+  Right = AllOn n xs (length xs) × AllRise xs (length xs)
 
   -- a list that begins with such causes, by what each of them says where it is met
   pub past : (p : ℕ → Bool) → ((k : ℕ) → 1 ≤ k → p k ≡ true → Tells (cause k)) → (ks rest : List Cause) → all_plain p ks ≡ true → Tells (first_of rest)
@@ -87,7 +87,7 @@ module _ (n : ℕ) (xs : List Start) where
       go (ltb 0 k.number) k.met refl q.0 (eqb-true k.place 0 q.1) (past p says ks rest r.1 t)
     where
       go : (a b : Bool) → ltb 0 k.number ≡ a → eqb k.number 0 || p k.number ≡ true → k.place ≡ 0 → Tells (first_of (ks ++ rest))
-          → Tells (cond (a && b) (cause-at k.number k.place) (first_of (ks ++ rest)))
+          → Tells (cond (a && b) (cause_at k.number k.place) (first_of (ks ++ rest)))
       go true true h e z t =
           let l = ltb-true 0 k.number h in
           let some : eqb k.number 0 ≡ false = ne_eqb k.number 0 (λ w. omega arith) in
@@ -95,23 +95,23 @@ module _ (n : ℕ) (xs : List Start) where
       go true false h e z t = t
       go false b h e z t = t
 
-  front-says : (k : ℕ) → 1 ≤ k → in-front k ≡ true → Tells (cause k)
-  unfolding in-front
-  front-says k l e =
+  front_says : (k : ℕ) → 1 ≤ k → in_front k ≡ true → Tells (cause k)
+  unfolding in_front
+  front_says k l e =
       let h = ltb-true (rank k) (rank 7) e in
       record {
         off = λ q. absurd (omega (arith, (rw q at h)));
-        low = λ q. absurd (omega (arith, (rw q at h), seven-first));
-        right = λ q. absurd (omega (arith, seven-first));
+        low = λ q. absurd (omega (arith, (rw q at h), seven_first));
+        right = λ q. absurd (omega (arith, seven_first));
         rest = λ a b. refl;
       }
 
-  rear-says : Right → (k : ℕ) → 1 ≤ k → in-the-rear k ≡ true → Tells (cause k)
-  unfolding in-the-rear
-  rear-says r k l e =
+  rear_says : Right → (k : ℕ) → 1 ≤ k → in_the_rear k ≡ true → Tells (cause k)
+  unfolding in_the_rear
+  rear_says r k l e =
       let h = ltb-true (rank 18) (rank k) e in
       record {
-        off = λ q. absurd (omega (arith, (rw q at h), seven-first));
+        off = λ q. absurd (omega (arith, (rw q at h), seven_first));
         low = λ q. absurd (omega (arith, (rw q at h)));
         right = λ q. r;
         rest = λ a b. refl;
@@ -121,43 +121,43 @@ module _ (n : ℕ) (xs : List Start) where
   passes r = record { off = λ q. absurd (omega arith); low = λ q. absurd (omega arith); right = λ q. r; rest = λ a b. refl }
 
   -- THE STARTS, with causes in front of them and behind them: what a list tells
-  starts-tell : (rest : List Cause) → all_plain in-the-rear rest ≡ true
-      → Tells (first_of (at-fault 7 (first_off n xs) (length xs) ∷ at-fault 18 (first-low xs) (length xs) ∷ rest))
+  starts-tell : (rest : List Cause) → all_plain in_the_rear rest ≡ true
+      → Tells (first_of (at_fault 7 (first_off n xs) (length xs) ∷ at_fault 18 (first_low xs) (length xs) ∷ rest))
   unfolding first_of least_at
-  starts-tell rest e = go (ltb (first_off n xs) (length xs)) refl (ltb (first-low xs) (length xs)) refl
+  starts-tell rest e = go (ltb (first_off n xs) (length xs)) refl (ltb (first_low xs) (length xs)) refl
     where
-      on : ltb (first_off n xs) (length xs) ≡ false → All-on n xs (length xs)
-      on e i l = ltb-true _ n (before (on-board n) 0 xs i (omega (arith, ltb-false (first_off n xs) (length xs) e)))
+      on : ltb (first_off n xs) (length xs) ≡ false → AllOn n xs (length xs)
+      on e i l = ltb-true _ n (before (on_board n) 0 xs i (omega (arith, ltb-false (first_off n xs) (length xs) e)))
 
-      rise : (k : ℕ) → k ≤ first-low xs → All-rise xs k
+      rise : (k : ℕ) → k ≤ first_low xs → AllRise xs k
       rise k h i l = leb-true _ _ (before leb 0 xs (suc i) (omega arith))
 
-      go : (p : Bool) → ltb (first_off n xs) (length xs) ≡ p → (q : Bool) → ltb (first-low xs) (length xs) ≡ q
-          → Tells (cond p (cause-at 7 (first_off n xs)) (cond q (cause-at 18 (first-low xs)) (first_of rest)))
+      go : (p : Bool) → ltb (first_off n xs) (length xs) ≡ p → (q : Bool) → ltb (first_low xs) (length xs) ≡ q
+          → Tells (cond p (cause_at 7 (first_off n xs)) (cond q (cause_at 18 (first_low xs)) (first_of rest)))
       go true a q b =
           let h = ltb-true (first_off n xs) (length xs) a in
           record {
-            off = λ z. (h, ltb-false _ n (there (on-board n) 0 xs h), λ i l. ltb-true _ n (before (on-board n) 0 xs i l));
+            off = λ z. (h, ltb-false _ n (there (on_board n) 0 xs h), λ i l. ltb-true _ n (before (on_board n) 0 xs i l));
             low = λ z. absurd (omega arith);
-            right = λ z. absurd (omega (arith, seven-first));
+            right = λ z. absurd (omega (arith, seven_first));
             rest = λ a b. absurd (a refl);
           }
       go false a true b =
-          let h = ltb-true (first-low xs) (length xs) b in
-          let s = below-least xs (first-low xs) (leb-false _ _ (there leb 0 xs h)) in
+          let h = ltb-true (first_low xs) (length xs) b in
+          let s = below-least xs (first_low xs) (leb-false _ _ (there leb 0 xs h)) in
           record {
             off = λ z. absurd (omega arith);
-            low = λ z. (s.0, h, s.1, rise (first-low xs) (omega arith), on a);
+            low = λ z. (s.0, h, s.1, rise (first_low xs) (omega arith), on a);
             right = λ z. absurd (omega arith);
             rest = λ a b. absurd (b refl);
           }
       go false a false b =
-          let r : Right = (on a, rise (length xs) (ltb-false (first-low xs) (length xs) b)) in
-          rw append-nil at (past in-the-rear (rear-says r) rest [] e (passes r))
+          let r : Right = (on a, rise (length xs) (ltb-false (first_low xs) (length xs) b)) in
+          rw append-nil at (past in_the_rear (rear_says r) rest [] e (passes r))
 
-  pub tells : (front rest : List Cause) → all_plain in-front front ≡ true → all_plain in-the-rear rest ≡ true
-      → Tells (first_of (front ++ (at-fault 7 (first_off n xs) (length xs) ∷ at-fault 18 (first-low xs) (length xs) ∷ rest)))
-  tells front rest a b = past in-front front-says front _ a (starts-tell rest b)
+  pub tells : (front rest : List Cause) → all_plain in_front front ≡ true → all_plain in_the_rear rest ≡ true
+      → Tells (first_of (front ++ (at_fault 7 (first_off n xs) (length xs) ∷ at_fault 18 (first_low xs) (length xs) ∷ rest)))
+  tells front rest a b = past in_front front_says front _ a (starts-tell rest b)
 
   -- ---- and the answer
   pub tells_none : (k : Refusal) → k.number ≡ 0 → Tells k → Tells none
@@ -171,22 +171,22 @@ module _ (n : ℕ) (xs : List Start) where
   ]
 
 -- THE PLACE in the answer of a call
-pub place-is-first : Place-is-first
-unfolding Place-is-first own-answer own-refusal call-causes board-causes pair-causes start-causes record-causes job-causes tile-causes list-causes
-    all_plain in-front in-the-rear rank rank-in
-place-is-first c ts = tells-answer (size (call-board c)) (call-board c).starts _ _ (go c.handed c.job c.order c.sides c.work)
+pub place-is-first : PlaceIsFirst
+unfolding PlaceIsFirst own_answer own_refusal call_causes board_causes pair_causes start_causes record_causes job_causes tile_causes list_causes
+    all_plain in_front in_the_rear rank rank_in
+place-is-first c ts = tells-answer (size (call_board c)) (call_board c).starts _ _ (go c.handed c.job c.order c.sides c.work)
   where
     go : (p : Handed) (j : Job) (ys : List ℕ) (n w : ℕ)
-        → Tells (size p.board) p.board.starts (first_of (call-causes (call p j ys n w) nothing-own (length ts)))
+        → Tells (size p.board) p.board.starts (first_of (call_causes (call p j ys n w) nothing_own (length ts)))
     go p (March z) ys n w = tells (size p.board) p.board.starts (_ ∷ _ ∷ _ ∷ _ ∷ _ ∷ _ ∷ _ ∷ []) _ refl refl
     go p (Round tw th m) ys n w = tells (size p.board) p.board.starts (_ ∷ _ ∷ _ ∷ _ ∷ _ ∷ _ ∷ _ ∷ []) _ refl refl
     go p (Run tw th s z) ys n w = tells (size p.board) p.board.starts (_ ∷ _ ∷ _ ∷ _ ∷ _ ∷ _ ∷ _ ∷ []) _ refl refl
 
 -- and all along a list of calls
-pub every-place : Every-place
-unfolding Every-place Place-is-first
-every-place _ _ _ _ _ _ s = along s
+pub every_place : EveryPlace
+unfolding EveryPlace PlaceIsFirst
+every_place _ _ _ _ _ _ s = along s
   where
-    along : {cs : List Call} {xs : List Reply} {us vs : List (List ℕ)} {a z : List ℕ} → Steps a cs xs us vs z → All-place cs xs
-    along (Steps.done a) = All-place.done
-    along (Steps.then l m z c x cs xs us vs s rest) = All-place.then c x cs xs (rw s.answers (place-is-first c l.sheet.times)) (along rest)
+    along : {cs : List Call} {xs : List Reply} {us vs : List (List ℕ)} {a z : List ℕ} → Steps a cs xs us vs z → AllPlace cs xs
+    along (Steps.done a) = AllPlace.done
+    along (Steps.then l m z c x cs xs us vs s rest) = AllPlace.then c x cs xs (rw s.answers (place-is-first c l.sheet.times)) (along rest)

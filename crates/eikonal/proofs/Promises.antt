@@ -1,10 +1,10 @@
 -- THE PROMISES, gathered: each statement of specs/Promise.antt with its proof.
-use Rattle.eikonal.specs.Promise.{Calls-in-order, Local-in-order, Place-is-first}
-use Rattle.eikonal.specs.Promise.{Local-least, Old-rule, Diagonal-step, One-solution, Times-below, Never-past-horizon, Never-unjoined}
-use Rattle.eikonal.specs.Promise.{Round-is-solution, Run-is-march, Rounds-least, Few-rounds, Order-free, Run-order-free, Run-is-rounds, Every-list}
-use Rattle.eikonal.specs.Promise.{Sides-order-free, Every-sheet, Every-place, Lists-keep, Earlier-no-later, Quicker-no-later, One-set}
-use Rattle.eikonal.specs.Promise.{Same-handed, Lists-are-records, Same-answers, Third-condition}
-use Rattle.eikonal.specs.Promise.{One-local-least, One-diagonal-step}
+use Rattle.eikonal.specs.Promise.{CallsInOrder, LocalInOrder, PlaceIsFirst}
+use Rattle.eikonal.specs.Promise.{LocalLeast, OldRule, DiagonalStep, OneSolution, TimesBelow, NeverPastHorizon, NeverUnjoined}
+use Rattle.eikonal.specs.Promise.{RoundIsSolution, RunIsMarch, RoundsLeast, FewRounds, OrderFree, RunOrderFree, RunIsRounds, EveryList}
+use Rattle.eikonal.specs.Promise.{SidesOrderFree, EverySheet, EveryPlace, ListsKeep, EarlierNoLater, QuickerNoLater, OneSet}
+use Rattle.eikonal.specs.Promise.{SameHanded, ListsAreRecords, SameAnswers, ThirdCondition}
+use Rattle.eikonal.specs.Promise.{OneLocalLeast, OneDiagonalStep}
 use Rattle.eikonal.proofs.LocalRule as local-rule
 use Rattle.eikonal.proofs.Lattices as lattices
 use Rattle.eikonal.proofs.Slower as slower
@@ -16,113 +16,113 @@ use Rattle.eikonal.proofs.Ledger as ledger
 use Rattle.eikonal.proofs.Places as places
 
 -- the one order
-pub calls-in-order : Calls-in-order
-calls-in-order = places.calls-in-order
+pub calls_in_order : CallsInOrder
+calls_in_order = places.calls_in_order
 
-pub local-in-order : Local-in-order
-local-in-order = places.local-in-order
+pub local_in_order : LocalInOrder
+local_in_order = places.local_in_order
 
 -- the place of a start at fault
-pub place-is-first : Place-is-first
+pub place-is-first : PlaceIsFirst
 place-is-first = places.place-is-first
 
 -- the local rule
-pub local-least : Local-least
+pub local-least : LocalLeast
 local-least = local-rule.local-least
 
-pub old-rule : Old-rule
+pub old-rule : OldRule
 old-rule = local-rule.old-rule
 
-pub diagonal-step : Diagonal-step
+pub diagonal-step : DiagonalStep
 diagonal-step = local-rule.diagonal-step
 
-pub one-local-least : One-local-least
-one-local-least = local-rule.one-local-least
+pub one_local-least : OneLocalLeast
+one_local-least = local-rule.one_local-least
 
-pub one-diagonal-step : One-diagonal-step
+pub one-diagonal-step : OneDiagonalStep
 one-diagonal-step = local-rule.one-diagonal-step
 
 -- any number of axes
-pub earlier-no-later : Earlier-no-later
-earlier-no-later = lattices.earlier-no-later
+pub earlier_no_later : EarlierNoLater
+earlier_no_later = lattices.earlier_no_later
 
-pub quicker-no-later : Quicker-no-later
-quicker-no-later = slower.quicker-no-later
+pub quicker_no_later : QuickerNoLater
+quicker_no_later = slower.quicker_no_later
 
-pub one_set : One-set
+pub one_set : OneSet
 one_set = lattices.one_set
 
 -- the second condition
-pub one_solution : One-solution
+pub one_solution : OneSolution
 one_solution = solution.one_solution
 
-pub times_below : Times-below
+pub times_below : TimesBelow
 times_below = solution.times_below
 
-pub never-past-horizon : Never-past-horizon
+pub never-past-horizon : NeverPastHorizon
 never-past-horizon = never.never-past-horizon
 
-pub never-unjoined : Never-unjoined
-never-unjoined = never.never-unjoined
+pub never_unjoined : NeverUnjoined
+never_unjoined = never.never_unjoined
 
 -- the third condition
-pub round-is-solution : Round-is-solution
-round-is-solution = rounds.round-is-solution
+pub round_is_solution : RoundIsSolution
+round_is_solution = rounds.round_is_solution
 
-pub run-is-march : Run-is-march
-run-is-march = sides.run-is-march
+pub run_is_march : RunIsMarch
+run_is_march = sides.run_is_march
 
-pub rounds-least : Rounds-least
-rounds-least = rounds.rounds-least
+pub rounds_least : RoundsLeast
+rounds_least = rounds.rounds_least
 
-pub few-rounds : Few-rounds
-few-rounds = rounds.few-rounds
+pub few_rounds : FewRounds
+few_rounds = rounds.few_rounds
 
-pub order-free : Order-free
-order-free = ledger.order-free
+pub order_free : OrderFree
+order_free = ledger.order_free
 
-pub run-order-free : Run-order-free
-run-order-free = ledger.run-order-free
+pub run_order_free : RunOrderFree
+run_order_free = ledger.run_order_free
 
-pub sides-order-free : Sides-order-free
-sides-order-free = ledger.sides-order-free
+pub sides_order_free : SidesOrderFree
+sides_order_free = ledger.sides_order_free
 
-pub run-is-rounds : Run-is-rounds
-run-is-rounds = ledger.run-is-rounds
+pub run_is_rounds : RunIsRounds
+run_is_rounds = ledger.run_is_rounds
 
-pub every-list : Every-list
-every-list = ledger.every-list
+pub every_list : EveryList
+every_list = ledger.every_list
 
-pub every-sheet : Every-sheet
-every-sheet = ledger.every-sheet
+pub every_sheet : EverySheet
+every_sheet = ledger.every_sheet
 
-pub every-place : Every-place
-every-place = places.every-place
+pub every_place : EveryPlace
+every_place = places.every_place
 
-pub lists-keep : Lists-keep
-lists-keep = ledger.lists-keep
+pub lists_keep : ListsKeep
+lists_keep = ledger.lists_keep
 
-pub third-condition : Third-condition
-third-condition = record {
-  every-list = every-list;
-  every-sheet = every-sheet;
-  every-place = every-place;
-  round-is-solution = round-is-solution;
-  run-is-march = run-is-march;
-  rounds-least = rounds-least;
-  few-rounds = few-rounds;
-  run-is-rounds = run-is-rounds;
-  order-free = order-free;
-  run-order-free = run-order-free;
-  sides-order-free = sides-order-free;
+pub third_condition : ThirdCondition
+third_condition = record {
+  every_list = every_list;
+  every_sheet = every_sheet;
+  every_place = every_place;
+  round_is_solution = round_is_solution;
+  run_is_march = run_is_march;
+  rounds_least = rounds_least;
+  few_rounds = few_rounds;
+  run_is_rounds = run_is_rounds;
+  order_free = order_free;
+  run_order_free = run_order_free;
+  sides_order_free = sides_order_free;
 }
 
 -- records and plain lists
-pub same-handed : Same-handed
+pub same-handed : SameHanded
 same-handed = ledger.same-handed
 
-pub lists-are-records : Lists-are-records
-lists-are-records = ledger.lists-are-records
+pub lists_are_records : ListsAreRecords
+lists_are_records = ledger.lists_are_records
 
-pub same-answers : Same-answers
+pub same-answers : SameAnswers
 same-answers = ledger.same-answers

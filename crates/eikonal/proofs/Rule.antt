@@ -3,9 +3,9 @@ use mathlib.Core.Path.{◌≡◌, sym, ap, ◌∙◌}
 use Prim.Native.Nat.{ℕ, suc, ◌*◌, ◌≤◌, ◌<◌, min, max}
 use native.Mathlib.Omega.{arith}
 use native.Mathlib.Nat.{mul-le-mul}
-use Rattle.eikonal.specs.Axes.{Spans, none, also, Weights, Lattice, given-on, met-on, sights}
-use Rattle.eikonal.specs.Board.{Board, never, size, axes, column-axis, row-axis, storey-axis}
-use Rattle.eikonal.specs.Board.{slowness, along-row, down-column, earlier, start-time, arrival, met}
+use Rattle.eikonal.specs.Axes.{Spans, none, also, Weights, Lattice, given_on, met_on, sights}
+use Rattle.eikonal.specs.Board.{Board, never, size, axes, column_axis, row_axis, storey_axis}
+use Rattle.eikonal.specs.Board.{slowness, along_row, down_column, earlier, start_time, arrival, met}
 use Rattle.eikonal.specs.Promise.{Neighbour}
 use Rattle.eikonal.specs.Inner.Good.{Good}
 use Rattle.eikonal.proofs.Good.{start-most}
@@ -14,53 +14,53 @@ use Rattle.eikonal.proofs.Lattices.{given-agree, given-under, given-same}
 
 -- the numbers of a cell's pair
 abbrev pub row_of : Board → (c : ℕ) → ℕ
-row_of b c = along-row (slowness b c)
+row_of b c = along_row (slowness b c)
 
-abbrev pub column-of : Board → (c : ℕ) → ℕ
-column-of b c = down-column (slowness b c)
+abbrev pub column_of : Board → (c : ℕ) → ℕ
+column_of b c = down_column (slowness b c)
 
 abbrev pub weights : Board → (c : ℕ) → Weights
 weights b c = record {
-  far = max (row_of b c) (column-of b c);
-  due = row_of b c * column-of b c;
-  first = column-of b c;
+  far = max (row_of b c) (column_of b c);
+  due = row_of b c * column_of b c;
+  first = column_of b c;
   others = others (row_of b c);
-  enough = enough (row_of b c) (column-of b c);
+  enough = enough (row_of b c) (column_of b c);
 }
 
 module _ {b : Board} (good : Good b) where
-  pub columns-span : Spans (size b) (column-axis b)
+  pub columns-span : Spans (size b) (column_axis b)
   unfolding size
-  columns-span = record { unit-low = omega arith; count_low = good.wide_low; many = b.high * b.storeys; whole = turned }
+  columns-span = record { unit_low = omega arith; count_low = good.wide_low; many = b.high * b.storeys; whole = turned }
     where
       turned : b.wide * b.high * b.storeys ≡ b.high * b.storeys * b.wide * 1
       turned = omega arith
 
-  pub rows-span : Spans (size b) (row-axis b)
+  pub rows-span : Spans (size b) (row_axis b)
   unfolding size
-  rows-span = record { unit-low = good.wide_low; count_low = good.high-low; many = b.storeys; whole = omega arith }
+  rows-span = record { unit_low = good.wide_low; count_low = good.high_low; many = b.storeys; whole = omega arith }
 
-  pub storeys-span : Spans (size b) (storey-axis b)
+  pub storeys-span : Spans (size b) (storey_axis b)
   unfolding size
-  storeys-span = record { unit-low = omega (arith, mul-le-mul good.wide_low good.high-low); count_low = good.storeys-low; many = 1; whole = omega arith }
+  storeys-span = record { unit_low = omega (arith, mul-le-mul good.wide_low good.high_low); count_low = good.storeys_low; many = 1; whole = omega arith }
 
   abbrev pub lattice : Lattice
   lattice = record {
     cells = size b;
     axes = axes b;
     weights = weights b;
-    begins = λ c. start-time c b.starts;
+    begins = λ c. start_time c b.starts;
     spans = also columns-span (also rows-span (also storeys-span none));
-    begins-most = start-most good;
+    begins_most = start-most good;
   }
 
-  pub arrival-is : (c : ℕ) (f : ℕ → ℕ) → arrival b c f ≡ given-on lattice c f
-  unfolding arrival given-on
-  arrival-is c f = local_by (row_of b c) (column-of b c) (sights (axes b) c f)
+  pub arrival-is : (c : ℕ) (f : ℕ → ℕ) → arrival b c f ≡ given_on lattice c f
+  unfolding arrival given_on
+  arrival-is c f = local_by (row_of b c) (column_of b c) (sights (axes b) c f)
 
-  pub met-is : (c : ℕ) (f : ℕ → ℕ) → met b c f ≡ met-on lattice c f
-  unfolding met met-on
-  met-is c f = ap (earlier (start-time c b.starts)) (arrival-is c f)
+  pub met-is : (c : ℕ) (f : ℕ → ℕ) → met b c f ≡ met_on lattice c f
+  unfolding met met_on
+  met-is c f = ap (earlier (start_time c b.starts)) (arrival-is c f)
 
   -- what neighbours give a cell rests on them alone, level by level, and follows them
   module _ (c : ℕ) (on : c < size b) (f g : ℕ → ℕ) where
@@ -75,6 +75,6 @@ module _ {b : Board} (good : Good b) where
     arrival-same h = arrival-is c f ∙ given-same lattice c on f g h ∙ sym (arrival-is c g)
 
   -- a cell's time, with the cap that code has
-  pub met-capped : (c : ℕ) (f : ℕ → ℕ) → met b c f ≡ min (start-time c b.starts) (min never (arrival b c f))
+  pub met_capped : (c : ℕ) (f : ℕ → ℕ) → met b c f ≡ min (start_time c b.starts) (min never (arrival b c f))
   unfolding met
-  met-capped c f = rw (earlier-min (start-time c b.starts) (arrival b c f)) (omega (arith, start-most good c))
+  met_capped c f = rw (earlier-min (start_time c b.starts) (arrival b c f)) (omega (arith, start-most good c))

@@ -39,17 +39,17 @@ pub record Next (a : Axis) (c e : ℕ) : Type 0 where
   pub step : c + a.unit ≡ e
   pub inner : suc (place a c) ≢ a.count
 
-pub data Next-on : List Axis → (c e : ℕ) → Type 0 where
-  here : {a : Axis} {xs : List Axis} {c e : ℕ} → Next a c e → Next-on (a ∷ xs) c e
-  there : {a : Axis} {xs : List Axis} {c e : ℕ} → Next-on xs c e → Next-on (a ∷ xs) c e
+pub data NextOn : List Axis → (c e : ℕ) → Type 0 where
+  here : {a : Axis} {xs : List Axis} {c e : ℕ} → Next a c e → NextOn (a ∷ xs) c e
+  there : {a : Axis} {xs : List Axis} {c e : ℕ} → NextOn xs c e → NextOn (a ∷ xs) c e
 
 -- one of the two is next after the other
 abbrev pub Near : List Axis → (c e : ℕ) → Type 0
-Near xs c e = Next-on xs c e ⊎ Next-on xs e c
+Near xs c e = NextOn xs c e ⊎ NextOn xs e c
 
 -- an axis of so many cells: its places come round, and the last of them ends it
 pub record Spans (cells : ℕ) (a : Axis) : Type 0 where
-  pub unit-low : 1 ≤ a.unit
+  pub unit_low : 1 ≤ a.unit
   pub count_low : 1 ≤ a.count
   pub many : ℕ
   pub whole : cells ≡ many * a.count * a.unit
@@ -64,9 +64,9 @@ unfoldable pub square : ℕ → ℕ
 square a = a * a
 
 -- the least number that passes, from a given one on, so many tried; else the next
-unfoldable pub least-from : (left at : ℕ) → (ℕ → Bool) → ℕ
-least-from zero t f = t
-least-from (suc n) t f = cond (f t) t (least-from n (suc t) f)
+unfoldable pub least_from : (left at : ℕ) → (ℕ → Bool) → ℕ
+least_from zero t f = t
+least_from (suc n) t f = cond (f t) t (least_from n (suc t) f)
 
 -- the earliest of the axes' times
 unfoldable pub earliest : (ws : List ℕ) → (ℕ → ℕ) → ℕ
@@ -77,13 +77,13 @@ unfoldable pub pull : (w : ℕ) → (ws : List ℕ) → (ℕ → ℕ) → (t : �
 pull w [] f t = square (w * (t - f 0))
 pull w (v ∷ ws) f t = square (w * (t - f 0)) + pull v ws (λ i. f (suc i)) t
 
-unfoldable pub passes-axes : (due w : ℕ) → (ws : List ℕ) → (ℕ → ℕ) → (t : ℕ) → Bool
-passes-axes m w ws f t = leb (square m) (pull w ws f t)
+unfoldable pub passes_axes : (due w : ℕ) → (ws : List ℕ) → (ℕ → ℕ) → (t : ℕ) → Bool
+passes_axes m w ws f t = leb (square m) (pull w ws f t)
 
 -- the least time that passes, from the earliest on, so many tried; never for a wall or where no axis is reached
-unfoldable pub local-axes : (far due w : ℕ) → (ws : List ℕ) → (ℕ → ℕ) → ℕ
-local-axes far m w ws f =
-    cond (eqb m 0 || eqb (earliest ws f) never) never (least-from far (earliest ws f) (λ t. passes-axes m w ws f t))
+unfoldable pub local_axes : (far due w : ℕ) → (ws : List ℕ) → (ℕ → ℕ) → ℕ
+local_axes far m w ws f =
+    cond (eqb m 0 || eqb (earliest ws f) never) never (least_from far (earliest ws f) (λ t. passes_axes m w ws f t))
 
 -- so far from any axis is enough by that axis alone
 unfoldable pub Enough : (far due w : ℕ) → (ws : List ℕ) → Type 0
@@ -106,8 +106,8 @@ Quicker m w (x ∷ ws) n v [] = ⊥
 Quicker m w (x ∷ ws) n v (y ∷ vs) = (v * m ≤ w * n) × Quicker m x ws n y vs
 
 -- NO SLOWER; a wall is slowest of all
-abbrev pub No-slower : (first second : Weights) → Type 0
-No-slower j k =
+abbrev pub NoSlower : (first second : Weights) → Type 0
+NoSlower j k =
     (k.due ≡ 0) ⊎ ((1 ≤ j.due) × Quicker j.due j.first j.others k.due k.first k.others)
 
 -- A LATTICE: so many cells on axes; each cell has its weights, and the time of a start of its own, never where it has none
@@ -117,13 +117,13 @@ pub record Lattice : Type 0 where
   pub weights : (c : ℕ) → Weights
   pub begins : (c : ℕ) → ℕ
   pub spans : All-span cells axes
-  pub begins-most : (c : ℕ) → begins c ≤ never
+  pub begins_most : (c : ℕ) → begins c ≤ never
 
 -- what the rule gives a cell from the times that it sees, and the earlier of that and its start's
-unfoldable pub given-on : Lattice → (c : ℕ) → (seen : ℕ → ℕ) → ℕ
-given-on l c f =
+unfoldable pub given_on : Lattice → (c : ℕ) → (seen : ℕ → ℕ) → ℕ
+given_on l c f =
     let k = l.weights c in
-    local-axes k.far k.due k.first k.others (sights l.axes c f)
+    local_axes k.far k.due k.first k.others (sights l.axes c f)
 
-unfoldable pub met-on : Lattice → (c : ℕ) → (seen : ℕ → ℕ) → ℕ
-met-on l c f = earlier (l.begins c) (given-on l c f)
+unfoldable pub met_on : Lattice → (c : ℕ) → (seen : ℕ → ℕ) → ℕ
+met_on l c f = earlier (l.begins c) (given_on l c f)

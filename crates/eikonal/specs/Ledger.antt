@@ -2,9 +2,9 @@
 use Rattle.std.specs.Prelude.{cond, List, [], ◌∷◌, ◌++◌, ℕ, ◌*◌, eqb, length, drop, replicate}
 use Rattle.eikonal.specs.Board.{Board, size, solved, marched, reached}
 use Rattle.eikonal.specs.Tiles.{round, altered, rounds}
-use Rattle.eikonal.specs.Sides.{march-sides, round-sides}
+use Rattle.eikonal.specs.Sides.{march_sides, round_sides}
 use Rattle.eikonal.specs.Order.{Cause, found, none, first_of}
-use Rattle.eikonal.specs.Refusals.{Handed, board-causes, job-causes, list-causes, nothing-own}
+use Rattle.eikonal.specs.Refusals.{Handed, board_causes, job_causes, list_causes, nothing_own}
 use Rattle.eikonal.specs.declared.Refusal.{Refusal}
 use Rattle.eikonal.specs.declared.Own.{Own}
 use Rattle.eikonal.specs.declared.Reply.{Reply}
@@ -32,24 +32,24 @@ abbrev pub call : Handed → Job → (order : List ℕ) → (sides work : ℕ) �
 call p j xs s w = record { handed = p; job = j; order = xs; sides = s; work = w }
 
 -- the board that was handed in
-abbrev pub call-board : Call → Board
-call-board c = c.handed.board
+abbrev pub call_board : Call → Board
+call_board c = c.handed.board
 
 -- ALL CAUSES OF A CALL that is lent so many times, in the one order, with those of its own: values that were found, by the slots where they are due
-unfoldable pub call-causes : Call → Own → (times : ℕ) → List Cause
-call-causes c o t =
-    let b = call-board c in
-    board-causes c.handed b.slow o.ticks o.kinds
-    ++ found o.cell ∷ (job-causes b c.job c.order ++ list-causes (size b) t c.sides c.work o)
+unfoldable pub call_causes : Call → Own → (times : ℕ) → List Cause
+call_causes c o t =
+    let b = call_board c in
+    board_causes c.handed b.slow o.ticks o.kinds
+    ++ found o.cell ∷ (job_causes b c.job c.order ++ list_causes (size b) t c.sides c.work o)
 
-unfoldable pub own-refusal : Call → Own → (times : ℕ) → Refusal
-own-refusal c o t = first_of (call-causes c o t)
+unfoldable pub own_refusal : Call → Own → (times : ℕ) → Refusal
+own_refusal c o t = first_of (call_causes c o t)
 
 -- what an accepted call enters: no side of before counts
 unfoldable pub entered : Board → Job → (times : List ℕ) → Sheet
-entered b (March z) ts = sheet (marched b z) (march-sides b z)
-entered b (Round tw th m) ts = sheet (round b tw th m ts) (round-sides b tw th m ts)
-entered b (Run tw th s z) ts = sheet (marched b z) (march-sides b z)
+entered b (March z) ts = sheet (marched b z) (march_sides b z)
+entered b (Round tw th m) ts = sheet (round b tw th m ts) (round_sides b tw th m ts)
+entered b (Run tw th s z) ts = sheet (marched b z) (march_sides b z)
 
 -- and what it counts, of the times alone: cells reached, entries altered, rounds
 unfoldable pub counted : Board → Job → (times : List ℕ) → ℕ
@@ -65,40 +65,40 @@ unfoldable pub answered : Refusal → (count : ℕ) → Reply
 answered k c = cond (eqb k.number 0) (answer none c) (answer k 0)
 
 -- what is there after a call by its refusal: one thing where it is accepted, another where not
-abbrev pub if-taken : {A : Type 0} → Refusal → (taken kept : A) → A
-if-taken k x y = cond (eqb k.number 0) x y
+abbrev pub if_taken : {A : Type 0} → Refusal → (taken kept : A) → A
+if_taken k x y = cond (eqb k.number 0) x y
 
 -- WHAT A CALL WITH CAUSES OF ITS OWN answers and leaves in the times, in the sides and in the work list, whose first 4 N entries are 0 after an
 -- accepted one. A refused call leaves all as they were
 module _ (c : Call) (o : Own) (ts : List ℕ) where
-  abbrev pub refused-by : Refusal
-  refused-by = own-refusal c o (length ts)
+  abbrev pub refused_by : Refusal
+  refused_by = own_refusal c o (length ts)
 
-  unfoldable pub own-answer : Reply
-  own-answer = answered refused-by (counted (call-board c) c.job ts)
+  unfoldable pub own_answer : Reply
+  own_answer = answered refused_by (counted (call_board c) c.job ts)
 
-  unfoldable pub own-times : List ℕ
-  own-times = if-taken refused-by (entered (call-board c) c.job ts).times ts
+  unfoldable pub own_times : List ℕ
+  own_times = if_taken refused_by (entered (call_board c) c.job ts).times ts
 
-  unfoldable pub own-sides : (sides : List ℕ) → List ℕ
-  own-sides ss = if-taken refused-by (entered (call-board c) c.job ts).sides ss
+  unfoldable pub own_sides : (sides : List ℕ) → List ℕ
+  own_sides ss = if_taken refused_by (entered (call_board c) c.job ts).sides ss
 
-  unfoldable pub own-work : (work : List ℕ) → List ℕ
-  own-work ws = if-taken refused-by (replicate (4 * size (call-board c)) 0 ++ drop (4 * size (call-board c)) ws) ws
+  unfoldable pub own_work : (work : List ℕ) → List ℕ
+  own_work ws = if_taken refused_by (replicate (4 * size (call_board c)) 0 ++ drop (4 * size (call_board c)) ws) ws
 
 -- OF THE LEDGER'S CALLS: they have none
 abbrev pub refusal : Call → (times : ℕ) → Refusal
-refusal c t = own-refusal c nothing-own t
+refusal c t = own_refusal c nothing_own t
 
-abbrev pub ledger-answer : Call → (times : List ℕ) → Reply
-ledger-answer c ts = own-answer c nothing-own ts
+abbrev pub ledger_answer : Call → (times : List ℕ) → Reply
+ledger_answer c ts = own_answer c nothing_own ts
 
-abbrev pub times-after : Call → (times : List ℕ) → List ℕ
-times-after c ts = own-times c nothing-own ts
+abbrev pub times_after : Call → (times : List ℕ) → List ℕ
+times_after c ts = own_times c nothing_own ts
 
 -- whatever sides were lent: of them it is fed the length alone
-abbrev pub sides-left : Call → (times sides : List ℕ) → List ℕ
-sides-left c ts ss = own-sides c nothing-own ts ss
+abbrev pub sides_left : Call → (times sides : List ℕ) → List ℕ
+sides_left c ts ss = own_sides c nothing_own ts ss
 
 -- THE LEDGER holds one list of times, and the answers so far
 pub record Book : Type 0 where
@@ -110,15 +110,15 @@ book xs ts = record { answers = xs; times = ts }
 
 unfoldable pub ledger : List Call → (so_far : List Reply) → (times : List ℕ) → Book
 ledger [] xs ts = book xs ts
-ledger (c ∷ cs) xs ts = ledger cs (xs ++ (ledger-answer c ts ∷ [])) (times-after c ts)
+ledger (c ∷ cs) xs ts = ledger cs (xs ++ (ledger_answer c ts ∷ [])) (times_after c ts)
 
 -- and what each call leaves in the sides that it is lent
-unfoldable pub ledger-sides : List Call → (lent : List (List ℕ)) → (times : List ℕ) → List (List ℕ)
-ledger-sides [] us ts = []
-ledger-sides (c ∷ cs) [] ts = []
-ledger-sides (c ∷ cs) (u ∷ us) ts = sides-left c ts u ∷ ledger-sides cs us (times-after c ts)
+unfoldable pub ledger_sides : List Call → (lent : List (List ℕ)) → (times : List ℕ) → List (List ℕ)
+ledger_sides [] us ts = []
+ledger_sides (c ∷ cs) [] ts = []
+ledger_sides (c ∷ cs) (u ∷ us) ts = sides_left c ts u ∷ ledger_sides cs us (times_after c ts)
 
 -- where each is lent those that the one before left: what the last of them leaves
-unfoldable pub sides-along : List Call → (times sides : List ℕ) → List ℕ
-sides-along [] ts ss = ss
-sides-along (c ∷ cs) ts ss = sides-along cs (times-after c ts) (sides-left c ts ss)
+unfoldable pub sides_along : List Call → (times sides : List ℕ) → List ℕ
+sides_along [] ts ss = ss
+sides_along (c ∷ cs) ts ss = sides_along cs (times_after c ts) (sides_left c ts ss)

@@ -4,11 +4,11 @@ use Rattle.std.specs.Prelude.{◌≡◌, Bool, true, ◌&&◌, cond, List, [], �
 use Rattle.eikonal.specs.declared.Refusal.{Refusal}
 
 -- A REFUSAL is a value, the code's own record: the number of its cause, 0 for none; and where a start is at fault, its place in the list, from 0
-abbrev pub cause-at : (number place : ℕ) → Refusal
-cause-at n i = record { number = n; place = i }
+abbrev pub cause_at : (number place : ℕ) → Refusal
+cause_at n i = record { number = n; place = i }
 
 abbrev pub cause : (number : ℕ) → Refusal
-cause n = cause-at n 0
+cause n = cause_at n 0
 
 abbrev pub none : Refusal
 none = cause 0
@@ -27,8 +27,8 @@ abbrev pub caused : (number : ℕ) → (met : Bool) → Cause
 caused k p = record { number = k; met = p; place = 0 }
 
 -- by a start of so many, the first at fault being at this place
-abbrev pub at-fault : (number first many : ℕ) → Cause
-at-fault k i n = record { number = k; met = ltb i n; place = i }
+abbrev pub at_fault : (number first many : ℕ) → Cause
+at_fault k i n = record { number = k; met = ltb i n; place = i }
 
 -- what was found already, as a value: nothing where its number is 0
 abbrev pub found : Refusal → Cause
@@ -37,23 +37,23 @@ found r = record { number = r.number; met = true; place = r.place }
 -- THE REFUSAL OF A LIST of causes is the first of them that is met; no cause has the number 0
 unfoldable pub first_of : List Cause → Refusal
 first_of [] = none
-first_of (k ∷ ks) = cond (ltb 0 k.number && k.met) (cause-at k.number k.place) (first_of ks)
+first_of (k ∷ ks) = cond (ltb 0 k.number && k.met) (cause_at k.number k.place) (first_of ks)
 
 -- THE ONE ORDER in which causes are looked for, by their numbers. Some belong to calls to come
 abbrev pub order : List ℕ
 order = 1 ∷ 2 ∷ 15 ∷ 3 ∷ 4 ∷ 5 ∷ 21 ∷ 23 ∷ 24 ∷ 6 ∷ 7 ∷ 18 ∷ 8 ∷ 9 ∷ 20 ∷ 16 ∷ 22 ∷ 10 ∷ 11 ∷ 12 ∷ 13 ∷ 14 ∷ 17 ∷ []
 
 -- where a number stands in it, from 0. One that is not in it stands behind all, as 0 does, the number of nothing found
-unfoldable pub rank-in : List ℕ → (number : ℕ) → ℕ
-rank-in [] n = 0
-rank-in (k ∷ ks) n = cond (eqb k n) 0 (suc (rank-in ks n))
+unfoldable pub rank_in : List ℕ → (number : ℕ) → ℕ
+rank_in [] n = 0
+rank_in (k ∷ ks) n = cond (eqb k n) 0 (suc (rank_in ks n))
 
 unfoldable pub rank : (number : ℕ) → ℕ
-rank n = rank-in order n
+rank n = rank_in order n
 
 -- the second of two numbers is looked for behind the first
-abbrev pub Looked-for-behind : (first second : ℕ) → Type 0
-Looked-for-behind a b = rank a < rank b
+abbrev pub LookedForBehind : (first second : ℕ) → Type 0
+LookedForBehind a b = rank a < rank b
 
 -- numbers of causes that stand in that order, from a rank on; a value with the number 0 is no cause
 unfoldable pub follows : (least : ℕ) → (numbers : List ℕ) → Bool
@@ -61,5 +61,5 @@ follows l [] = true
 follows l (n ∷ ns) = cond (eqb n 0) (follows l ns) (leb l (rank n) && ltb (rank n) (rank 0) && follows (rank n) ns)
 
 -- A LIST OF CAUSES FOLLOWS THE ORDER
-abbrev pub In-order : List Cause → Type 0
-In-order ks = follows 0 (map (λ k. k.number) ks) ≡ true
+abbrev pub InOrder : List Cause → Type 0
+InOrder ks = follows 0 (map (λ k. k.number) ks) ≡ true

@@ -1,7 +1,7 @@
 // The ground under the engine: the values that calls share.
 ghost use Rattle.std.specs.Prelude.{◌≡◌, ◌*◌, ◌≤◌, min};
-ghost use Rattle.eikonal.specs.Order.{cause, cause-at, none};
-ghost use Rattle.eikonal.specs.Refusals.{nothing-own};
+ghost use Rattle.eikonal.specs.Order.{cause, cause_at, none};
+ghost use Rattle.eikonal.specs.Refusals.{nothing_own};
 ghost use Rattle.eikonal.specs.Ledger.{answer};
 ghost use Rattle.eikonal.specs.declared.Job.TheVariants.{March, Round, Run};
 
@@ -73,7 +73,7 @@ pub struct Refusal {
 }
 
 pub fn cause_at(number: u32, place: usize) -> Refusal
-    ensures { result ≡ cause-at number place }
+    ensures { result ≡ cause_at number place }
 {
     Refusal {
         number: number,
@@ -105,7 +105,7 @@ pub struct Own {
 }
 
 pub fn nothing_own() -> Own
-    ensures { result ≡ nothing-own }
+    ensures { result ≡ nothing_own }
 {
     Own {
         ticks: cause(0),

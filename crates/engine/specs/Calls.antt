@@ -3,12 +3,12 @@ use Rattle.std.specs.Prelude.{◌≡◌, true, ◌≢◌, List, [], ◌++◌, �
 use Rattle.eikonal.specs.Board.{Board, largest, time, marched}
 use Rattle.eikonal.specs.Tiles.{tiled, round}
 use Rattle.eikonal.specs.Order.{none}
-use Rattle.eikonal.specs.Refusals.{order-good}
-use Rattle.eikonal.specs.Ledger.{Sheet, Call, call-board, own-refusal, entered, counted, answer}
+use Rattle.eikonal.specs.Refusals.{order_good}
+use Rattle.eikonal.specs.Ledger.{Sheet, Call, call_board, own_refusal, entered, counted, answer}
 use Rattle.eikonal.specs.Inner.Good.{Good}
-use Rattle.eikonal.specs.Inner.Sides.{sides-by}
-use Rattle.eikonal.specs.Inner.Good.{starts-rise}
-use Rattle.refusals.specs.Judge.{judge, nothing-judged}
+use Rattle.eikonal.specs.Inner.Sides.{sides_by}
+use Rattle.eikonal.specs.Inner.Good.{starts_rise}
+use Rattle.refusals.specs.Judge.{judge, nothing_judged}
 use Rattle.eikonal.specs.declared.Start.{Start}
 use Rattle.eikonal.specs.declared.Own.{Own}
 use Rattle.eikonal.specs.declared.Reply.{Reply}
@@ -27,10 +27,10 @@ use Rattle.engine.specs.declared.calls.Task.{Task}
 pub record Fit (s : Shape) (slow : List ℕ) (xs : List Start) (times sides work : List ℕ) : Type 0 where
   pub good : Good (whole s slow xs)
   pub size : s.cells ≡ s.width * s.height * s.storeys
-  pub across-low : 1 ≤ s.across
-  pub across-high : s.across ≤ 256
-  pub down-low : 1 ≤ s.down
-  pub down-high : s.down ≤ 256
+  pub across_low : 1 ≤ s.across
+  pub across_high : s.across ≤ 256
+  pub down_low : 1 ≤ s.down
+  pub down_high : s.down ≤ 256
   pub many : length times ≡ s.cells
   pub sided : length sides ≡ s.cells
   pub room : 4 * s.cells ≤ length work
@@ -59,7 +59,7 @@ pub record Through (b : Board) (j : Job) (times : List ℕ) (n count : ℕ) (now
   pub enters : now.times ≡ (entered b j times).times
   pub timed : length now.times ≡ n
   pub sided : length now.sides ≡ n
-  pub sides : (c : ℕ) → c < n → get_or now.sides c 0 ≡ sides-by b (bound_of j) c (λ e. sees b j times c e) (time now.times c)
+  pub sides : (c : ℕ) → c < n → get_or now.sides c 0 ≡ sides_by b (bound_of j) c (λ e. sees b j times c e) (time now.times c)
   pub wipes : work' ≡ replicate (4 * n) 0 ++ drop (4 * n) work
 
 -- WHATEVER STARTS are placed, the job is done
@@ -71,35 +71,35 @@ Goes j s ss r ts us p v v' =
 unfoldable pub Doable : Job → Shape → (order : List ℕ) → Type 0
 Doable (March z) s xs = (s.width ≤ s.across) × (s.height ≤ s.down) × (z ≤ largest)
 Doable (Round tw th m) s xs =
-    (s.across ≡ tw) × (s.down ≡ th) × (m ≤ largest) × (order-good (land s []) s.across s.down xs ≡ true)
+    (s.across ≡ tw) × (s.down ≡ th) × (m ≤ largest) × (order_good (land s []) s.across s.down xs ≡ true)
 Doable (Run tw th d z) s xs = (s.across ≡ tw) × (s.down ≡ th) × (1 ≤ d) × (d ≤ largest) × (z ≤ largest)
 
 -- the shape of a board and of the job's tiles
-abbrev pub shape-with : (width height storeys across down : ℕ) → Shape
-shape-with w h s tw th = record { width = w; height = h; storeys = s; across = tw; down = th; cells = w * h * s }
+abbrev pub shape_with : (width height storeys across down : ℕ) → Shape
+shape_with w h s tw th = record { width = w; height = h; storeys = s; across = tw; down = th; cells = w * h * s }
 
 abbrev pub shaped : (width height storeys : ℕ) → Job → Shape
-shaped w h s (March z) = shape-with w h s 256 256
-shaped w h s (Round tw th m) = shape-with w h s tw th
-shaped w h s (Run tw th d z) = shape-with w h s tw th
+shaped w h s (March z) = shape_with w h s 256 256
+shaped w h s (Round tw th m) = shape_with w h s tw th
+shaped w h s (Run tw th d z) = shape_with w h s tw th
 
 -- ---- THE STEPS
 -- some starts were judged
 pub record Some-judged (slow : List ℕ) (j : Judged) : Type 0 where
   pub starts : List Start
-  pub is : j ≡ judge slow starts nothing-judged
+  pub is : j ≡ judge slow starts nothing_judged
 
 -- the call is refused and the work list kept, or it is emptied for the call's board
 pub record Opened (c : Call) (o : Own) (times : ℕ) (t : Task) (work work' : List ℕ) : Type 0 where
-  pub judged : t.refusal ≡ own-refusal c o times
+  pub judged : t.refusal ≡ own_refusal c o times
   pub kept : t.refusal.number ≢ 0 → work' ≡ work
-  pub shape_is : t.refusal.number ≡ 0 → t.shape ≡ shaped (call-board c).wide (call-board c).high (call-board c).storeys c.job
+  pub shape_is : t.refusal.number ≡ 0 → t.shape ≡ shaped (call_board c).wide (call_board c).high (call_board c).storeys c.job
   pub emptied : t.refusal.number ≡ 0 → Empty t.shape.cells work work'
 
 -- the starts can be placed, and are
 abbrev pub Sowable : Task → List Start → (work : List ℕ) → Type 0
 Sowable t xs v =
-    t.refusal.number ≡ 0 → (t.shape.cells ≤ 65536) × Placed t.shape.cells v × (starts-rise t.shape.cells 0 xs ≡ true)
+    t.refusal.number ≡ 0 → (t.shape.cells ≤ 65536) × Placed t.shape.cells v × (starts_rise t.shape.cells 0 xs ≡ true)
 
 pub record Sown (t : Task) (xs : List Start) (work work' : List ℕ) : Type 0 where
   pub kept : t.refusal.number ≢ 0 → work' ≡ work
@@ -111,13 +111,13 @@ Endable t j ss xs ts us v = t.refusal.number ≡ 0 → Some-standing t.shape ss 
 
 pub record Ended (t : Task) (j : Job) (slow : List ℕ) (x : Reply) (before after : Sheet) (work work' : List ℕ) : Type 0 where
   pub turned_down : t.refusal.number ≢ 0 → (x ≡ answer t.refusal 0) × (after ≡ before) × (work' ≡ work)
-  pub gone-through : t.refusal.number ≡ 0
+  pub gone_through : t.refusal.number ≡ 0
       → (x ≡ answer none x.count) × Goes j t.shape slow x.count before.times before.sides after work work'
 
 -- the sides of the starts that are their cells' times can be cleared, and are: unless the call is refused
 abbrev pub Clearable : Task → List Start → (times sides : List ℕ) → Type 0
 Clearable t xs ts us =
-    t.refusal.number ≡ 0 → (length us ≡ length ts) × (length ts ≤ 65536) × (starts-rise (length ts) 0 xs ≡ true)
+    t.refusal.number ≡ 0 → (length us ≡ length ts) × (length ts ≤ 65536) × (starts_rise (length ts) 0 xs ≡ true)
 
 pub record Clear (t : Task) (xs : List Start) (times sides sides' : List ℕ) : Type 0 where
   pub kept : t.refusal.number ≢ 0 → sides' ≡ sides

@@ -1,28 +1,28 @@
 -- A tile run between two rounds. Only internal contracts cite these.
 use Rattle.std.specs.Prelude.{◌≡◌, ◌≢◌, List, ℕ, suc, ◌*◌, ◌≤◌, ◌<◌, min, length, get_or}
-use Rattle.eikonal.specs.Board.{Board, board-of, size, start-time, time}
+use Rattle.eikonal.specs.Board.{Board, board_of, size, start_time, time}
 use Rattle.eikonal.specs.declared.Start.{Start}
-use Rattle.eikonal.specs.Tiles.{altered, after-rounds, rounds}
+use Rattle.eikonal.specs.Tiles.{altered, after_rounds, rounds}
 use Rattle.eikonal.specs.Inner.Good.{Good}
 use Rattle.front.specs.Front.{Tied, Settled, Upheld, Drift}
-use Rattle.front.specs.Board.{rule-by, tentative, Work, keys}
+use Rattle.front.specs.Board.{rule_by, tentative, Work, keys}
 use Rattle.front.specs.State.{Held}
 use Rattle.front.specs.declared.Shape.{Shape}
 
 abbrev pub starts : Board → ℕ → ℕ
-starts b c = start-time c b.starts
+starts b c = start_time c b.starts
 
 -- BETWEEN ROUNDS: j rounds are worked out, and the front stands ready for the next
 pub record Between (b : Board) (tw th s h j : ℕ) (ts : List ℕ) (y k : ℕ → ℕ) : Type 0 where
-  pub is : ts ≡ after-rounds j b tw th s h
+  pub is : ts ≡ after_rounds j b tw th s h
   pub tied : Tied (size b) y k
-  pub settled : Settled (size b) (rule-by b tw th ts) y k
-  pub upheld : Upheld (size b) (rule-by b tw th ts) (starts b) y
+  pub settled : Settled (size b) (rule_by b tw th ts) y k
+  pub upheld : Upheld (size b) (rule_by b tw th ts) (starts b) y
   pub drift : (note : ℕ → ℕ) → Drift (size b) (time ts) y k 0 0 note
 
 -- the board with its starts
 abbrev pub whole : Shape → (slow : List ℕ) → List Start → Board
-whole s ss xs = board-of s.width s.height s.storeys ss xs
+whole s ss xs = board_of s.width s.height s.storeys ss xs
 
 -- after j rounds, with the work list at hand
 pub record At-round (s : Shape) (slow : List ℕ) (xs : List Start) (stride horizon j : ℕ) (times : List ℕ) (work : Work) : Type 0 where
@@ -41,10 +41,10 @@ pub record One-round (s : Shape) (slow : List ℕ) (xs : List Start) (stride hor
   pub kept : length work'.list ≡ length work.list
   pub past : (i : ℕ) → 4 * s.cells ≤ i → get_or work'.list i 0 ≡ get_or work.list i 0
   pub next : At-round s slow xs stride horizon (suc j) times' work'
-  pub idle : m ≡ 0 → after-rounds (suc j) (whole s slow xs) s.across s.down stride horizon
-      ≡ after-rounds j (whole s slow xs) s.across s.down stride horizon
-  pub busy : 1 ≤ m → altered (after-rounds j (whole s slow xs) s.across s.down stride horizon)
-      (after-rounds (suc j) (whole s slow xs) s.across s.down stride horizon) ≢ 0
+  pub idle : m ≡ 0 → after_rounds (suc j) (whole s slow xs) s.across s.down stride horizon
+      ≡ after_rounds j (whole s slow xs) s.across s.down stride horizon
+  pub busy : 1 ≤ m → altered (after_rounds j (whole s slow xs) s.across s.down stride horizon)
+      (after_rounds (suc j) (whole s slow xs) s.across s.down stride horizon) ≢ 0
 
 -- a leap: rounds up to r are before the least key and before the horizon
 pub record Leapt (least done stride horizon r : ℕ) : Type 0 where
@@ -54,14 +54,14 @@ pub record Leapt (least done stride horizon r : ℕ) : Type 0 where
 -- A TILE RUN WITH A LIMIT: it counts the lesser of the limit and the number of rounds, and holds the times after so many
 pub record Ran (s : Shape) (slow : List ℕ) (xs : List Start) (stride horizon limit r : ℕ) (times times' work work' : List ℕ) : Type 0 where
   pub counted : r ≡ min limit (rounds (whole s slow xs) s.across s.down stride horizon)
-  pub holds : times' ≡ after-rounds r (whole s slow xs) s.across s.down stride horizon
+  pub holds : times' ≡ after_rounds r (whole s slow xs) s.across s.down stride horizon
   pub long : length times' ≡ length times
   pub kept : length work' ≡ length work
   pub past : (i : ℕ) → 4 * s.cells ≤ i → get_or work' i 0 ≡ get_or work i 0
 
 -- WHATEVER STARTS the work list stands for: one round more, and a run with a limit
-abbrev pub Rounds-on : Shape → (slow : List ℕ) → (stride horizon j m : ℕ) → (times times' : List ℕ) → (work work' : Work) → Type 0
-Rounds-on s ss S H j m ts ts' v v' = (xs : List Start) → Good (whole s ss xs) → At-round s ss xs S H j ts v → One-round s ss xs S H j m ts ts' v v'
+abbrev pub RoundsOn : Shape → (slow : List ℕ) → (stride horizon j m : ℕ) → (times times' : List ℕ) → (work work' : Work) → Type 0
+RoundsOn s ss S H j m ts ts' v v' = (xs : List Start) → Good (whole s ss xs) → At-round s ss xs S H j ts v → One-round s ss xs S H j m ts ts' v v'
 
 abbrev pub Runs : Shape → (slow : List ℕ) → (stride horizon limit r : ℕ) → (times times' : List ℕ) → (work : Work) → (work' : List ℕ) → Type 0
 Runs s ss S H limit r ts ts' v v' = (xs : List Start) → Good (whole s ss xs) → At-round s ss xs S H 0 ts v → Ran s ss xs S H limit r ts ts' v.list v'

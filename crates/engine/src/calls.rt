@@ -2,13 +2,13 @@
 // are cleared. Here the starts are plain lists; where they are records, only judging, placing and clearing differ. A refused call touches no list. What
 // a call looks for beside a march's causes it has found before, as values.
 ghost use Rattle.std.specs.Prelude.{◌≡◌, List, ◌*◌, ◌≤◌, eqb, length};
-ghost use Rattle.eikonal.specs.Board.{board-of};
-ghost use Rattle.eikonal.specs.Refusals.{handed, by-lists, starts-of};
+ghost use Rattle.eikonal.specs.Board.{board_of};
+ghost use Rattle.eikonal.specs.Refusals.{handed, by_lists, starts_of};
 ghost use Rattle.eikonal.specs.Ledger.{sheet, call};
 ghost use Rattle.eikonal.specs.Entry.{lent, Counts};
-ghost use Rattle.refusals.specs.Judge.{judge, nothing-judged};
+ghost use Rattle.refusals.specs.Judge.{judge, nothing_judged};
 ghost use Rattle.eikonal.specs.declared.Start.{Start};
-ghost use Rattle.engine.specs.Calls.{shape-with, shaped, Some-judged, Opened, Sowable, Sown, Endable, Ended, Clearable, Clear};
+ghost use Rattle.engine.specs.Calls.{shape_with, shaped, Some-judged, Opened, Sowable, Sown, Endable, Ended, Clearable, Clear};
 
 use call_refusals::call_refusal;
 use eikonal::{Job, Own, Refusal, Reply, house_size};
@@ -25,7 +25,7 @@ pub struct Task {
 
 fn shape_with(width: u32, height: u32, storeys: u32, across: u32, down: u32) -> Shape
     requires { (width ≤ 256) × (height ≤ 256) × (width * height * storeys ≤ 65536) }
-    ensures { result ≡ shape-with width height storeys across down }
+    ensures { result ≡ shape_with width height storeys across down }
 {
     Shape {
         width: wide(width),
@@ -75,8 +75,8 @@ pub fn begin(
     work: &mut [u32],
 ) -> Task
     requires { Some-judged slow.now judged }
-    ensures { (xs : List Start) → judged ≡ judge slow.now xs nothing-judged
-        → Opened (call (handed (board-of width height storeys slow.now xs) (eqb cells begins)) job order.now sides
+    ensures { (xs : List Start) → judged ≡ judge slow.now xs nothing_judged
+        → Opened (call (handed (board_of width height storeys slow.now xs) (eqb cells begins)) job order.now sides
         (length work.old)) own times result work.old work.new }
 {
     let board = board_refusal(
@@ -119,8 +119,8 @@ pub fn begin(
 
 // Places the starts of an accepted call.
 fn seed(task: Task, cells: &[u32], begins: &[u32], work: &mut [u32])
-    requires { (Sowable task (starts-of cells.now begins.now) work.old) × (task.refusal.number ≡ 0 → length cells.now ≡ length begins.now) }
-    ensures { Sown task (starts-of cells.now begins.now) work.old work.new }
+    requires { (Sowable task (starts_of cells.now begins.now) work.old) × (task.refusal.number ≡ 0 → length cells.now ≡ length begins.now) }
+    ensures { Sown task (starts_of cells.now begins.now) work.old work.new }
 {
     if task.refusal.number == 0 {
         front::seed::seed(work, task.shape.cells, cells, begins);
@@ -149,9 +149,9 @@ pub fn end(
 
 // Clears the sides of the starts of an accepted call whose times are their cells'.
 fn clear(task: Task, cells: &[u32], begins: &[u32], times: &[u32], sides: &mut [u8])
-    requires { (Clearable task (starts-of cells.now begins.now) times.now sides.old)
+    requires { (Clearable task (starts_of cells.now begins.now) times.now sides.old)
         × (task.refusal.number ≡ 0 → length cells.now ≡ length begins.now) }
-    ensures { Clear task (starts-of cells.now begins.now) times.now sides.old sides.new }
+    ensures { Clear task (starts_of cells.now begins.now) times.now sides.old sides.new }
 {
     if task.refusal.number != 0 {
         return;
@@ -174,7 +174,7 @@ pub fn play(
     sides: &mut [u8],
     work: &mut [u32],
 ) -> Reply
-    ensures { Counts (call (by-lists width height storeys slow.now cells.now begins.now) job order.now
+    ensures { Counts (call (by_lists width height storeys slow.now cells.now begins.now) job order.now
         (length sides.old) (length work.old)) own
         result (lent times.old sides.old work.old) (lent times.new sides.new work.new) }
 {

@@ -2,7 +2,7 @@
 ghost use Rattle.std.specs.Prelude.{◌≡◌, suc, ◌*◌, ◌≤◌, min, leb};
 ghost use Rattle.eikonal.specs.Board.{largest};
 ghost use Rattle.front.specs.Board.{Ground, at};
-ghost use Rattle.engine.specs.Run.{Amid, Leapt, Rounds-on, Runs};
+ghost use Rattle.engine.specs.Run.{Amid, Leapt, RoundsOn, Runs};
 
 use front::Shape;
 use front::drain::Taken;
@@ -67,7 +67,7 @@ fn round(
 ) -> Taken
     requires { Ground shape slow.now times.old cols.now rows.now × Amid shape slow.now stride horizon done times.old (at work.old size)
         × (done ≤ 1000000000) × (1 ≤ stride) × (stride ≤ largest) × (horizon ≤ largest) }
-    ensures { Rounds-on shape slow.now stride horizon done result.cells times.old times.new
+    ensures { RoundsOn shape slow.now stride horizon done result.cells times.old times.new
         (at work.old size) (at work.new result.pending) }
 {
     let n = shape.cells;

@@ -1,7 +1,7 @@
 // Marches, tile runs and single rounds of legal boards, from starts that are placed: whoever places them, from plain lists or from records.
 ghost use Rattle.std.specs.Prelude.{◌≡◌, true, [], ◌≤◌};
 ghost use Rattle.eikonal.specs.Board.{largest};
-ghost use Rattle.eikonal.specs.Refusals.{order-good};
+ghost use Rattle.eikonal.specs.Refusals.{order_good};
 ghost use Rattle.eikonal.specs.Ledger.{sheet};
 ghost use Rattle.front.specs.Board.{land};
 ghost use Rattle.eikonal.specs.declared.Job.TheVariants.{March, Round, Run};
@@ -10,7 +10,7 @@ ghost use Rattle.engine.specs.Calls.{Some-standing, Doable, Goes};
 use eikonal::{Job, NEVER};
 use front::Shape;
 
-// A limit of rounds that never binds: no tile run has more than 300,000,000 + 65,536 (`few-rounds` of crates/eikonal/proofs/Rounds.antt).
+// A limit of rounds that never binds: no tile run has more than 300,000,000 + 65,536 (`few_rounds` of crates/eikonal/proofs/Rounds.antt).
 // Above every count of 32 bits, so that its tests compile to nothing.
 const NO_LIMIT: u64 = 4294967296;
 
@@ -82,7 +82,7 @@ fn one_round(
     work: &mut [u32],
 ) -> u32
     requires { Some-standing shape slow.now times.old sides.old work.old × (bound ≤ largest)
-        × (order-good (land shape []) shape.across shape.down order.now ≡ true) }
+        × (order_good (land shape []) shape.across shape.down order.now ≡ true) }
     ensures { Goes (Round shape.across shape.down bound) shape slow.now result times.old sides.old
         (sheet times.new sides.new) work.old work.new }
 {

@@ -1,7 +1,7 @@
 -- A board as internal functions are lent it, and what its cells see. Only internal contracts cite these: they are definitions.
 use Rattle.std.specs.Prelude.{◌≡◌, ℕ, ◌+◌, ◌-◌, ◌*◌, ◌<◌, ◌≤◌, min, Bool, true, ◌≢◌, List, [], length, slice_index, slice_index_or}
-use Rattle.eikonal.specs.Board.{Board, board-of}
-use Rattle.eikonal.specs.Tiles.{counts-as}
+use Rattle.eikonal.specs.Board.{Board, board_of}
+use Rattle.eikonal.specs.Tiles.{counts_as}
 use Rattle.eikonal.specs.Inner.Good.{Good}
 use Rattle.queue.specs.Heap as queue
 use Rattle.front.specs.Front.{gives}
@@ -10,14 +10,14 @@ use Rattle.front.specs.declared.Shape.{Shape}
 
 -- the board without its starts
 abbrev pub land : Shape → (slow : List ℕ) → Board
-land s ss = board-of s.width s.height s.storeys ss []
+land s ss = board_of s.width s.height s.storeys ss []
 
 -- what the local rule gives a cell of a board that sees stored times as ghosts
-abbrev pub rule-by : Board → (tw th : ℕ) → (stored : List ℕ) → ℕ → (ℕ → ℕ) → ℕ
-rule-by b tw th ts = gives b tw th (λ c e. counts-as b ts e)
+abbrev pub rule_by : Board → (tw th : ℕ) → (stored : List ℕ) → ℕ → (ℕ → ℕ) → ℕ
+rule_by b tw th ts = gives b tw th (λ c e. counts_as b ts e)
 
-abbrev pub rule-at : Shape → (slow stored : List ℕ) → (c : ℕ) → (f : ℕ → ℕ) → ℕ
-rule-at s ss ts = rule-by (land s ss) s.across s.down ts
+abbrev pub rule_at : Shape → (slow stored : List ℕ) → (c : ℕ) → (f : ℕ → ℕ) → ℕ
+rule_at s ss ts = rule_by (land s ss) s.across s.down ts
 
 -- where the work list keeps the tentative times, and the cells taken in the round
 abbrev pub tentative : (work : List ℕ) → (n c : ℕ) → ℕ
@@ -27,9 +27,9 @@ abbrev pub noted : (work : List ℕ) → (n i : ℕ) → ℕ
 noted v n i = slice_index v (3 * n + i)
 
 -- the earlier of what a cell sees a step back and a step on, across two seams, with tentative times f and stored ones as ghosts
-abbrev pub both-seen : Board → (stored : List ℕ) → (f : ℕ → ℕ) → (c step before behind : ℕ) → ℕ
-both-seen b ts f c k m o =
-    min (across m (f (c + 0 - k)) (counts-as b ts (c + 0 - k))) (across o (f (c + k - 0)) (counts-as b ts (c + k - 0)))
+abbrev pub both_seen : Board → (stored : List ℕ) → (f : ℕ → ℕ) → (c step before behind : ℕ) → ℕ
+both_seen b ts f c k m o =
+    min (across m (f (c + 0 - k)) (counts_as b ts (c + 0 - k))) (across o (f (c + k - 0)) (counts_as b ts (c + k - 0)))
 
 -- seams between so many columns or rows, as laid so many times over; and how many, behind them
 pub record Marked (count side many : ℕ) (marks : List ℕ) : Type 0 where

@@ -3,11 +3,11 @@
 -- Only internal contracts cite these definitions; no public promise rests on them.
 use Rattle.std.specs.Prelude.{◌≡◌, ℕ, zero, suc, ◌+◌, ◌-◌, ◌*◌, ◌<◌, ◌≤◌, min, cond, ◌&&◌, ◌≢◌, ◌⊎◌, List, [], ◌∷◌, ◌==◌, nat_le, nat_lt}
 use Rattle.eikonal.specs.Board.{Board, never, arrival}
-use Rattle.eikonal.specs.Tiles.{tile-of}
+use Rattle.eikonal.specs.Tiles.{tile_of}
 
 -- what a cell c sees of a cell e: the tentative time in its own tile, else its ghost
 abbrev pub ghosted : Board → (tw th : ℕ) → (ghost : ℕ → ℕ → ℕ) → (f : ℕ → ℕ) → (c e : ℕ) → ℕ
-ghosted b tw th g f c e = cond (tile-of b tw th c == tile-of b tw th e) (f e) (g c e)
+ghosted b tw th g f c e = cond (tile_of b tw th c == tile_of b tw th e) (f e) (g c e)
 
 -- what the local rule gives a cell, at most never
 abbrev pub gives : Board → (tw th : ℕ) → (ghost : ℕ → ℕ → ℕ) → (c : ℕ) → (f : ℕ → ℕ) → ℕ
@@ -17,8 +17,8 @@ gives b tw th g c f = min never (arrival b c (ghosted b tw th g f c))
 abbrev pub Among : (lo hi c : ℕ) → Type 0
 Among lo hi c = (lo ≤ c) × (c < hi)
 
-abbrev pub Not-among : (lo hi c : ℕ) → Type 0
-Not-among lo hi c = Among lo hi c → ⊥
+abbrev pub NotAmong : (lo hi c : ℕ) → Type 0
+NotAmong lo hi c = Among lo hi c → ⊥
 
 -- a rule for these cells alone: to all others it gives no time
 unfoldable pub among : (lo hi : ℕ) → (L : ℕ → (ℕ → ℕ) → ℕ) → (c : ℕ) → (f : ℕ → ℕ) → ℕ

@@ -1,15 +1,15 @@
 -- What the internal functions leave of the work list: the queue of pending cells, tentative times, noted cells.
 -- Only internal contracts cite these: they are definitions.
 use Rattle.std.specs.Prelude.{◌≡◌, ℕ, suc, ◌*◌, ◌<◌, ◌≤◌, min, cond, ◌≢◌, ◌⊎◌, List, [], ◌∷◌, length, ◌==◌, slice_index}
-use Rattle.eikonal.specs.Board.{Board, never, size, start-time}
-use Rattle.eikonal.specs.Tiles.{tile-of}
+use Rattle.eikonal.specs.Board.{Board, never, size, start_time}
+use Rattle.eikonal.specs.Tiles.{tile_of}
 use Rattle.eikonal.specs.Promise.{Neighbour}
 use Rattle.eikonal.specs.declared.Start.{Start}
 use Rattle.queue.specs.Heap.{Heap}
 use Rattle.eikonal.specs.Inner.Clip.{clip}
-use Rattle.front.specs.Front.{Among, Not-among, among, Tied, Drop, Settled, Upheld, Drift, Out}
+use Rattle.front.specs.Front.{Among, NotAmong, among, Tied, Drop, Settled, Upheld, Drift, Out}
 use Rattle.front.specs.Seams.{seam, inside, near}
-use Rattle.front.specs.Board.{land, rule-at, tentative, noted, Work, keys}
+use Rattle.front.specs.Board.{land, rule_at, tentative, noted, Work, keys}
 use Rattle.front.specs.declared.Shape.{Shape}
 
 -- there is room, the queue is sound, and keys go with times
@@ -76,11 +76,11 @@ pub record Ready (n : ℕ) (L : ℕ → (ℕ → ℕ) → ℕ) (v : Work) : Type
 
 -- within a tile no other cell hears of the cells from lo on and below hi
 abbrev pub Apart : Shape → (slow : List ℕ) → (lo hi : ℕ) → Type 0
-Apart s ss lo hi = (c d : ℕ) → Among lo hi c → d < s.cells → Not-among lo hi d → Out d (near (land s ss) s.across s.down inside c)
+Apart s ss lo hi = (c d : ℕ) → Among lo hi c → d < s.cells → NotAmong lo hi d → Out d (near (land s ss) s.across s.down inside c)
 
 -- these cells are ready for a drain, and no other is pending
 pub record Ready-among (s : Shape) (slow stored : List ℕ) (lo hi : ℕ) (v : Work) : Type 0 where
-  pub ready : Ready s.cells (among lo hi (rule-at s slow stored)) v
+  pub ready : Ready s.cells (among lo hi (rule_at s slow stored)) v
   pub within : (c : ℕ) → c < s.cells → keys v c < never → Among lo hi c
   pub apart : Apart s slow lo hi
 
@@ -96,7 +96,7 @@ pub record Drained (n bound m : ℕ) (L : ℕ → (ℕ → ℕ) → ℕ) (v v' :
   pub long : length v'.list ≡ length v.list
   pub past : (j : ℕ) → 4 * n ≤ j → slice_index v'.list j ≡ slice_index v.list j
   pub settled : Settled n L (tentative v'.list n) (keys v')
-  pub keys-past : (c : ℕ) → c < n → bound < keys v' c
+  pub keys_past : (c : ℕ) → c < n → bound < keys v' c
   pub upheld : (start : ℕ → ℕ) → Upheld n L start (tentative v.list n) → Upheld n L start (tentative v'.list n)
   pub drift : (stored : ℕ → ℕ) → Drift n stored (tentative v.list n) (keys v) 0 0 (noted v.list n)
       → Drifted n bound stored (tentative v'.list n) (keys v') m (noted v'.list n)
@@ -130,7 +130,7 @@ pub record Empty (n : ℕ) (v v' : List ℕ) : Type 0 where
 -- every cell has its start's time
 pub record Standing (n : ℕ) (xs : List Start) (v : List ℕ) : Type 0 where
   pub placed : Placed n v
-  pub times : (c : ℕ) → c < n → tentative v n c ≡ start-time c xs
+  pub times : (c : ℕ) → c < n → tentative v n c ≡ start_time c xs
 
 -- the work list is brought there
 pub record Begun (n : ℕ) (xs : List Start) (v v' : List ℕ) : Type 0 where
@@ -143,7 +143,7 @@ pub record Gathered (n lo hi : ℕ) (v : List ℕ) (v' : Work) : Type 0 where
   pub long : length v'.list ≡ length v
   pub heap : Heap v'.list v'.size n
   pub even : (c : ℕ) → Among lo hi c → keys v' c ≡ tentative v n c
-  pub others : (c : ℕ) → Not-among lo hi c → keys v' c ≡ never
+  pub others : (c : ℕ) → NotAmong lo hi c → keys v' c ≡ never
   pub rest : (j : ℕ) → 2 * n ≤ j → slice_index v'.list j ≡ slice_index v j
 
 -- ---- the end of a round: what is noted is stored, and other tiles hear of it
@@ -158,13 +158,13 @@ pub data Announced (n : ℕ) (L : ℕ → (ℕ → ℕ) → ℕ) (stored note : 
 
 -- a cell with all its neighbours in its own tile
 abbrev pub Inner : Board → (tw th c : ℕ) → Type 0
-Inner b tw th c = (e : ℕ) → e < size b → Neighbour b c e → tile-of b tw th c ≡ tile-of b tw th e
+Inner b tw th c = (e : ℕ) → e < size b → Neighbour b c e → tile_of b tw th c ≡ tile_of b tw th e
 
 -- some cells from lo on and below hi heard them, all but inner ones
 pub record Woken (s : Shape) (slow stored : List ℕ) (lo hi : ℕ) (v v' : Work) : Type 0 where
   pub cells : List ℕ
-  pub told : Told s.cells (rule-at s slow stored) 0 cells v v'
-  pub within : (c : ℕ) → Not-among lo hi c → Out c cells
+  pub told : Told s.cells (rule_at s slow stored) 0 cells v v'
+  pub within : (c : ℕ) → NotAmong lo hi c → Out c cells
   pub inner : (c : ℕ) → Among lo hi c → Out c cells → Inner (land s slow) s.across s.down c
 
 -- on a flat board no inside seam lies before or behind the rows from `from` on and below `end`
@@ -189,4 +189,4 @@ pub record Worked (n : ℕ) (L : ℕ → (ℕ → ℕ) → ℕ) (bound lo hi : �
   pub past : (j : ℕ) → 4 * n ≤ j → slice_index v' j ≡ slice_index v j
   pub meets : (c : ℕ) → Among lo hi c
       → clip bound (tentative v' n c) ≡ clip bound (min (tentative v n c) (L c (λ e. clip bound (tentative v' n e))))
-  pub others : (c : ℕ) → c < n → Not-among lo hi c → tentative v' n c ≡ tentative v n c
+  pub others : (c : ℕ) → c < n → NotAmong lo hi c → tentative v' n c ≡ tentative v n c

@@ -3,7 +3,7 @@ ghost use Rattle.std.specs.Prelude.{◌≡◌, ℕ, ◌*◌, ◌<◌, ◌≤◌,
 ghost use Rattle.eikonal.specs.Board.{time};
 ghost use Rattle.front.specs.Front.{Written};
 ghost use Rattle.front.specs.Seams.{border, near};
-ghost use Rattle.front.specs.Board.{land, rule-at, tentative, noted, at, Ground};
+ghost use Rattle.front.specs.Board.{land, rule_at, tentative, noted, at, Ground};
 ghost use Rattle.front.specs.State.{Held, Announced};
 
 use super::Shape;
@@ -36,7 +36,7 @@ pub fn announce(
 ) -> usize
     requires { Ground shape slow.now times.now cols.now rows.now × Held shape.cells (at work.old size) × (m ≤ shape.cells)
         × ((i : ℕ) → i < m → noted work.old shape.cells i < shape.cells) }
-    ensures { Announced shape.cells (rule-at shape slow.now times.now) (time times.now)
+    ensures { Announced shape.cells (rule_at shape slow.now times.now) (time times.now)
         (noted work.old shape.cells) (λ c. near (land shape slow.now) shape.across shape.down border c) m
         (at work.old size) (at work.new result) }
 {

@@ -4,7 +4,7 @@ ghost use Rattle.eikonal.specs.Board.{never};
 ghost use Rattle.queue.specs.Heap.{key};
 ghost use Rattle.front.specs.Seams.{inside, near};
 ghost use Rattle.front.specs.Front.{among};
-ghost use Rattle.front.specs.Board.{land, rule-at, at, Ground};
+ghost use Rattle.front.specs.Board.{land, rule_at, at, Ground};
 ghost use Rattle.front.specs.State.{Held, Took, Drained, Ready-among, Some-ready};
 
 use super::Shape;
@@ -33,7 +33,7 @@ fn take(
 ) -> usize
     requires { Ground shape slow.now times.now cols.now rows.now × Held shape.cells (at work.old size) × (0 < size) × (m < shape.cells)
         × (t ≡ key work.old 0) }
-    ensures { Took shape.cells m (rule-at shape slow.now times.now)
+    ensures { Took shape.cells m (rule_at shape slow.now times.now)
         (near (land shape slow.now) shape.across shape.down inside) (at work.old size) (at work.new result) }
 {
     let n = shape.cells;
@@ -107,7 +107,7 @@ pub fn drain(
     requires { Ground shape slow.now times.now cols.now rows.now × Some-ready shape slow.now times.now (at work.old size)
         × (bound < never) }
     ensures { (lo hi : ℕ) → Ready-among shape slow.now times.now lo hi (at work.old size)
-        → Drained shape.cells bound result.cells (among lo hi (rule-at shape slow.now times.now)) (at work.old size)
+        → Drained shape.cells bound result.cells (among lo hi (rule_at shape slow.now times.now)) (at work.old size)
         (at work.new result.pending) }
 {
     let n = shape.cells;

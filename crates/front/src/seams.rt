@@ -1,7 +1,7 @@
 // Seams: what lies before each column, or each row; rows are numbered through all storeys, and so are their seams. An inside seam parts two cells of
 // one tile.
 ghost use Rattle.std.specs.Prelude.{◌≡◌, ◌+◌, ◌≤◌, nat_lt, slice_index};
-ghost use Rattle.front.specs.Seams.{seam, mark-under, mark-over};
+ghost use Rattle.front.specs.Seams.{seam, mark_under, mark_over};
 ghost use Rattle.front.specs.Board.{Marked};
 
 pub const EDGE: u8 = 0;
@@ -68,14 +68,14 @@ fn wide(mark: u8) -> usize
 
 // The seams between a cell and those under and over it: tiles span all storeys.
 pub fn seam_under(area: usize, c: usize) -> u8
-    ensures { result ≡ mark-under area c }
+    ensures { result ≡ mark_under area c }
 {
     if c < area { EDGE } else { INSIDE }
 }
 
 pub fn seam_over(n: usize, area: usize, c: usize) -> u8
     requires { (c ≤ 65536) × (area ≤ 65536) }
-    ensures { result ≡ mark-over n area c }
+    ensures { result ≡ mark_over n area c }
 {
     if c + area < n { INSIDE } else { EDGE }
 }

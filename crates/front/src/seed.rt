@@ -1,6 +1,6 @@
 // The beginning of a round: every tentative time is never, then the starts are placed; those that have a time are gathered in the queue.
 ghost use Rattle.std.specs.Prelude.{◌≡◌, ℕ, ◌*◌, ◌<◌, ◌≤◌, [], ◌∷◌, length, slice_index};
-ghost use Rattle.eikonal.specs.Refusals.{starts-of};
+ghost use Rattle.eikonal.specs.Refusals.{starts_of};
 ghost use Rattle.front.specs.Board.{at};
 ghost use Rattle.front.specs.State.{Placed, Seeded, Empty, Gathered};
 
@@ -17,7 +17,7 @@ pub fn empty(work: &mut [u32], n: usize)
 // A front begins at the cell c at the time t, unless one is there by then.
 fn place(work: &mut [u32], n: usize, c: usize, t: u32)
     requires { (c < n) × Placed n work.old }
-    ensures { Seeded n (starts-of (c ∷ []) (t ∷ [])) work.old work.new }
+    ensures { Seeded n (starts_of (c ∷ []) (t ∷ [])) work.old work.new }
 {
     let at = 2 * n + c;
     if t < work[at] {
@@ -29,7 +29,7 @@ fn place(work: &mut [u32], n: usize, c: usize, t: u32)
 pub fn seed(work: &mut [u32], n: usize, cells: &[u32], begins: &[u32])
     requires { (n ≤ 65536) × (length cells.now ≡ length begins.now) × Placed n work.old
         × ((i : ℕ) → i < length cells.now → slice_index cells.now i < n) }
-    ensures { Seeded n (starts-of cells.now begins.now) work.old work.new }
+    ensures { Seeded n (starts_of cells.now begins.now) work.old work.new }
 {
     let mut i = 0;
     while i < cells.len() {

@@ -1,8 +1,8 @@
 // What a cell sees of its neighbours, and what the local rule gives it from that.
 ghost use Rattle.std.specs.Prelude.{◌≡◌, ◌+◌, ◌-◌, ◌*◌, ◌<◌, ◌≤◌, min, length};
-ghost use Rattle.eikonal.specs.Tiles.{counts-as};
+ghost use Rattle.eikonal.specs.Tiles.{counts_as};
 ghost use Rattle.front.specs.Seams.{across};
-ghost use Rattle.front.specs.Board.{land, rule-at, both-seen, tentative, Ground, Measures, Site, Sees};
+ghost use Rattle.front.specs.Board.{land, rule_at, both_seen, tentative, Ground, Measures, Site, Sees};
 
 use super::Shape;
 use super::seams::{EDGE, INSIDE, is_house, seam_over, seam_under, storey_rows};
@@ -12,7 +12,7 @@ use eikonal::{LARGEST, NEVER};
 // A stored time as a cell of another tile sees it.
 pub fn ghost_time(slow: &[u32], times: &[u32], shape: Shape, e: usize) -> u32
     requires { (e < length slow.now) × (e < length times.now) }
-    ensures { result ≡ counts-as (land shape slow.now) times.now e }
+    ensures { result ≡ counts_as (land shape slow.now) times.now e }
 {
     let t = times[e];
     if slow[e] == 0 {
@@ -38,7 +38,7 @@ fn see(
 ) -> u32
     requires { Sees n slow.now times.now work.now c less more seam }
     ensures { result ≡ across seam (tentative work.now n (c + more - less))
-        (counts-as (land shape slow.now) times.now (c + more - less)) }
+        (counts_as (land shape slow.now) times.now (c + more - less)) }
 {
     if seam == EDGE {
         return NEVER;
@@ -64,7 +64,7 @@ fn along(
     behind: u8,
 ) -> u32
     requires { Sees n slow.now times.now work.now c step 0 before × Sees n slow.now times.now work.now c 0 step behind }
-    ensures { result ≡ both-seen (land shape slow.now) times.now (tentative work.now n) c step before behind }
+    ensures { result ≡ both_seen (land shape slow.now) times.now (tentative work.now n) c step before behind }
 {
     lesser(
         see(slow, times, work, shape, n, c, step, 0, before),
@@ -89,7 +89,7 @@ fn house_rule(
 ) -> u32
     requires { Ground shape slow.now times.now cols.now rows.now × Measures shape n w × Site n w c row col × (4 * n ≤ length work.now)
         × (2 ≤ shape.storeys) }
-    ensures { result ≡ min limit (rule-at shape slow.now times.now c (tentative work.now n)) }
+    ensures { result ≡ min limit (rule_at shape slow.now times.now c (tentative work.now n)) }
 {
     let across = along(slow, times, work, shape, n, c, 1, cols[col], cols[col + 1]);
     let down = along(slow, times, work, shape, n, c, w, rows[row], rows[row + 1]);
@@ -124,7 +124,7 @@ pub fn rule(
     limit: u32,
 ) -> u32
     requires { Ground shape slow.now times.now cols.now rows.now × Measures shape n w × Site n w c row col × (4 * n ≤ length work.now) }
-    ensures { result ≡ min limit (rule-at shape slow.now times.now c (tentative work.now n)) }
+    ensures { result ≡ min limit (rule_at shape slow.now times.now c (tentative work.now n)) }
 {
     if is_house(rows) {
         return house_rule(

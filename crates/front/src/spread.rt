@@ -1,7 +1,7 @@
 // Cells hear of a neighbour's time, and are lowered to what the local rule then gives them. Each function answers how many cells are then pending.
 ghost use Rattle.std.specs.Prelude.{◌≡◌, ℕ, ◌+◌, ◌-◌, ◌/◌, ◌<◌, ◌≤◌, min, true, ◌⊎◌, [], ◌∷◌, ◌==◌};
-ghost use Rattle.front.specs.Seams.{border, inside, least-seam, hearer, near_on, stack-cut, near};
-ghost use Rattle.front.specs.Board.{land, rule-at, tentative, at, Ground, Measures, Site, Step};
+ghost use Rattle.front.specs.Seams.{border, inside, least_seam, hearer, near_on, stack_cut, near};
+ghost use Rattle.front.specs.Board.{land, rule_at, tentative, at, Ground, Measures, Site, Step};
 ghost use Rattle.front.specs.State.{Held, Touched, Told};
 
 use super::Shape;
@@ -25,7 +25,7 @@ pub fn relax(
 ) -> usize
     requires { Ground shape slow.now times.now cols.now rows.now × Measures shape n w × Site n w e row col × Held n (at work.old size) }
     ensures { (t : ℕ) → (t ≡ 0) ⊎ (t < tentative work.old n e)
-        → Touched n (rule-at shape slow.now times.now) t e (at work.old size) (at work.new result) }
+        → Touched n (rule_at shape slow.now times.now) t e (at work.old size) (at work.new result) }
 {
     let at = 2 * n + e;
     let y = work[at];
@@ -59,7 +59,7 @@ fn touch(
 ) -> usize
     requires { Ground shape slow.now times.now cols.now rows.now × Measures shape n w × Held n (at work.old size)
         × (there ≡ true → Site n w e row col) }
-    ensures { Touched n (rule-at shape slow.now times.now) t (hearer n there e) (at work.old size)
+    ensures { Touched n (rule_at shape slow.now times.now) t (hearer n there e) (at work.old size)
         (at work.new result) }
 {
     if !there {
@@ -116,7 +116,7 @@ pub fn tell_along(
 ) -> usize
     requires { Ground shape slow.now times.now cols.now rows.now × Measures shape n w × Held n (at work.old size)
         × Step n w c row col step down right before behind }
-    ensures { Told n (rule-at shape slow.now times.now) t (hearer n before (c - step) ∷ hearer n behind (c + step) ∷ [])
+    ensures { Told n (rule_at shape slow.now times.now) t (hearer n before (c - step) ∷ hearer n behind (c + step) ∷ [])
         (at work.old size) (at work.new result) }
 {
     let told = touch(
@@ -169,8 +169,8 @@ pub fn tell_stack(
 ) -> usize
     requires { Ground shape slow.now times.now cols.now rows.now × Measures shape n w × Held n (at work.old size)
         × (c < n) }
-    ensures { Told n (rule-at shape slow.now times.now) t
-        (near_on (stack-cut (land shape slow.now) ∷ []) n inside c) (at work.old size) (at work.new result) }
+    ensures { Told n (rule_at shape slow.now times.now) t
+        (near_on (stack_cut (land shape slow.now) ∷ []) n inside c) (at work.old size) (at work.new result) }
 {
     let row = row_of(c, w);
     let col = c - row * w;
@@ -208,7 +208,7 @@ fn lesser(a: u8, b: u8) -> u8
 // branch is compiled.
 pub fn inner(cols: &[u8; 2051], rows: &[u8; 2051], row: usize, col: usize) -> bool
     requires { (row < 2048) × (col < 256) }
-    ensures { result ≡ (least-seam cols.now rows.now row col == inside) }
+    ensures { result ≡ (least_seam cols.now rows.now row col == inside) }
 {
     let beside = lesser(cols[col], cols[col + 1]);
     let over = lesser(rows[row], rows[row + 1]);
@@ -230,7 +230,7 @@ pub fn tell_others(
     t: u32,
 ) -> usize
     requires { Ground shape slow.now times.now cols.now rows.now × Measures shape n w × Held n (at work.old size) × (c < n) }
-    ensures { Told n (rule-at shape slow.now times.now) t
+    ensures { Told n (rule_at shape slow.now times.now) t
         (near (land shape slow.now) shape.across shape.down border c) (at work.old size) (at work.new result) }
 {
     let row = row_of(c, w);

@@ -3,7 +3,7 @@
 // pending past the bound is left behind: the round has no use for it.
 ghost use Rattle.std.specs.Prelude.{◌*◌, ◌<◌, ◌≤◌};
 ghost use Rattle.eikonal.specs.Board.{never};
-ghost use Rattle.front.specs.Board.{rule-at, Ground};
+ghost use Rattle.front.specs.Board.{rule_at, Ground};
 ghost use Rattle.front.specs.State.{Placed, Strip, Worked};
 
 use super::Shape;
@@ -23,7 +23,7 @@ fn drain_strip(
 )
     requires { Ground shape slow.now times.now cols.now rows.now × Strip shape slow.now from end
         × Placed shape.cells work.old × (bound < never) }
-    ensures { Worked shape.cells (rule-at shape slow.now times.now) bound (from * shape.width) (end * shape.width)
+    ensures { Worked shape.cells (rule_at shape slow.now times.now) bound (from * shape.width) (end * shape.width)
         work.old work.new }
 {
     let n = shape.cells;
@@ -44,7 +44,7 @@ pub fn drain_strips(
     bound: u32,
 )
     requires { Ground shape slow.now times.now cols.now rows.now × Placed shape.cells work.old × (shape.down ≤ 256) × (bound < never) }
-    ensures { Worked shape.cells (rule-at shape slow.now times.now) bound 0 shape.cells
+    ensures { Worked shape.cells (rule_at shape slow.now times.now) bound 0 shape.cells
         work.old work.new }
 {
     let h = shape.height as usize;
@@ -83,7 +83,7 @@ pub fn drain_tile(
 )
     requires { Ground shape slow.now times.now cols.now rows.now × Placed shape.cells work.old
         × (shape.width ≤ shape.across) × (shape.height ≤ shape.down) × (bound < never) }
-    ensures { Worked shape.cells (rule-at shape slow.now times.now) bound 0 shape.cells
+    ensures { Worked shape.cells (rule_at shape slow.now times.now) bound 0 shape.cells
         work.old work.new }
 {
     let n = shape.cells;

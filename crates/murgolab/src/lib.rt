@@ -1,12 +1,12 @@
 // What others call: the C interface that include/murgolab.h declares. A call with plain lists meets the contract of the function that it hands over to;
 // one with start records is a straight line of calls.
 ghost use Rattle.std.specs.Prelude.{[], length};
-ghost use Rattle.eikonal.specs.Refusals.{by-lists, by-records, cells_of, begins-of};
+ghost use Rattle.eikonal.specs.Refusals.{by_lists, by_records, cells_of, begins_of};
 ghost use Rattle.eikonal.specs.Ledger.{call};
-ghost use Rattle.eikonal.specs.Entry.{lent, Says, Local-says, Diagonal-says};
+ghost use Rattle.eikonal.specs.Entry.{lent, Says, LocalSays, DiagonalSays};
 ghost use Rattle.eikonal.specs.declared.Job.TheVariants.{March, Round, Run};
 ghost use Rattle.scenario.specs.Calls.{Reads, Writes};
-ghost use Rattle.scenario.specs.Turns.{Turn-says};
+ghost use Rattle.scenario.specs.Turns.{TurnSays};
 ghost use Rattle.tablet.specs.Tablet.{Tablet-says};
 
 use eikonal::{LocalReply, Reply, Start, march_job, nothing_own, round_job, run_job};
@@ -23,14 +23,14 @@ pub extern "C" fn murgolab_local_rule(
     over: u32,
     under: u32,
 ) -> LocalReply
-    ensures { Local-says g h left right above below over under result }
+    ensures { LocalSays g h left right above below over under result }
 {
     arrival::local_rule(g, h, left, right, above, below, over, under)
 }
 
 #[unsafe(no_mangle)]
 pub extern "C" fn murgolab_diagonal(slowness: u32) -> Reply
-    ensures { Diagonal-says slowness result }
+    ensures { DiagonalSays slowness result }
 {
     diagonal::diagonal(slowness)
 }
@@ -48,7 +48,7 @@ pub extern "C" fn murgolab_march_plain(
     sides: &mut [u8],
     work: &mut [u32],
 ) -> Reply
-    ensures { Says (call (by-lists width height storeys slow.now cells.now begins.now)
+    ensures { Says (call (by_lists width height storeys slow.now cells.now begins.now)
         (March horizon) [] (length sides.old) (length work.old))
         result (lent times.old sides.old work.old) (lent times.new sides.new work.new) }
 {
@@ -84,7 +84,7 @@ pub extern "C" fn murgolab_one_round_plain(
     sides: &mut [u8],
     work: &mut [u32],
 ) -> Reply
-    ensures { Says (call (by-lists width height storeys slow.now cells.now begins.now)
+    ensures { Says (call (by_lists width height storeys slow.now cells.now begins.now)
         (Round across down bound) order.now (length sides.old) (length work.old))
         result (lent times.old sides.old work.old) (lent times.new sides.new work.new) }
 {
@@ -121,7 +121,7 @@ pub extern "C" fn murgolab_tile_run_plain(
     sides: &mut [u8],
     work: &mut [u32],
 ) -> Reply
-    ensures { Says (call (by-lists width height storeys slow.now cells.now begins.now)
+    ensures { Says (call (by_lists width height storeys slow.now cells.now begins.now)
         (Run across down stride horizon) order.now (length sides.old) (length work.old))
         result (lent times.old sides.old work.old) (lent times.new sides.new work.new) }
 {
@@ -143,7 +143,7 @@ pub extern "C" fn murgolab_tile_run_plain(
 
 #[unsafe(no_mangle)]
 pub extern "C" fn murgolab_turn(time: u32, ticks: u32) -> TurnReply
-    ensures { Turn-says time ticks result }
+    ensures { TurnSays time ticks result }
 {
     scenario::turn(time, ticks)
 }
@@ -173,7 +173,7 @@ pub extern "C" fn murgolab_write_scenario_plain(
     begins: &[u32],
     out: &mut [u8],
 ) -> Reply
-    ensures { Writes (by-lists width height storeys slow.now cells.now begins.now) ticks ground
+    ensures { Writes (by_lists width height storeys slow.now cells.now begins.now) ticks ground
         out.old out.new result }
 {
     scenario_write::write_scenario(
@@ -193,7 +193,7 @@ pub extern "C" fn murgolab_march(
     sides: &mut [u8],
     work: &mut [u32],
 ) -> Reply
-    ensures { Says (call (by-records width height storeys slow.now starts.now)
+    ensures { Says (call (by_records width height storeys slow.now starts.now)
         (March horizon) [] (length sides.old) (length work.old))
         result (lent times.old sides.old work.old) (lent times.new sides.new work.new) }
 {
@@ -228,7 +228,7 @@ pub extern "C" fn murgolab_one_round(
     sides: &mut [u8],
     work: &mut [u32],
 ) -> Reply
-    ensures { Says (call (by-records width height storeys slow.now starts.now)
+    ensures { Says (call (by_records width height storeys slow.now starts.now)
         (Round across down bound) order.now (length sides.old) (length work.old))
         result (lent times.old sides.old work.old) (lent times.new sides.new work.new) }
 {
@@ -263,7 +263,7 @@ pub extern "C" fn murgolab_tile_run(
     sides: &mut [u8],
     work: &mut [u32],
 ) -> Reply
-    ensures { Says (call (by-records width height storeys slow.now starts.now)
+    ensures { Says (call (by_records width height storeys slow.now starts.now)
         (Run across down stride horizon) order.now (length sides.old) (length work.old))
         result (lent times.old sides.old work.old) (lent times.new sides.new work.new) }
 {
@@ -289,7 +289,7 @@ pub extern "C" fn murgolab_read_scenario(
     starts: &mut [Start],
 ) -> Scenario
     ensures { Reads file.now slow.old slow.new
-        (cells_of starts.old) (cells_of starts.new) (begins-of starts.old) (begins-of starts.new) result }
+        (cells_of starts.old) (cells_of starts.new) (begins_of starts.old) (begins_of starts.new) result }
 {
     let answer = scenario_read::read_ground(file, slow, starts.len());
     record_files::read::read_records(file, record_files::read::count_of(answer), starts);
@@ -307,7 +307,7 @@ pub extern "C" fn murgolab_write_scenario(
     starts: &[Start],
     out: &mut [u8],
 ) -> Reply
-    ensures { Writes (by-records width height storeys slow.now starts.now) ticks ground
+    ensures { Writes (by_records width height storeys slow.now starts.now) ticks ground
         out.old out.new result }
 {
     let judged = record_calls::judge::judge_records(slow, starts);

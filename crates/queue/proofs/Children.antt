@@ -25,30 +25,30 @@ by-keys {w} {a} {b} {r} {x} {y} {z} s p q e l = record { from = has.0; to = has.
     has = ⊎_elim (λ t. omega (arith, ap (key w) t.0)) (λ t. omega (arith, ap (key w) t.0)) s
 
 -- the two keys decide on a number that is added
-pub by-sum : {w : List ℕ} {a b l x y z : ℕ} → ((l ≡ 0) × (x ≤ y)) ⊎ ((l ≡ 1) × (y < x)) →
+pub by_sum : {w : List ℕ} {a b l x y z : ℕ} → ((l ≡ 0) × (x ≤ y)) ⊎ ((l ≡ 1) × (y < x)) →
     x ≡ key w a → y ≡ key w b → z ≡ min x y → b ≡ a + 1 → Lesser w a b (a + l) z
-by-sum (inl t) p q e n = by-keys (inl (omega arith, t.1)) p q e (omega arith)
-by-sum (inr t) p q e n = by-keys (inr (omega arith, t.1)) p q e (omega arith)
+by_sum (inl t) p q e n = by-keys (inl (omega arith, t.1)) p q e (omega arith)
+by_sum (inr t) p q e n = by-keys (inr (omega arith, t.1)) p q e (omega arith)
 
 module _ {w : List ℕ} where
   -- of at most two slots, which are all from a to b
-  of-both : {a b r z : ℕ} → Lesser w a b r z → b ≤ a + 1 → (j : ℕ) → a ≤ j → j ≤ b → z ≤ key w j
-  of-both {a} {b} h n j p q = elim (ℕ_discrete j a) [
+  of_both : {a b r z : ℕ} → Lesser w a b r z → b ≤ a + 1 → (j : ℕ) → a ≤ j → j ≤ b → z ≤ key w j
+  of_both {a} {b} h n j p q = elim (ℕ_discrete j a) [
     | yes e ↦ omega (arith, ap (key w) e)
     | no e ↦ (let t : j ≡ b = omega (arith, e) in omega (arith, ap (key w) t))
   ]
 
   -- of two such halves
-  pub of-halves : {a b c d e f r x y z : ℕ} → Lesser w a b e x → Lesser w c d f y → Lesser w e f r z → b ≤ a + 1 → c ≤ b + 1 → d ≤ c + 1 →
+  pub of_halves : {a b c d e f r x y z : ℕ} → Lesser w a b e x → Lesser w c d f y → Lesser w e f r z → b ≤ a + 1 → c ≤ b + 1 → d ≤ c + 1 →
       (z ≡ key w r) × Chosen w a d r
-  of-halves {a} {b} left right best m n o = (
+  of_halves {a} {b} left right best m n o = (
     sym best.at,
     record {
       from = omega arith;
       to = omega arith;
       least = λ j p q. elim (dec_lt b j) [
-        | yes l ↦ omega (arith, of-both right o j (omega arith) q)
-        | no l ↦ omega (arith, of-both left m j p (omega arith))
+        | yes l ↦ omega (arith, of_both right o j (omega arith) q)
+        | no l ↦ omega (arith, of_both left m j p (omega arith))
       ];
     },
   )

@@ -18,9 +18,9 @@ module _ (w : List ℕ) (m d : ℕ) where
   unfolding keys
   key-found l e = rw (lt-ltb (place w d) m l, eq-eqb (cell w (place w d)) d e)
 
-  pub key-stale : Stale w m d → keys w m d ≡ never
+  pub key_stale : Stale w m d → keys w m d ≡ never
   unfolding keys
-  key-stale z = elim (dec_lt (place w d) m) [
+  key_stale z = elim (dec_lt (place w d) m) [
     | yes l ↦ rw (lt-ltb (place w d) m l, ne_eqb (cell w (place w d)) d (z l))
     | no l ↦ rw (le-ltb (place w d) m (omega arith))
   ]
@@ -53,7 +53,7 @@ module _ {w : List ℕ} {m n : ℕ} (hp : Heap w m n) where
   ]
     where
       none : Stale w m d → Sought w m d
-      none z = nowhere (not_found d z) (key-stale w m d z)
+      none z = nowhere (not_found d z) (key_stale w m d z)
 
   pub keys_none : (d : ℕ) → ((y : ℕ) → Sits w m m d y → ⊥) → keys w m d ≡ never
   keys_none d z = elim (sought d) [ sits s ↦ absurd (z (keys w m d) s) | nowhere t e ↦ e ]
@@ -62,16 +62,16 @@ module _ {w : List ℕ} {m n : ℕ} (hp : Heap w m n) where
   keys-small d = elim (sought d) [ sits s ↦ omega (arith, hp.due s.slot s.within, s.at) | nowhere t e ↦ omega arith ]
 
   -- ---- the first slot
-  root-least : (f i : ℕ) → i ≤ f → i < m → key w 0 ≤ key w i
-  root-least zero i a b = let e : i ≡ 0 = omega arith in omega (arith, ap (key w) e)
-  root-least (suc f) i a b = elim (ℕ_discrete i 0) [
+  root_least : (f i : ℕ) → i ≤ f → i < m → key w 0 ≤ key w i
+  root_least zero i a b = let e : i ≡ 0 = omega arith in omega (arith, ap (key w) e)
+  root_least (suc f) i a b = elim (ℕ_discrete i 0) [
     | yes e ↦ omega (arith, ap (key w) e)
-    | no e ↦ omega (arith, root-least f (above i) (omega arith) (above_within i (omega arith) b), hp.order i (omega arith) b)
+    | no e ↦ omega (arith, root_least f (above i) (omega arith) (above_within i (omega arith) b), hp.order i (omega arith) b)
   ]
 
   pub top_least : 0 < m → (d : ℕ) → key w 0 ≤ keys w m d
   top_least l d = elim (sought d) [
-    | sits s ↦ omega (arith, root-least s.slot s.slot (omega arith) s.within, s.at)
+    | sits s ↦ omega (arith, root_least s.slot s.slot (omega arith) s.within, s.at)
     | nowhere t e ↦ omega (arith, hp.due 0 l)
   ]
 
@@ -89,8 +89,8 @@ keys-same {w} {v} {m} {M} hp hv d there back = elim (sought hp d) [
 ]
 
 -- ---- an empty heap
-pub heap-empty : (w : List ℕ) (n : ℕ) → n ≤ 65536 → Heap w 0 n
-heap-empty w n few = record {
+pub heap_empty : (w : List ℕ) (n : ℕ) → n ≤ 65536 → Heap w 0 n
+heap_empty w n few = record {
   few = few;
   fits = omega arith;
   cells = λ i l. absurd (omega arith);
@@ -99,8 +99,8 @@ heap-empty w n few = record {
   order = λ i p l. absurd (omega arith);
 }
 
-pub keys-empty : (w : List ℕ) (c : ℕ) → keys w 0 c ≡ never
-keys-empty w c = key-stale w 0 c (λ l. absurd (omega arith))
+pub keys_empty : (w : List ℕ) (c : ℕ) → keys w 0 c ≡ never
+keys_empty w c = key_stale w 0 c (λ l. absurd (omega arith))
 
 -- ---- stores past a heap
 -- a heap is what its list holds below 2n
@@ -143,5 +143,5 @@ module _ (w : List ℕ) (m n i x : ℕ) (l : 2 * n ≤ i) (hp : Heap w m n) wher
   pub heap-past : Heap (set w i x) m n
   heap-past = heap-keeps w (set w i x) m n kept hp
 
-  pub keys-past : (d : ℕ) → keys (set w i x) m d ≡ keys w m d
-  keys-past = keys-keep w (set w i x) m n kept hp
+  pub keys_past : (d : ℕ) → keys (set w i x) m d ≡ keys w m d
+  keys_past = keys-keep w (set w i x) m n kept hp

@@ -19,10 +19,10 @@ sits-among s l ne = record { slot = s.slot; within = l; off = ne; holds = s.hold
 order-then : {w w' : List ℕ} {n h c x : ℕ} → Seated w n h c x w' → (i : ℕ) → 1 ≤ i → (i ≡ h → key w (above i) ≤ x) → (above i ≡ h → x ≤ key w i) →
     (i ≢ h → above i ≢ h → key w (above i) ≤ key w i) → key w' (above i) ≤ key w' i
 order-then {w} {w'} {n} {h} st i p upper lower else = elim (ℕ_discrete i h) [
-  | yes e ↦ omega (arith, ap (key w') e, st.key-there, st.key-else (above i) (omega arith), upper e)
+  | yes e ↦ omega (arith, ap (key w') e, st.key_there, st.key_else (above i) (omega arith), upper e)
   | no z ↦ elim (ℕ_discrete (above i) h) [
-    | yes e ↦ omega (arith, ap (key w') e, st.key-there, st.key-else i z, lower e)
-    | no e ↦ omega (arith, st.key-else i z, st.key-else (above i) e, else z e)
+    | yes e ↦ omega (arith, ap (key w') e, st.key_there, st.key_else i z, lower e)
+    | no e ↦ omega (arith, st.key_else i z, st.key_else (above i) e, else z e)
   ]
 ]
 
@@ -55,8 +55,8 @@ moved_on a b = record {
   past = λ j l. b.past j l ∙ a.past j l;
 }
 
-pub rested-on : {w v u : List ℕ} {m n h c x i q : ℕ} → Moved w m n h c v i → Rested v m n i c x u q → Rested w m n h c x u q
-rested-on a b = record { moved = moved_on a b.moved; below = b.below; over = b.over }
+pub rested_on : {w v u : List ℕ} {m n h c x i q : ℕ} → Moved w m n h c v i → Rested v m n i c x u q → Rested w m n h c x u q
+rested_on a b = record { moved = moved_on a b.moved; below = b.below; over = b.over }
 
 -- a cell goes from slot q to the hole, which is then q
 module _ {v w w' : List ℕ} {m n k h c d y : ℕ} (q : ℕ) (before : Moved v m n k c w h) (seat : Seated w n h d y w') (cd : d ≡ cell w q) (ky : y ≡ key w q)
@@ -74,10 +74,10 @@ module _ {v w w' : List ℕ} {m n k h c d y : ℕ} (q : ℕ) (before : Moved v m
       slot = q;
       within = l;
       off = ne;
-      holds = sym (ap (cell w') e ∙ st.cell-there);
-      at = sym (ap (key w') e ∙ st.key-there);
+      holds = sym (ap (cell w') e ∙ st.cell_there);
+      at = sym (ap (key w') e ∙ st.key_there);
     }
-    | no e ↦ record { slot = i; within = a; off = e; holds = sym (st.cell-else i e); at = sym (st.key-else i e) }
+    | no e ↦ record { slot = i; within = a; off = e; holds = sym (st.cell_else i e); at = sym (st.key_else i e) }
   ]
 
   moved_back : {d y : ℕ} → Sits w' m q d y → Sits w m h d y
@@ -91,23 +91,23 @@ module _ {v w w' : List ℕ} {m n k h c d y : ℕ} (q : ℕ) (before : Moved v m
       slot = h;
       within = o.on;
       off = λ r. ne (sym r);
-      holds = st.cell-there ∙ ap (cell w) (sym e) ∙ s.holds;
-      at = st.key-there ∙ ap (key w) (sym e) ∙ s.at;
+      holds = st.cell_there ∙ ap (cell w) (sym e) ∙ s.holds;
+      at = st.key_there ∙ ap (key w) (sym e) ∙ s.at;
     }
     | no e ↦ record {
       slot = s.slot;
       within = s.within;
       off = e;
-      holds = st.cell-else s.slot s.off ∙ s.holds;
-      at = st.key-else s.slot s.off ∙ s.at;
+      holds = st.cell_else s.slot s.off ∙ s.holds;
+      at = st.key_else s.slot s.off ∙ s.at;
     }
   ]
 
   places : (i : ℕ) → i < m → i ≢ q → place w' (cell w' i) ≡ i
   places i a r = elim (ℕ_discrete i h) [
-    | yes e ↦ ap (place w') (ap (cell w') e ∙ st.cell-there) ∙ st.place-there ∙ sym e
-    | no e ↦ ap (place w') (st.cell-else i e)
-        ∙ st.place-else (cell w i) (λ t. r (sym (o.places i a e) ∙ ap (place w) t ∙ o.places q l ne))
+    | yes e ↦ ap (place w') (ap (cell w') e ∙ st.cell_there) ∙ st.place_there ∙ sym e
+    | no e ↦ ap (place w') (st.cell_else i e)
+        ∙ st.place_else (cell w i) (λ t. r (sym (o.places i a e) ∙ ap (place w) t ∙ o.places q l ne))
         ∙ o.places i a e
   ]
 
@@ -134,15 +134,15 @@ module _ {v w w' : List ℕ} {m n k h c d y : ℕ} (q : ℕ) (before : Moved v m
   module _ (p : 1 ≤ h) (up : above h ≡ q) where
     under : (i : ℕ) → 1 ≤ i → i < m → above i ≡ q → key w q ≤ key w' i
     under i r a e = elim (ℕ_discrete i h) [
-      | yes t ↦ omega (arith, ap (key w') t, st.key-there)
-      | no t ↦ omega (arith, st.key-else i t, o.order i r a t (omega arith), ap (key w) e)
+      | yes t ↦ omega (arith, ap (key w') t, st.key_there)
+      | no t ↦ omega (arith, st.key_else i t, o.order i r a t (omega arith), ap (key w) e)
     ]
 
     pub risen : {x : ℕ} → x ≤ key w q → Moved v m n k c w' q × Below w' m q x
     risen g = (
       moved
           (λ i r a s t. order-then st i r (λ e. absurd (t (ap above e ∙ up))) (λ e. omega (arith, o.bridge i r a e p, ap (key w) up)) (o.order i r a))
-          (λ i r a e b. omega (arith, st.key-else (above q) (omega arith), o.order q b l ne (omega arith), under i r a e)),
+          (λ i r a e b. omega (arith, st.key_else (above q) (omega arith), o.order q b l ne (omega arith), under i r a e)),
       λ i r a e. omega (arith, under i r a e),
     )
 
@@ -153,7 +153,7 @@ module _ {v w w' : List ℕ} {m n k h c d y : ℕ} (q : ℕ) (before : Moved v m
         (λ i r a s t. order-then st i r (λ e. omega (arith, ap (λ u. key w (above u)) e, o.bridge q p l down (omega arith))) (low i r a) (o.order i r a))
         (λ i r a e b. (
         let z : i ≢ h = omega arith in
-        omega (arith, ap (key w') down, st.key-there, st.key-else i z, o.order i r a z (omega arith), ap (key w) e)
+        omega (arith, ap (key w') down, st.key_there, st.key_else i z, o.order i r a z (omega arith), ap (key w) e)
         ))
 
 -- ---- the hole is filled
@@ -163,16 +163,16 @@ module _ {w w' : List ℕ} {m n h c x : ℕ} (o : Hole w m n h c) (st : Seated w
     few = few;
     fits = o.fits;
     cells = λ i a. elim (ℕ_discrete i h) [
-      | yes e ↦ omega (arith, ap (cell w') e, st.cell-there)
-      | no e ↦ omega (arith, st.cell-else i e, o.cells i a e)
+      | yes e ↦ omega (arith, ap (cell w') e, st.cell_there)
+      | no e ↦ omega (arith, st.cell_else i e, o.cells i a e)
     ];
     places = λ i a. elim (ℕ_discrete i h) [
-      | yes e ↦ ap (place w') (ap (cell w') e ∙ st.cell-there) ∙ st.place-there ∙ sym e
-      | no e ↦ ap (place w') (st.cell-else i e) ∙ st.place-else (cell w i) (o.apart i a e) ∙ o.places i a e
+      | yes e ↦ ap (place w') (ap (cell w') e ∙ st.cell_there) ∙ st.place_there ∙ sym e
+      | no e ↦ ap (place w') (st.cell_else i e) ∙ st.place_else (cell w i) (o.apart i a e) ∙ o.places i a e
     ];
     due = λ i a. elim (ℕ_discrete i h) [
-      | yes e ↦ omega (arith, ap (key w') e, st.key-there)
-      | no e ↦ omega (arith, st.key-else i e, o.due i a e)
+      | yes e ↦ omega (arith, ap (key w') e, st.key_there)
+      | no e ↦ omega (arith, st.key_else i e, o.due i a e)
     ];
     order = λ i r a. order-then st i r (λ e. omega (arith, ap (λ u. key w (above u)) e, over (omega arith))) (below i r a) (o.order i r a);
   }
@@ -183,17 +183,17 @@ module _ {w w' : List ℕ} {m n h c x : ℕ} (o : Hole w m n h c) (st : Seated w
     slot = s.slot;
     within = s.within;
     off = omega (arith, s.within);
-    holds = st.cell-else s.slot s.off ∙ s.holds;
-    at = st.key-else s.slot s.off ∙ s.at;
+    holds = st.cell_else s.slot s.off ∙ s.holds;
+    at = st.key_else s.slot s.off ∙ s.at;
   }
 
   pub filled-back : {d y : ℕ} → d ≢ c → Sits w' m m d y → Sits w m h d y
   filled-back ne s =
-      let z : s.slot ≢ h = λ e. ne (sym s.holds ∙ ap (cell w') e ∙ st.cell-there) in
+      let z : s.slot ≢ h = λ e. ne (sym s.holds ∙ ap (cell w') e ∙ st.cell_there) in
       record {
         slot = s.slot;
         within = s.within;
         off = z;
-        holds = sym (st.cell-else s.slot z) ∙ s.holds;
-        at = sym (st.key-else s.slot z) ∙ s.at;
+        holds = sym (st.cell_else s.slot z) ∙ s.holds;
+        at = sym (st.key_else s.slot z) ∙ s.at;
       }

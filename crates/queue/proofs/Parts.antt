@@ -34,17 +34,17 @@ module _ (xs ys : List ℕ) (a e : ℕ) (h : a ≤ e) (k : e ≤ length xs) (lon
   back_long : length ys ≡ e - a
   back_long = long ∙ mid_len a e xs k
 
-  pub put-before : (c : ℕ) → c < a → get_or (put_mid a (e - a) xs ys) c 0 ≡ get_or xs c 0
-  put-before c l =
+  pub put_before : (c : ℕ) → c < a → get_or (put_mid a (e - a) xs ys) c 0 ≡ get_or xs c 0
+  put_before c l =
       sym (get_or-take a (put_mid a (e - a) xs ys) c 0 l)
       ∙ ap (λ (u : List ℕ). get_or u c 0) (take_put a (e - a) xs ys (omega arith))
       ∙ get_or-take a xs c 0 l
 
-  pub put-within : (j : ℕ) → j < e - a → get_or (put_mid a (e - a) xs ys) (a + j) 0 ≡ get_or ys j 0
-  put-within j l =
+  pub put_within : (j : ℕ) → j < e - a → get_or (put_mid a (e - a) xs ys) (a + j) 0 ≡ get_or ys j 0
+  put_within j l =
       sym (get_or-drop a (put_mid a (e - a) xs ys) j 0)
       ∙ ap (λ (u : List ℕ). get_or u j 0) (drop_at (take a xs) (ys ++ post_of a (e - a) xs) a (length-take-le a xs (omega arith)))
       ∙ get_or-append ys (post_of a (e - a) xs) 0 j (omega (arith, back_long))
 
-  pub put-after : (c : ℕ) → e ≤ c → get_or (put_mid a (e - a) xs ys) c 0 ≡ get_or xs c 0
-  put-after c l = alike_from (put_mid a (e - a) xs ys) xs e c l (drop_put a e xs ys h k back_long)
+  pub put_after : (c : ℕ) → e ≤ c → get_or (put_mid a (e - a) xs ys) c 0 ≡ get_or xs c 0
+  put_after c l = alike_from (put_mid a (e - a) xs ys) xs e c l (drop_put a e xs ys h k back_long)

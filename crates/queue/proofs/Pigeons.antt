@@ -25,11 +25,11 @@ module _ (s : ℕ → ℕ) (m n c : ℕ) (b : c < suc n) (u : Under s m (suc n))
     | no q ↦ inr (q, rw (ne_eqb (s i) n q))
   ]
 
-  squeezed-under : Under (instead s n c) m n
-  squeezed-under i l = ⊎_elim (λ e. (let z : c ≢ n = λ t. apart i l (e.0 ∙ sym t) in omega arith)) (λ e. omega (arith, u i l)) (is i)
+  squeezed_under : Under (instead s n c) m n
+  squeezed_under i l = ⊎_elim (λ e. (let z : c ≢ n = λ t. apart i l (e.0 ∙ sym t) in omega arith)) (λ e. omega (arith, u i l)) (is i)
 
-  squeezed-distinct : Distinct (instead s n c) m
-  squeezed-distinct i j l k e = ⊎_elim
+  squeezed_distinct : Distinct (instead s n c) m
+  squeezed_distinct i j l k e = ⊎_elim
       (λ a. ⊎_elim (λ d. dist i j l k (a.0 ∙ sym d.0)) (λ d. absurd (apart j k (sym d.1 ∙ sym e ∙ a.1))) (is j))
       (λ a. ⊎_elim (λ d. absurd (apart i l (sym a.1 ∙ e ∙ d.1))) (λ d. dist i j l k (sym a.1 ∙ e ∙ d.1)) (is j))
       (is i)
@@ -42,11 +42,11 @@ pigeons (suc n) (suc m) s u d =
     let a : (i : ℕ) → i < m → s i ≢ s m = λ i l e. (let z = d i m (omega arith) (omega arith) e in omega arith) in
     let b : Under s m (suc n) = λ i l. u i (omega arith) in
     let e : Distinct s m = λ i j l k. d i j (omega arith) (omega arith) in
-    let r = pigeons n m (instead s n (s m)) (squeezed-under s m n (s m) (u m (omega arith)) b a e) (squeezed-distinct s m n (s m) (u m (omega arith)) b a e) in
+    let r = pigeons n m (instead s n (s m)) (squeezed_under s m n (s m) (u m (omega arith)) b a e) (squeezed_distinct s m n (s m) (u m (omega arith)) b a e) in
     omega arith
 
 pub pigeonhole : (n m c : ℕ) (s : ℕ → ℕ) → c < n → Under s m n → ((i : ℕ) → i < m → s i ≢ c) → Distinct s m → m < n
 pigeonhole zero m c s b u a d = absurd (omega arith)
 pigeonhole (suc n) m c s b u a d =
-    let r = pigeons n m (instead s n c) (squeezed-under s m n c b u a d) (squeezed-distinct s m n c b u a d) in
+    let r = pigeons n m (instead s n c) (squeezed_under s m n c b u a d) (squeezed_distinct s m n c b u a d) in
     omega arith

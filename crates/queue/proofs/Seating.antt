@@ -30,33 +30,33 @@ module _ (w : List ℕ) (top x at y by z : ℕ) {n slot c : ℕ} (l : slot < n) 
   abbrev two : List ℕ
   two = set one at y
 
-  len-one : length one ≡ length w
-  len-one = length-set w top x
+  len_one : length one ≡ length w
+  len_one = length-set w top x
 
-  len-two : length two ≡ length w
-  len-two = length-set one at y ∙ len-one
+  len_two : length two ≡ length w
+  len_two = length-set one at y ∙ len_one
 
   lows : (i : ℕ) → get_or (set two by z) i 0 % 65536 ≡ get_or two i 0 % 65536
-  lows = keeps (λ u. u % 65536) two by z (omega (arith, len-two, rm.room)) keeps_low
+  lows = keeps (λ u. u % 65536) two by z (omega (arith, len_two, rm.room)) keeps_low
 
   highs : (i : ℕ) → get_or two i 0 / 65536 ≡ get_or one i 0 / 65536
-  highs = keeps (λ u. u / 65536) one at y (omega (arith, len-one, rm.room)) keeps_high
+  highs = keeps (λ u. u / 65536) one at y (omega (arith, len_one, rm.room)) keeps_high
 
   pub seated : Seated w n slot c x (set two by z)
   unfolding cell place
   seated = record {
-    long = length-set two by z ∙ len-two;
-    key-there = get_or-set_other two by (2 * slot) z 0 (omega arith)
+    long = length-set two by z ∙ len_two;
+    key_there = get_or-set_other two by (2 * slot) z 0 (omega arith)
         ∙ get_or-set_other one at (2 * slot) y 0 (omega arith)
         ∙ there w top x (2 * slot) (omega (arith, rm.room)) (sym t);
-    key-else = λ i q. get_or-set_other two by (2 * i) z 0 (omega arith)
+    key_else = λ i q. get_or-set_other two by (2 * i) z 0 (omega arith)
         ∙ get_or-set_other one at (2 * i) y 0 (omega arith)
         ∙ get_or-set_other w top (2 * i) x 0 (omega (arith, q));
-    cell-there = lows (2 * slot + 1) ∙ ap (λ u. u % 65536) (there one at y (2 * slot + 1) (omega (arith, len-one, rm.room)) (sym a)) ∙ low;
-    cell-else = λ i q. lows (2 * i + 1)
+    cell_there = lows (2 * slot + 1) ∙ ap (λ u. u % 65536) (there one at y (2 * slot + 1) (omega (arith, len_one, rm.room)) (sym a)) ∙ low;
+    cell_else = λ i q. lows (2 * i + 1)
         ∙ ap (λ u. u % 65536) (get_or-set_other one at (2 * i + 1) y 0 (omega (arith, q)) ∙ get_or-set_other w top (2 * i + 1) x 0 (omega arith));
-    place-there = ap (λ u. u / 65536) (there two by z (2 * c + 1) (omega (arith, len-two, rm.room)) (sym b)) ∙ high;
-    place-else = λ d q. ap (λ u. u / 65536) (get_or-set_other two by (2 * d + 1) z 0 (omega (arith, q)))
+    place_there = ap (λ u. u / 65536) (there two by z (2 * c + 1) (omega (arith, len_two, rm.room)) (sym b)) ∙ high;
+    place_else = λ d q. ap (λ u. u / 65536) (get_or-set_other two by (2 * d + 1) z 0 (omega (arith, q)))
         ∙ highs (2 * d + 1)
         ∙ ap (λ u. u / 65536) (get_or-set_other w top (2 * d + 1) x 0 (omega arith));
     past = λ j p. get_or-set_other two by j z 0 (omega arith)

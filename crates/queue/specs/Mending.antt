@@ -14,12 +14,12 @@ pub record Room (n : ℕ) (w : List ℕ) : Type 0 where
 -- a cell with its key was put into a slot
 pub record Seated (w : List ℕ) (n slot c x : ℕ) (w' : List ℕ) : Type 0 where
   pub long : length w' ≡ length w
-  pub key-there : key w' slot ≡ x
-  pub key-else : (i : ℕ) → i ≢ slot → key w' i ≡ key w i
-  pub cell-there : cell w' slot ≡ c
-  pub cell-else : (i : ℕ) → i ≢ slot → cell w' i ≡ cell w i
-  pub place-there : place w' c ≡ slot
-  pub place-else : (d : ℕ) → d ≢ c → place w' d ≡ place w d
+  pub key_there : key w' slot ≡ x
+  pub key_else : (i : ℕ) → i ≢ slot → key w' i ≡ key w i
+  pub cell_there : cell w' slot ≡ c
+  pub cell_else : (i : ℕ) → i ≢ slot → cell w' i ≡ cell w i
+  pub place_there : place w' c ≡ slot
+  pub place_else : (d : ℕ) → d ≢ c → place w' d ≡ place w d
   pub past : (j : ℕ) → 2 * n ≤ j → get_or w' j 0 ≡ get_or w j 0
 
 -- the cell c is not in the slot that its entry names

@@ -9,10 +9,10 @@ use lib.Dec.{eqb}
 use lib.ListN.{length, get_or, drop, length-map, get_or-map, get_or-append}
 use lib.Seq.{get_or-take, get_or-drop}
 use borrow.Author.Tests.{eq-eqb, ne_eqb}
-use Rattle.eikonal.specs.Refusals.{cells_of, begins-of}
-use Rattle.eikonal.specs.Inner.Good.{starts-rise}
+use Rattle.eikonal.specs.Refusals.{cells_of, begins_of}
+use Rattle.eikonal.specs.Inner.Good.{starts_rise}
 use Rattle.eikonal.specs.declared.Start.{Start}
-use Rattle.eikonal.proofs.Ledger.{starts-again}
+use Rattle.eikonal.proofs.Ledger.{starts_again}
 use Rattle.front.proofs.Theory.Seeding.{starts-on}
 use Rattle.engine.specs.declared.calls.Task.{Task}
 use Rattle.records.specs.declared.parts.Part.{Part}
@@ -32,10 +32,10 @@ module _ (t : Task) (ys : List Start) (k : ℕ) (is : k ≡ cond (eqb t.refusal.
   among i l = omega (arith, l, all (accepted i l))
 
 -- the cells of starts that rise are on the board, and so are those of a part
-module _ (n : ℕ) (ys : List Start) (rise : starts-rise n 0 ys ≡ true) where
+module _ (n : ℕ) (ys : List Start) (rise : starts_rise n 0 ys ≡ true) where
   on : (j : ℕ) → j < length ys → get_or (map (λ x. x.cell) ys) j 0 < n
-  unfolding cells_of begins-of
-  on j s = starts-on n 0 (cells_of ys) (begins-of ys) (simp length-map) (rw (starts-again ys) rise) j (simp length-map s)
+  unfolding cells_of begins_of
+  on j s = starts-on n 0 (cells_of ys) (begins_of ys) (simp length-map) (rw (starts_again ys) rise) j (simp length-map s)
 
   pub part-on : (i : ℕ) (p : Part) → p ≡ part_of (part_at ys i) → (j : ℕ) → j < p.count → get_or p.cells j 0 < n
   unfolding part_of cells_of padded

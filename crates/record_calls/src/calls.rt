@@ -1,6 +1,6 @@
 // Every call on the front whose starts are records, in the form of the plain calls: only judging, placing and clearing differ.
 ghost use Rattle.std.specs.Prelude.{length};
-ghost use Rattle.eikonal.specs.Refusals.{by-records};
+ghost use Rattle.eikonal.specs.Refusals.{by_records};
 ghost use Rattle.eikonal.specs.Ledger.{call};
 ghost use Rattle.eikonal.specs.Entry.{lent, Counts};
 
@@ -20,7 +20,7 @@ pub fn play_records(
     sides: &mut [u8],
     work: &mut [u32],
 ) -> Reply
-    ensures { Counts (call (by-records width height storeys slow.now starts.now) job order.now
+    ensures { Counts (call (by_records width height storeys slow.now starts.now) job order.now
         (length sides.old) (length work.old)) own
         result (lent times.old sides.old work.old) (lent times.new sides.new work.new) }
 {

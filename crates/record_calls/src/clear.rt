@@ -1,6 +1,6 @@
 // The sides of records cleared, a part at a time.
 ghost use Rattle.std.specs.Prelude.{◌≡◌, ℕ, ◌≤◌, ◌<◌, length, get_or, take};
-ghost use Rattle.eikonal.specs.Refusals.{starts-of};
+ghost use Rattle.eikonal.specs.Refusals.{starts_of};
 ghost use Rattle.engine.specs.Calls.{Clearable, Clear};
 ghost use Rattle.sides.specs.Clear.{Cleared};
 
@@ -13,7 +13,7 @@ use records::parts::Part;
 fn clear_part(part: Part, times: &[u32], sides: &mut [u8])
     requires { (part.count ≤ length part.cells) × (part.count ≤ length part.begins) × (length sides.old ≡ length times.now)
         × (length times.now ≤ 65536) × ((i : ℕ) → i < part.count → get_or part.cells i 0 < length times.now) }
-    ensures { Cleared (starts-of (take part.count part.cells) (take part.count part.begins)) times.now
+    ensures { Cleared (starts_of (take part.count part.cells) (take part.count part.begins)) times.now
         sides.old sides.new }
 {
     let count = part.count;

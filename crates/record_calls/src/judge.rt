@@ -1,7 +1,7 @@
 // Records judged, a part at a time.
 ghost use Rattle.std.specs.Prelude.{◌≡◌, ◌≤◌, length, take};
-ghost use Rattle.eikonal.specs.Refusals.{starts-of};
-ghost use Rattle.refusals.specs.Judge.{judge, nothing-judged, Countable};
+ghost use Rattle.eikonal.specs.Refusals.{starts_of};
+ghost use Rattle.refusals.specs.Judge.{judge, nothing_judged, Countable};
 
 use eikonal::Start;
 use records::parts::Part;
@@ -9,7 +9,7 @@ use refusals::board::{Judged, judge_starts, nothing_judged};
 
 fn judge_part(slow: &[u32], part: Part, so_far: Judged) -> Judged
     requires { (part.count ≤ length part.cells) × (part.count ≤ length part.begins) × Countable part.count so_far }
-    ensures { result ≡ judge slow.now (starts-of (take part.count part.cells) (take part.count part.begins)) so_far }
+    ensures { result ≡ judge slow.now (starts_of (take part.count part.cells) (take part.count part.begins)) so_far }
 {
     let count = part.count;
     let cells = part.cells;
@@ -18,7 +18,7 @@ fn judge_part(slow: &[u32], part: Part, so_far: Judged) -> Judged
 }
 
 pub fn judge_records(slow: &[u32], starts: &[Start]) -> Judged
-    ensures { result ≡ judge slow.now starts.now nothing-judged }
+    ensures { result ≡ judge slow.now starts.now nothing_judged }
 {
     let mut judged = nothing_judged();
     let mut from = 0;

@@ -1,6 +1,6 @@
 // The starts of records placed, a part at a time.
 ghost use Rattle.std.specs.Prelude.{◌≡◌, cond, ℕ, ◌≤◌, ◌<◌, eqb, length, get_or, take};
-ghost use Rattle.eikonal.specs.Refusals.{starts-of};
+ghost use Rattle.eikonal.specs.Refusals.{starts_of};
 ghost use Rattle.front.specs.State.{Placed, Seeded};
 ghost use Rattle.engine.specs.Calls.{Sowable, Sown};
 
@@ -19,7 +19,7 @@ pub fn to_place(task: Task, starts: usize) -> usize
 fn seed_part(task: Task, part: Part, work: &mut [u32])
     requires { (task.shape.cells ≤ 65536) × (part.count ≤ length part.cells) × (part.count ≤ length part.begins)
         × Placed task.shape.cells work.old × ((i : ℕ) → i < part.count → get_or part.cells i 0 < task.shape.cells) }
-    ensures { Seeded task.shape.cells (starts-of (take part.count part.cells) (take part.count part.begins))
+    ensures { Seeded task.shape.cells (starts_of (take part.count part.cells) (take part.count part.begins))
         work.old work.new }
 {
     let count = part.count;

@@ -30,8 +30,8 @@ use denote.Lend.{Held, lends_slice, slice_back, lends_shr_slice}
 use denote.Index.{row, whole_out, whole_in, opens_slice, closes_slice}
 
 module _ (R : RattleType) (κ κ' : Lft) (q : Share) (γ : GName) (b o k : ℕ) where
-  abbrev at-list : GName → List R.Denot → MutBor (List R.Denot)
-  at-list δ ys = record { ref_ptr = (b, o); ghost_name = δ; now = ys }
+  abbrev at_list : GName → List R.Denot → MutBor (List R.Denot)
+  at_list δ ys = record { ref_ptr = (b, o); ghost_name = δ; now = ys }
 
   abbrev vals : List Val
   vals = slice_val (b, o) k ∷ []
@@ -49,52 +49,52 @@ module _ (R : RattleType) (κ κ' : Lft) (q : Share) (γ : GName) (b o k : ℕ) 
   module _ {M : Type 1} {𝓤 : Ura M} (𝓛 : Logic 𝓤) (ℓ ℓ' : Lifetime) (ys : List R.Denot) where
     open 𝓛 use {H, A}
 
-    pub lends_again : ent 𝓤 (sep 𝓤 (sem 𝓛 ((MutSlice ℓ κ R).own_val (at-list γ ys) vals)) (A.lft κ q))
-        (H.⇛ (ex 𝓤 (λ (γ₁ : GName). sep 𝓤 (sem 𝓛 ((MutSlice ℓ' κ' R).own_val (at-list γ₁ ys) vals)) (sem 𝓛 (LentAgain γ₁ ys)))))
+    pub lends_again : ent 𝓤 (sep 𝓤 (sem 𝓛 ((MutSlice ℓ κ R).own_val (at_list γ ys) vals)) (A.lft κ q))
+        (H.⇛ (ex 𝓤 (λ (γ₁ : GName). sep 𝓤 (sem 𝓛 ((MutSlice ℓ' κ' R).own_val (at_list γ₁ ys) vals)) (sem 𝓛 (LentAgain γ₁ ys)))))
     lends_again =
-        qed 𝓛 (‵ ((MutSlice ℓ κ R).own_val (at-list γ ys) vals) ∷ ‵ (flft κ q) ∷ []) ∵ updating ! $ fsplit ! $ pure_l ! (mut_slice_at R (at-list γ ys) vals) (λ p. fsplit
+        qed 𝓛 (‵ ((MutSlice ℓ κ R).own_val (at_list γ ys) vals) ∷ ‵ (flft κ q) ∷ []) ∵ updating ! $ fsplit ! $ pure_l ! (mut_slice_at R (at_list γ ys) vals) (λ p. fsplit
         ! $ opens_slice ! tt R ys b o $
         use1 𝓛 (‵ (cells (mem R) ys b o)) (whole_in 𝓛 R ys b o) $
-        use1 𝓛 (later (some (λ (γ₁ : GName). ‵ ((MutSlice ℓ' κ' R).own_val (at-list γ₁ ys) (slice_val (b, o) (length ys) ∷ [])) ⊛ ‵
+        use1 𝓛 (later (some (λ (γ₁ : GName). ‵ ((MutSlice ℓ' κ' R).own_val (at_list γ₁ ys) (slice_val (b, o) (length ys) ∷ [])) ⊛ ‵
         (flent κ' (Held R (length ys) b o γ₁))))) (lends_slice 𝓛 R ℓ' κ' ys b o p.1) $ await ! tt $ pick ! (λ γ₁. split ! $
-        rewrite ! 0 (λ (us : List Val). ‵ ((MutSlice ℓ' κ' R).own_val (at-list γ₁ ys) us)) (sym p.0) refl $
+        rewrite ! 0 (λ (us : List Val). ‵ ((MutSlice ℓ' κ' R).own_val (at_list γ₁ ys) us)) (sym p.0) refl $
         -- [the new slice; the lender's part at κ'; the open borrow at κ; obs γ; auth γ]
-        at_once ! $ show ! (λ (γ' : GName). sep 𝓤 (sem 𝓛 ((MutSlice ℓ' κ' R).own_val (at-list γ' ys) vals)) (sem 𝓛 (LentAgain γ' ys))) γ₁ $ frame ! $
+        at_once ! $ show ! (λ (γ' : GName). sep 𝓤 (sem 𝓛 ((MutSlice ℓ' κ' R).own_val (at_list γ' ys) vals)) (sem 𝓛 (LentAgain γ' ys))) γ₁ $ frame ! $
         move ! (2 ∷ 3 ∷ []) $ fjoin ! $ move ! (2 ∷ 0 ∷ []) $ fjoin ! $ move ! (1 ∷ 0 ∷ []) $ fjoin ! $ done !))
 
-    pub lends_shared : ent 𝓤 (sep 𝓤 (sem 𝓛 ((MutSlice ℓ κ R).own_val (at-list γ ys) vals)) (A.lft κ q))
-        (H.⇛ (ex 𝓤 (λ (γ₁ : GName). sep 𝓤 (sem 𝓛 ((ShrSlice ℓ' κ' R).own_val (at-list γ₁ ys) vals)) (sem 𝓛 (LentShared ys)))))
+    pub lends_shared : ent 𝓤 (sep 𝓤 (sem 𝓛 ((MutSlice ℓ κ R).own_val (at_list γ ys) vals)) (A.lft κ q))
+        (H.⇛ (ex 𝓤 (λ (γ₁ : GName). sep 𝓤 (sem 𝓛 ((ShrSlice ℓ' κ' R).own_val (at_list γ₁ ys) vals)) (sem 𝓛 (LentShared ys)))))
     lends_shared =
-        qed 𝓛 (‵ ((MutSlice ℓ κ R).own_val (at-list γ ys) vals) ∷ ‵ (flft κ q) ∷ []) ∵ updating ! $ fsplit ! $ pure_l ! (shr_slice_at R (at-list γ ys) vals) (λ p. fsplit
+        qed 𝓛 (‵ ((MutSlice ℓ κ R).own_val (at_list γ ys) vals) ∷ ‵ (flft κ q) ∷ []) ∵ updating ! $ fsplit ! $ pure_l ! (shr_slice_at R (at_list γ ys) vals) (λ p. fsplit
         ! $ opens_slice ! tt R ys b o $ feq_i ! ℕ (length ys) (length ys) refl $ fjoin ! $
-        use1 𝓛 (later (some (λ (γ₁ : GName). ‵ ((ShrSlice ℓ' κ' R).own_val (at-list γ₁ ys) (slice_val (b, o) (length ys) ∷ [])) ⊛ ‵
+        use1 𝓛 (later (some (λ (γ₁ : GName). ‵ ((ShrSlice ℓ' κ' R).own_val (at_list γ₁ ys) (slice_val (b, o) (length ys) ∷ [])) ⊛ ‵
         (flent κ' ((arr_parts (shares R) (length ys)).part full_share ys b o))))) (lends_shr_slice 𝓛 R ℓ' κ' full_share ys b o p.1) $ await ! tt $ pick !
-        (λ γ₁. split ! $ rewrite ! 0 (λ (us : List Val). ‵ ((ShrSlice ℓ' κ' R).own_val (at-list γ₁ ys) us)) (sym p.0) refl $
+        (λ γ₁. split ! $ rewrite ! 0 (λ (us : List Val). ‵ ((ShrSlice ℓ' κ' R).own_val (at_list γ₁ ys) us)) (sym p.0) refl $
         -- [the shared slice; the lender's part at κ'; the open borrow at κ; obs γ; auth γ]
-        at_once ! $ show ! (λ (γ' : GName). sep 𝓤 (sem 𝓛 ((ShrSlice ℓ' κ' R).own_val (at-list γ' ys) vals)) (sem 𝓛 (LentShared ys))) γ₁ $ frame ! $
+        at_once ! $ show ! (λ (γ' : GName). sep 𝓤 (sem 𝓛 ((ShrSlice ℓ' κ' R).own_val (at_list γ' ys) vals)) (sem 𝓛 (LentShared ys))) γ₁ $ frame ! $
         move ! (2 ∷ 3 ∷ []) $ fjoin ! $ move ! (2 ∷ 0 ∷ []) $ fjoin ! $ move ! (1 ∷ 0 ∷ []) $ fjoin ! $ done !))
 
     -- the open borrow is closed at zs
     closes : (zs : List R.Denot) → Room R k → length zs ≡ length ys → length zs ≡ k
         → ent 𝓤 (sep 𝓤 (sem 𝓛 (row R full_share zs b o)) (sem 𝓛 (Opened ys))) (H.⇛ (sep 𝓤
-        (sem 𝓛 ((MutSlice ℓ κ R).own_val (at-list γ zs) vals)) (A.lft κ q)))
+        (sem 𝓛 ((MutSlice ℓ κ R).own_val (at_list γ zs) vals)) (A.lft κ q)))
     closes zs room e e' =
         qed 𝓛 (‵ (row R full_share zs b o) ∷ ‵ (Opened ys) ∷ []) ∵ updating ! $ move ! (1 ∷ []) $ fsplit ! $ move ! (1 ∷ []) $ fsplit ! $
         move ! (3 ∷ 2 ∷ 0 ∷ 1 ∷ []) $ closes_slice ! tt R ys zs e b o $ at_once ! $
-        fjoin ! $ pure_i ! (mut_slice_at R (at-list γ zs) vals) (tt, (tt, tt)) (ap (λ (m : ℕ). slice_val (b, o) m ∷ []) (sym e'), subst (Room R) (sym e') room) $
+        fjoin ! $ pure_i ! (mut_slice_at R (at_list γ zs) vals) (tt, (tt, tt)) (ap (λ (m : ℕ). slice_val (b, o) m ∷ []) (sym e'), subst (Room R) (sym e') room) $
         fjoin ! $ done !
 
     pub comes_back : (γ₁ : GName) (zs : List R.Denot) → Room R k → length zs ≡ length ys → length zs ≡ k
         → ent 𝓤 (sep 𝓤 (A.dead κ') (sep 𝓤 (sem 𝓛 (LentAgain γ₁ ys)) (sem 𝓛 (finally R γ₁ zs)))) (H.⇛ (sep 𝓤
-        (sem 𝓛 ((MutSlice ℓ κ R).own_val (at-list γ zs) vals)) (A.lft κ q)))
+        (sem 𝓛 ((MutSlice ℓ κ R).own_val (at_list γ zs) vals)) (A.lft κ q)))
     comes_back γ₁ zs room e e' =
         qed 𝓛 (‵ (fdead κ') ∷ ‵ (LentAgain γ₁ ys) ∷ ‵ (finally R γ₁ zs) ∷ []) ∵ updating ! $ move ! (1 ∷ []) $ fsplit ! $ move ! (2 ∷ 0 ∷ 3 ∷ []) $
         use3 𝓛 (later (‵ ((Arr (mem R) (length ys)).own_at zs b o))) (slice_back 𝓛 R κ' γ₁ zs (length ys) b o) $ await ! tt $ fsplit ! $ drop ! $ use1 𝓛
         (‵ (row R full_share zs b o)) (whole_out 𝓛 R zs b o) $
-        use2 𝓛 (later (‵ ((MutSlice ℓ κ R).own_val (at-list γ zs) vals) ⊛ ‵ (flft κ q))) (closes zs room e e') $ await ! tt $ at_once ! $ done !
+        use2 𝓛 (later (‵ ((MutSlice ℓ κ R).own_val (at_list γ zs) vals) ⊛ ‵ (flft κ q))) (closes zs room e e') $ await ! tt $ at_once ! $ done !
 
     pub shared_back : Room R k → length ys ≡ k → ent 𝓤 (sep 𝓤 (A.dead κ') (sem 𝓛 (LentShared ys))) (H.⇛ (sep 𝓤
-        (sem 𝓛 ((MutSlice ℓ κ R).own_val (at-list γ ys) vals)) (A.lft κ q)))
+        (sem 𝓛 ((MutSlice ℓ κ R).own_val (at_list γ ys) vals)) (A.lft κ q)))
     shared_back room e =
         qed 𝓛 (‵ (fdead κ') ∷ ‵ (LentShared ys) ∷ []) ∵ updating ! $ move ! (1 ∷ []) $ fsplit ! $ move ! (2 ∷ 0 ∷ []) $ lent_back ! tt $ fsplit ! $ drop ! $
-        use2 𝓛 (later (‵ ((MutSlice ℓ κ R).own_val (at-list γ ys) vals) ⊛ ‵ (flft κ q))) (closes ys room refl e) $ await ! tt $ at_once ! $ done !
+        use2 𝓛 (later (‵ ((MutSlice ℓ κ R).own_val (at_list γ ys) vals) ⊛ ‵ (flft κ q))) (closes ys room refl e) $ await ! tt $ at_once ! $ done !

@@ -3,10 +3,10 @@
 --     number       an unsigned number that is passed
 --     asked        what a function asks of its arguments, shown
 --     passes       from tokens and arguments in order, and what the function asks, to its precondition
---     calls-to     the call. Back come what it ensures, the result, what is last of its `&mut`s, and the tokens
+--     calls_to     the call. Back come what it ensures, the result, what is last of its `&mut`s, and the tokens
 --     lends        a `&mut [T]` is lent for a lifetime that begins here.        takes_back     the lifetime is ended, and the list comes back as it was left
---     lets-read    it is lent as a `&[T]`.        read-back      the lifetime is ended, and the list comes back as it was
---     shares-first     the first k numbers of a `&[T]` are had as a `&[T]` too
+--     lets_read    it is lent as a `&[T]`.        read-back      the lifetime is ended, and the list comes back as it was
+--     shares_first     the first k numbers of a `&[T]` are had as a `&[T]` too
 --     frees-full   a local that still holds a value is freed
 -- Assumes `Logic`, as each walk does.
 use mathlib.Core.Path.{◌≡◌, refl, sym, subst}
@@ -58,8 +58,8 @@ a & b = (a, b)
 module _ {M : Type 1} {𝓤 : Ura M} (𝓛 : Logic 𝓤) where
   open 𝓛 use {A}
 
-  abbrev pub contract-of : (T : Ended) → Clauses 𝓤 T → Contract 𝓤
-  contract-of T c = triple_of 𝓛 T.signature (closing 𝓛 T c)
+  abbrev pub contract_of : (T : Ended) → Clauses 𝓤 T → Contract 𝓤
+  contract_of T c = triple_of 𝓛 T.signature (closing 𝓛 T c)
 
   -- tokens and owned values, one after the other
   abbrev pub tokens : (n : ℕ) → Lfts n → Shares n → List (Item 𝓤)
@@ -70,20 +70,20 @@ module _ {M : Type 1} {𝓤 : Ura M} (𝓛 : Logic 𝓤) where
   values [] a vs = []
   values (R ∷ Rs) a vs = ‵ (R.own a.0 vs.0) ∷ values Rs a.1 vs.1
 
-  tokens-in : (n : ℕ) (κs : Lfts n) (qs : Shares n) → ent 𝓤 (⋆ 𝓛 (tokens n κs qs)) (toks 𝓛 n κs qs)
-  tokens-in zero κs qs = id⊢ 𝓤 (emp 𝓤)
-  tokens-in (suc n) κs qs = via 𝓤 _ (pop 𝓛 (‵ (flft κs.0 qs.0)) (tokens n κs.1 qs.1)) (mono_r 𝓤 (A.lft κs.0 qs.0)
-      (tokens-in n κs.1 qs.1))
+  tokens_in : (n : ℕ) (κs : Lfts n) (qs : Shares n) → ent 𝓤 (⋆ 𝓛 (tokens n κs qs)) (toks 𝓛 n κs qs)
+  tokens_in zero κs qs = id⊢ 𝓤 (emp 𝓤)
+  tokens_in (suc n) κs qs = via 𝓤 _ (pop 𝓛 (‵ (flft κs.0 qs.0)) (tokens n κs.1 qs.1)) (mono_r 𝓤 (A.lft κs.0 qs.0)
+      (tokens_in n κs.1 qs.1))
 
   tokens-out : (n : ℕ) (κs : Lfts n) (qs : Shares n) → ent 𝓤 (toks 𝓛 n κs qs) (⋆ 𝓛 (tokens n κs qs))
   tokens-out zero κs qs = id⊢ 𝓤 (emp 𝓤)
   tokens-out (suc n) κs qs = via 𝓤 _ (mono_r 𝓤 (A.lft κs.0 qs.0) (tokens-out n κs.1 qs.1)) (push 𝓛 (‵ (flft κs.0 qs.0))
       (tokens n κs.1 qs.1))
 
-  values-in : (Rs : List RattleType) (a : Denots Rs) (vs : Valss Rs) → ent 𝓤 (⋆ 𝓛 (values Rs a vs)) (sem 𝓛 (owns Rs a vs))
-  values-in [] a vs = id⊢ 𝓤 (emp 𝓤)
-  values-in (R ∷ Rs) a vs = via 𝓤 _ (pop 𝓛 (‵ (R.own a.0 vs.0)) (values Rs a.1 vs.1)) (mono_r 𝓤 (sem 𝓛 (R.own a.0 vs.0))
-      (values-in Rs a.1 vs.1))
+  values_in : (Rs : List RattleType) (a : Denots Rs) (vs : Valss Rs) → ent 𝓤 (⋆ 𝓛 (values Rs a vs)) (sem 𝓛 (owns Rs a vs))
+  values_in [] a vs = id⊢ 𝓤 (emp 𝓤)
+  values_in (R ∷ Rs) a vs = via 𝓤 _ (pop 𝓛 (‵ (R.own a.0 vs.0)) (values Rs a.1 vs.1)) (mono_r 𝓤 (sem 𝓛 (R.own a.0 vs.0))
+      (values_in Rs a.1 vs.1))
 
   values-out : (Rs : List RattleType) (a : Denots Rs) (vs : Valss Rs) → ent 𝓤 (sem 𝓛 (owns Rs a vs)) (⋆ 𝓛 (values Rs a vs))
   values-out [] a vs = id⊢ 𝓤 (emp 𝓤)
@@ -95,14 +95,14 @@ module _ {M : Type 1} {𝓤 : Ura M} (𝓛 : Logic 𝓤) where
     given = tokens S.lifetimes κs qs ++ values (types_at S.params κs) a vs
 
     entry_in : ent 𝓤 (⋆ 𝓛 given) (on_entry 𝓛 S κs qs a vs)
-    entry_in = via 𝓤 _ (⊢++ 𝓛 (tokens S.lifetimes κs qs) (values (types_at S.params κs) a vs)) (mono∗ 𝓤 (tokens-in S.lifetimes κs qs)
-        (values-in (types_at S.params κs) a vs))
+    entry_in = via 𝓤 _ (⊢++ 𝓛 (tokens S.lifetimes κs qs) (values (types_at S.params κs) a vs)) (mono∗ 𝓤 (tokens_in S.lifetimes κs qs)
+        (values_in (types_at S.params κs) a vs))
 
     pub entry : {Q : SProp 𝓤} → ent 𝓤 (⋆ 𝓛 given) Q → ent 𝓤 (on_entry 𝓛 S κs qs a vs) Q
     entry h = via 𝓤 _ (via 𝓤 _ (mono∗ 𝓤 (tokens-out S.lifetimes κs qs) (values-out (types_at S.params κs) a vs)) (++⊢ 𝓛 (tokens S.lifetimes κs qs)
         (values (types_at S.params κs) a vs))) h
 
-  module _ (T : Ended) (c : Clauses 𝓤 T) (y : (contract-of T c).Ghost) (u : Val) (r : Res T.signature y.0.0) (ws : Lasts T y.0.0 y.0.3) where
+  module _ (T : Ended) (c : Clauses 𝓤 T) (y : (contract_of T c).Ghost) (u : Val) (r : Res T.signature y.0.0) (ws : Lasts T y.0.0 y.0.3) where
     abbrev result : Item 𝓤
     result = ‵ ((type_at T.signature.result y.0.0).own_val r (u ∷ []))
 
@@ -119,15 +119,15 @@ module _ {M : Type 1} {𝓤 : Ura M} {K : Type 0} (𝓛 : Logic 𝓤) {Γ : List
   pub number : (w : Width) (n : ℕ) (v : Val) → Is (UInt w) n (v ∷ []) → Step K 𝓛 (‵ ((UInt w).own_val n (v ∷ [])) ∷ Γ) G Γ G
   number w n v is = use0 𝓛 (‵ ((UInt w).own_val n (v ∷ []))) (uint_Makes 𝓛 w n (v ∷ []) is)
 
-  pub passes : (T : Ended) (c : Clauses 𝓤 T) (y : (contract-of 𝓛 T c).Ghost) → ent 𝓤 (emp 𝓤) ((c y.0.0 y.0.3).requires y.1)
-      → Step K 𝓛 (raw ((contract-of 𝓛 T c).pre y) ∷ Γ) G (given 𝓛 T.signature y.0.0 y.0.1 y.0.3 y.0.4 ++ Γ) G
+  pub passes : (T : Ended) (c : Clauses 𝓤 T) (y : (contract_of 𝓛 T c).Ghost) → ent 𝓤 (emp 𝓤) ((c y.0.0 y.0.3).requires y.1)
+      → Step K 𝓛 (raw ((contract_of 𝓛 T c).pre y) ∷ Γ) G (given 𝓛 T.signature y.0.0 y.0.1 y.0.3 y.0.4 ++ Γ) G
   passes T c y need =
       let on : SProp 𝓤 = on_entry 𝓛 T.signature y.0.0 y.0.1 y.0.3 y.0.4 in
-      cut (given 𝓛 T.signature y.0.0 y.0.1 y.0.3 y.0.4) (raw ((contract-of 𝓛 T c).pre y) ∷ []) Γ
+      cut (given 𝓛 T.signature y.0.0 y.0.1 y.0.3 y.0.4) (raw ((contract_of 𝓛 T c).pre y) ∷ []) Γ
       (via 𝓤 on (entry_in 𝓛 T.signature y.0.0 y.0.1 y.0.3 y.0.4) (via 𝓤 _ (emp∗ 𝓤 on) (via 𝓤 _ (mono_l 𝓤 on need)
       (comm∗ 𝓤 ((c y.0.0 y.0.3).requires y.1) on))))
 
-module _ {M : Type 1} {𝓤 : Ura M} (𝓛 : Logic 𝓤) (T : Ended) (c : Clauses 𝓤 T) (y : (contract-of 𝓛 T c).Ghost) (u : Val)
+module _ {M : Type 1} {𝓤 : Ura M} (𝓛 : Logic 𝓤) (T : Ended) (c : Clauses 𝓤 T) (y : (contract_of 𝓛 T c).Ghost) (u : Val)
     (r : Res T.signature y.0.0) where
   -- what a call has left, before it is taken apart
   abbrev left : Lasts T y.0.0 y.0.3 → Item 𝓤
@@ -140,8 +140,8 @@ module _ {M : Type 1} {𝓤 : Ura M} (𝓛 : Logic 𝓤) (T : Ended) (c : Clause
   abbrev said : Lasts T y.0.0 y.0.3 → SProp 𝓤
   said ws = sep 𝓤 (sem 𝓛 (lasts T y.0.0 y.0.3 ws)) (mean 𝓛 (ensures 𝓛 T c y u r ws))
 
-  lasts-first : ent 𝓤 (sep 𝓤 kept (ex 𝓤 said)) (ex 𝓤 (λ ws. mean 𝓛 (left ws)))
-  lasts-first = via 𝓤 (sep 𝓤 (ex 𝓤 said) kept) (comm∗ 𝓤 kept (ex 𝓤 said)) (ex∗ 𝓤 said kept (λ ws. ex_i 𝓤 (λ ws'. mean 𝓛 (left ws')) ws))
+  lasts_first : ent 𝓤 (sep 𝓤 kept (ex 𝓤 said)) (ex 𝓤 (λ ws. mean 𝓛 (left ws)))
+  lasts_first = via 𝓤 (sep 𝓤 (ex 𝓤 said) kept) (comm∗ 𝓤 kept (ex 𝓤 said)) (ex∗ 𝓤 said kept (λ ws. ex_i 𝓤 (λ ws'. mean 𝓛 (left ws')) ws))
 
   taken-apart : (ws : Lasts T y.0.0 y.0.3) → ent 𝓤 (⋆ 𝓛 (left ws ∷ [])) (⋆ 𝓛 (back 𝓛 T c y u r ws))
   taken-apart ws =
@@ -157,43 +157,43 @@ module _ {M : Type 1} {𝓤 : Ura M} (𝓛 : Logic 𝓤) (T : Ended) (c : Clause
 module _ {M : Type 1} {𝓤 : Ura M} {𝓛 : Logic 𝓤} {K : Type 0} {Γ : List (Item 𝓤)} where
   open 𝓛 use {H}
 
-  called : K → (T : Ended) (c : Clauses 𝓤 T) (y : (contract-of 𝓛 T c).Ghost) (u : Val) {G : Goal 𝓤 H} → Soaks G
+  called : K → (T : Ended) (c : Clauses 𝓤 T) (y : (contract_of 𝓛 T c).Ghost) (u : Val) {G : Goal 𝓤 H} → Soaks G
       → ((r : Res T.signature y.0.0) (ws : Lasts T y.0.0 y.0.3) → Seq K 𝓛 (back 𝓛 T c y u r ws ++ Γ) G) → Seq K 𝓛
-      (raw ((contract-of 𝓛 T c).post y u) ∷ Γ) G
+      (raw ((contract_of 𝓛 T c).post y u) ∷ Γ) G
   called t T c y u z k =
       use1 𝓛 (later (some (λ (r : Res T.signature y.0.0). (raw (alive 𝓛 T.signature y.0.0 y.0.1) ⊛ ‵
       ((type_at T.signature.result y.0.0).own_val r (u ∷ []))) ⊛ raw (ensured 𝓛 T c y.0.0 y.0.3 y.1 r)))) (id⊢ 𝓤 _) $ await t z $ pick t (λ r.
-      use1 𝓛 (some (left 𝓛 T c y u r)) (lasts-first 𝓛 T c y u r) $ pick t (λ ws.
+      use1 𝓛 (some (left 𝓛 T c y u r)) (lasts_first 𝓛 T c y u r) $ pick t (λ ws.
       cut (left 𝓛 T c y u r ws ∷ []) (back 𝓛 T c y u r ws) Γ (taken-apart 𝓛 T c y u r ws) $ k r ws))
 
   module _ {E : Env 𝓤 H} {C : Calls 𝓤 H} {Λ : Loops 𝓤 H} {f : Name} {xs : List Operand} {d : Place} {q : Post 𝓤 H} where
-    pub calls-to : K → FmC 𝓤 H 𝓛.laws C → {rest : Body} (T : Ended) (c : Clauses 𝓤 T) → Triple 𝓤 (C f) (contract-of 𝓛 T c) →
-        (y : (contract-of 𝓛 T c).Ghost)
-        → Opds K 𝓛 (raw ((contract-of 𝓛 T c).pre y) ∷ Γ) E xs ((contract-of 𝓛 T c).args y)
+    pub calls_to : K → FmC 𝓤 H 𝓛.laws C → {rest : Body} (T : Ended) (c : Clauses 𝓤 T) → Triple 𝓤 (C f) (contract_of 𝓛 T c) →
+        (y : (contract_of 𝓛 T c).Ghost)
+        → Opds K 𝓛 (raw ((contract_of 𝓛 T c).pre y) ∷ Γ) E xs ((contract_of 𝓛 T c).args y)
         → ((u : Val) (r : Res T.signature y.0.0) (ws : Lasts T y.0.0 y.0.3) → Seq K 𝓛 (back 𝓛 T c y u r ws ++ Γ) (lands C Λ E d u rest q))
-        → Seq K 𝓛 (raw ((contract-of 𝓛 T c).pre y) ∷ Γ) (runs C Λ E (seq (call f xs d) rest) q)
-    calls-to t fm T c known y os k = calls_at t fm (contract-of 𝓛 T c) known y os (λ u. called t T c y u tt (k u))
+        → Seq K 𝓛 (raw ((contract_of 𝓛 T c).pre y) ∷ Γ) (runs C Λ E (seq (call f xs d) rest) q)
+    calls_to t fm T c known y os k = calls_at t fm (contract_of 𝓛 T c) known y os (λ u. called t T c y u tt (k u))
 
 -- ---- a `&κ mut [T]` s, whose machine value has the count k, at the list ys: lent for a lifetime ν of a call, under the name ε, and back
-abbrev pub named-so : {X : Type 0} → MutBor X → GName → X → MutBor X
-named-so s ε ys = record { ref_ptr = s.ptr; ghost_name = ε; now = ys }
+abbrev pub named_so : {X : Type 0} → MutBor X → GName → X → MutBor X
+named_so s ε ys = record { ref_ptr = s.ptr; ghost_name = ε; now = ys }
 
 module _ (R : RattleType) (κ : Lft) (q : Share) (s : MutBor (List R.Denot)) (k : ℕ) where
   abbrev mine : List R.Denot → Fml
-  mine ys = (MutSlice (named 0) κ R).own_val (named-so s s.ghost_name ys) (slice_val s.ref_ptr k ∷ [])
+  mine ys = (MutSlice (named 0) κ R).own_val (named_so s s.ghost_name ys) (slice_val s.ref_ptr k ∷ [])
 
   abbrev theirs : ℕ → GName → List R.Denot → Fml
-  theirs ν ε ys = (MutSlice (named 0) (ν ∷ []) R).own_val (named-so s ε ys) (slice_val s.ptr k ∷ [])
+  theirs ν ε ys = (MutSlice (named 0) (ν ∷ []) R).own_val (named_so s ε ys) (slice_val s.ptr k ∷ [])
 
   abbrev held : ℕ → GName → List R.Denot → Fml
   held ν ε ys = LentAgain R κ (ν ∷ []) q s.name s.ptr.0 s.ptr.1 k ε ys
 
   -- the same as a `&[T]`
   abbrev read : ℕ → GName → List R.Denot → Fml
-  read ν ε ys = (ShrSlice (named 0) (ν ∷ []) R).own_val (named-so s ε ys) (slice_val s.ptr k ∷ [])
+  read ν ε ys = (ShrSlice (named 0) (ν ∷ []) R).own_val (named_so s ε ys) (slice_val s.ptr k ∷ [])
 
-  abbrev held-read : ℕ → List R.Denot → Fml
-  held-read ν ys = LentShared R κ (ν ∷ []) q s.name s.ptr.0 s.ptr.1 k ys
+  abbrev held_read : ℕ → List R.Denot → Fml
+  held_read ν ys = LentShared R κ (ν ∷ []) q s.name s.ptr.0 s.ptr.1 k ys
 
 module _ {M : Type 1} {𝓤 : Ura M} {𝓛 : Logic 𝓤} {K : Type 0} {Γ : List (Item 𝓤)} {G : Goal 𝓤 𝓛.H} where
   pub lends : K → Soaks G → (R : RattleType) (κ : Lft) (q : Share) (s : MutBor (List R.Denot)) (k : ℕ) (ys : List R.Denot)
@@ -213,18 +213,18 @@ module _ {M : Type 1} {𝓤 : Ura M} {𝓛 : Logic 𝓤} {K : Type 0} {Γ : List
       use3 𝓛 (later (‵ (mine R κ q s k zs) ⊛ ‵ (flft κ q))) (comes_back R κ (ν ∷ []) q s.ghost_name s.ref_ptr.0 s.ref_ptr.1 k 𝓛 (named 0) (named 0) ys ε zs
       room e e') $ await t z $ split t $ go)
 
-  pub lets-read : K → Soaks G → (R : RattleType) (κ : Lft) (q : Share) (s : MutBor (List R.Denot)) (k : ℕ) (ys : List R.Denot)
-      → ((ν : ℕ) (ε : GName) → Seq K 𝓛 (‵ (flft (ν ∷ []) full_share) ∷ ‵ (read R κ q s k ν ε ys) ∷ ‵ (held-read R κ q s k ν ys) ∷ Γ) G) → Seq K 𝓛
+  pub lets_read : K → Soaks G → (R : RattleType) (κ : Lft) (q : Share) (s : MutBor (List R.Denot)) (k : ℕ) (ys : List R.Denot)
+      → ((ν : ℕ) (ε : GName) → Seq K 𝓛 (‵ (flft (ν ∷ []) full_share) ∷ ‵ (read R κ q s k ν ε ys) ∷ ‵ (held_read R κ q s k ν ys) ∷ Γ) G) → Seq K 𝓛
       (‵ (mine R κ q s k ys) ∷ ‵ (flft κ q) ∷ Γ) G
-  lets-read t z R κ q s k ys go =
+  lets_read t z R κ q s k ys go =
       lft_new t z (λ ν. move t (1 ∷ 2 ∷ []) $
-      use2 𝓛 (later (some (λ (ε : GName). ‵ (read R κ q s k ν ε ys) ⊛ ‵ (held-read R κ q s k ν ys)))) (lends_shared R κ (ν ∷ []) q s.ghost_name s.ref_ptr.0
+      use2 𝓛 (later (some (λ (ε : GName). ‵ (read R κ q s k ν ε ys) ⊛ ‵ (held_read R κ q s k ν ys)))) (lends_shared R κ (ν ∷ []) q s.ghost_name s.ref_ptr.0
       s.ref_ptr.1 k 𝓛 (named 0) (named 0) ys) $ await t z $ pick t (λ ε.
       split t $ move t (2 ∷ []) $ go ν ε))
 
   pub read_back : K → Soaks G → (R : RattleType) (κ : Lft) (q : Share) (s : MutBor (List R.Denot)) (k : ℕ) (ν : ℕ) (ys : List R.Denot) → Room R k
       → length ys ≡ k
-      → Step K 𝓛 (‵ (mine R κ q s k ys) ∷ ‵ (flft κ q) ∷ Γ) G (‵ (flft (ν ∷ []) full_share) ∷ ‵ (held-read R κ q s k ν ys) ∷ Γ) G
+      → Step K 𝓛 (‵ (mine R κ q s k ys) ∷ ‵ (flft κ q) ∷ Γ) G (‵ (flft (ν ∷ []) full_share) ∷ ‵ (held_read R κ q s k ν ys) ∷ Γ) G
   read_back t z R κ q s k ν ys room e =
       step (λ go. lft_end t z $
       use2 𝓛 (later (‵ (mine R κ q s k ys) ⊛ ‵ (flft κ q))) (shared_back R κ (ν ∷ []) q s.ghost_name s.ref_ptr.0 s.ref_ptr.1 k 𝓛 (named 0) (named 0) ys
@@ -255,13 +255,13 @@ module _ {M : Type 1} {𝓤 : Ura M} {K : Type 0} (𝓛 : Logic 𝓤) {Γ : List
   module _ (𝓣 : Tables 𝓤 H) (T : Ended) (c : Clauses 𝓤 T) (κs : Lfts T.signature.lifetimes) (qs : Shares T.signature.lifetimes)
       (bounds : AllOutlive T.signature.lifetimes T.signature.outlives κs) (a : Args T.signature κs) (vs : Vals T.signature κs) (g : (c κs a).ghost)
     where
-      pub calls : K → {E : Env 𝓤 H} {f : Name} {xs : List Operand} {d : Place} {q : Post 𝓤 H} {rest : Body} → Triple 𝓤 (𝓣.C f) (contract-of 𝓛 T c) → ent 𝓤
+      pub calls : K → {E : Env 𝓤 H} {f : Name} {xs : List Operand} {d : Place} {q : Post 𝓤 H} {rest : Body} → Triple 𝓤 (𝓣.C f) (contract_of 𝓛 T c) → ent 𝓤
           (emp 𝓤) ((c κs a).requires g)
-          → Opds K 𝓛 (raw ((contract-of 𝓛 T c).pre ((κs, qs, bounds, a, vs), g)) ∷ Γ) E xs ((contract-of 𝓛 T c).args ((κs, qs, bounds, a, vs), g))
+          → Opds K 𝓛 (raw ((contract_of 𝓛 T c).pre ((κs, qs, bounds, a, vs), g)) ∷ Γ) E xs ((contract_of 𝓛 T c).args ((κs, qs, bounds, a, vs), g))
           → ((u : Val) (r : Res T.signature κs) (ws : Lasts T κs a) → Seq K 𝓛 (back 𝓛 T c ((κs, qs, bounds, a, vs), g) u r ws ++ Γ)
           (lands 𝓣.C 𝓣.Λ E d u rest q))
           → Seq K 𝓛 (given 𝓛 T.signature κs qs a vs ++ Γ) (runs 𝓣.C 𝓣.Λ E (seq (call f xs d) rest) q)
-      calls t known need os k = passes 𝓛 T c ((κs, qs, bounds, a, vs), g) need $ calls-to t (fm_of 𝓤 H 𝓛.laws 𝓣) T c known ((κs, qs, bounds, a, vs), g) os k
+      calls t known need os k = passes 𝓛 T c ((κs, qs, bounds, a, vs), g) need $ calls_to t (fm_of 𝓤 H 𝓛.laws 𝓣) T c known ((κs, qs, bounds, a, vs), g) os k
 
 module _ {M : Type 1} {𝓤 : Ura M} {𝓛 : Logic 𝓤} {K : Type 0} {Γ : List (Item 𝓤)} {G : Goal 𝓤 𝓛.H} where
   -- a token in two, for a lifetime that a call is given twice, and whole again
@@ -272,12 +272,12 @@ module _ {M : Type 1} {𝓤 : Ura M} {𝓛 : Logic 𝓤} {K : Type 0} {Γ : List
   rejoins t κ q = cut (‵ (flft κ (PosShare.left q)) ∷ ‵ (flft κ (PosShare.right q)) ∷ []) (‵ (flft κ q) ∷ []) Γ (𝓛.lfts.lft_join κ q)
 
   -- the first k numbers of a `&κ [T]` s are a `&κ [T]` too, under a name ε; s stays
-  pub shares-first : K → Soaks G → (w : Width) (κ : Lft) (q : Share) (s : Bor (List ℕ)) (k : ℕ)
-      → ((ε : GName) → Seq K 𝓛 (‵ ((ShrSlice (named 0) κ (UInt w)).own_val (named-so s ε (take k s.now)) (shr_slice_vals (named-so s ε (take k s.now)))) ∷ ‵
+  pub shares_first : K → Soaks G → (w : Width) (κ : Lft) (q : Share) (s : Bor (List ℕ)) (k : ℕ)
+      → ((ε : GName) → Seq K 𝓛 (‵ ((ShrSlice (named 0) κ (UInt w)).own_val (named_so s ε (take k s.now)) (shr_slice_vals (named_so s ε (take k s.now)))) ∷ ‵
       (flft κ q) ∷ ‵ ((ShrSlice (named 0) κ (UInt w)).own_val s (shr_slice_vals s)) ∷ Γ) G) → Seq K 𝓛
       (‵ ((ShrSlice (named 0) κ (UInt w)).own_val s (shr_slice_vals s)) ∷ ‵ (flft κ q) ∷ Γ) G
-  shares-first t z w κ q s k go =
-      let first : GName → Bor (List ℕ) = λ ε. named-so s ε (take k s.now) in
+  shares_first t z w κ q s k go =
+      let first : GName → Bor (List ℕ) = λ ε. named_so s ε (take k s.now) in
       shares 𝓛 (UInt w) κ s 0 refl $ fsplit t $ fsplit t $ toss t $ fjoin t $ move t (0 ∷ 2 ∷ []) $
       use2 𝓛 (later (some (λ (ε : GName). ‵ ((Shared erased κ (UInt w)).own (first ε)) ⊛ ‵ (flft κ q)))) (shs_prefix_same 𝓛 (UInt w) κ q s.ref_ptr.0
       (halved 𝓛 (c_rf (f_int w))) s.ref_ptr.1 s.ghost_name s.now k) $ await t z $ pick t (λ ε. split t $
@@ -320,12 +320,12 @@ module _ {M : Type 1} {𝓤 : Ura M} (𝓛 : Logic 𝓤) where
     hads [] ks hs a ws vs = []
     hads (s ∷ ss) ks hs a ws vs = ‵ (hs.0.has κs a.0 ws.0 vs.0) ∷ hads ss ks.1 hs.1 a.1 ws.1 vs.1
 
-    hads-in : (ss : List (Slot n)) (ks : Kepts ss) (hs : Stays ss ks) (a : Denots (types_at ss κs)) (ws : Fins κs ss ks a) (vs : Valss (types_at ss κs))
+    hads_in : (ss : List (Slot n)) (ks : Kepts ss) (hs : Stays ss ks) (a : Denots (types_at ss κs)) (ws : Fins κs ss ks a) (vs : Valss (types_at ss κs))
         → ent 𝓤 (⋆ 𝓛 (hads ss ks hs a ws vs)) (sem 𝓛 (has_of κs ss ks hs a ws vs))
-    hads-in [] ks hs a ws vs = id⊢ 𝓤 (emp 𝓤)
-    hads-in (s ∷ ss) ks hs a ws vs =
+    hads_in [] ks hs a ws vs = id⊢ 𝓤 (emp 𝓤)
+    hads_in (s ∷ ss) ks hs a ws vs =
         via 𝓤 _ (pop 𝓛 (‵ (hs.0.has κs a.0 ws.0 vs.0)) (hads ss ks.1 hs.1 a.1 ws.1 vs.1))
-        (mono_r 𝓤 (sem 𝓛 (hs.0.has κs a.0 ws.0 vs.0)) (hads-in ss ks.1 hs.1 a.1 ws.1 vs.1))
+        (mono_r 𝓤 (sem 𝓛 (hs.0.has κs a.0 ws.0 vs.0)) (hads_in ss ks.1 hs.1 a.1 ws.1 vs.1))
 
   module _ (T : Ended) (hs : Stays T.signature.params T.kept) (c : Clauses 𝓤 T) (y : (walk_of 𝓛 T hs c).Ghost) (u : Val)
       (r : Res T.signature y.0.0) (ws : Lasts T y.0.0 y.0.3) where
@@ -345,8 +345,8 @@ module _ {M : Type 1} {𝓤 : Ura M} (𝓛 : Logic 𝓤) where
         via 𝓤 (sep 𝓤 o (sep 𝓤 l h))
         (via 𝓤 _ (pop 𝓛 (‵ ((type_at T.signature.result y.0.0).own_val r (u ∷ []))) (ts ++ had))
         (mono_r 𝓤 o (via 𝓤 _ (⊢++ 𝓛 ts had)
-        (mono∗ 𝓤 (tokens-in 𝓛 T.signature.lifetimes y.0.0 y.0.1)
-        (hads-in y.0.0 T.signature.params T.kept hs y.0.3 ws y.0.4)))))
+        (mono∗ 𝓤 (tokens_in 𝓛 T.signature.lifetimes y.0.0 y.0.1)
+        (hads_in y.0.0 T.signature.params T.kept hs y.0.3 ws y.0.4)))))
         (via 𝓤 (sep 𝓤 l (sep 𝓤 h o)) (via 𝓤 _ (comm∗ 𝓤 o (sep 𝓤 l h)) (assoc∗ 𝓤 l h o))
         (via 𝓤 (sep 𝓤 (sep 𝓤 l (sep 𝓤 h o)) e)
         (via 𝓤 _ (emp∗ 𝓤 (sep 𝓤 l (sep 𝓤 h o))) (via 𝓤 _ (mono_l 𝓤 (sep 𝓤 l (sep 𝓤 h o)) ensures) (comm∗ 𝓤 e (sep 𝓤 l (sep 𝓤 h o)))))

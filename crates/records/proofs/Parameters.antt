@@ -1,7 +1,7 @@
 -- The parameters of a function whose MIR is walked: for each its slot, what is had of it at exit with the law of that, and its machine values.
 --     number           an unsigned number;      by_value     a struct or an enum
 --     shared           a `&[T]`
---     given-up         a `&mut [T]` that the function passes on for good: its last list is had;        kept      one that it still has at exit
+--     given_up         a `&mut [T]` that the function passes on for good: its last list is had;        kept      one that it still has at exit
 --     stays, go, spells, tell      these of a list of parameters, as `walked` and `meets` ask for them
 use mathlib.Core.Path.{◌≡◌, refl}
 use mathlib.Core.List.{List, [], ◌∷◌}
@@ -59,8 +59,8 @@ module _ {n : ℕ} where
       tells = λ κs. shr_slice_Tells (name_of (j ∷ [])) (meet_at n (j ∷ []) ok κs) R;
     }
 
-    abbrev pub given-up : Param n
-    given-up = record {
+    abbrev pub given_up : Param n
+    given_up = record {
       slot = mut_slice_of (j ∷ []) ok (plain (λ _. R));
       stay = gave_slice (j ∷ []) ok (plain (λ _. R));
       goes = λ 𝓛. Goes-gave_slice 𝓛 n j ok (plain (λ _. R));

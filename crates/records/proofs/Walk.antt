@@ -72,7 +72,7 @@ use lib.ListN.{length-replicate}
 use types.Kit.{Goal, Seq, allocs}
 use denote.Shadow.{shadow}
 use denote.Array.{each}
-use Rattle.records.proofs.Split.{zeros, zeros-are}
+use Rattle.records.proofs.Split.{zeros, zeros_are}
 use mir.Syntax.{Local, local, skip, assign, block, cond, switch, exit, return, call}
 
 -- the statements after the first, and after the first k
@@ -93,10 +93,10 @@ after zero c = c
 after (suc k) c = after k (behind c)
 
 -- locals at blocks
-abbrev pub env-of : List Local → List ℕ → List (Ty × ℕ)
-env-of [] bs = []
-env-of (local τ h ∷ ls) [] = []
-env-of (local τ h ∷ ls) (b ∷ bs) = (τ, b) ∷ env-of ls bs
+abbrev pub env_of : List Local → List ℕ → List (Ty × ℕ)
+env_of [] bs = []
+env_of (local τ h ∷ ls) [] = []
+env_of (local τ h ∷ ls) (b ∷ bs) = (τ, b) ∷ env_of ls bs
 
 -- all locals are allocated at once
 module _ {M : Type 1} {𝓤 : Ura M} (K : Type 0) (𝓛 : Logic 𝓤) where
@@ -121,34 +121,34 @@ next-part i n l g = record { fits = lt_of_le_of_lt (omega (arith, l, g)) (lit< {
 abbrev pub A256 : RattleType
 A256 = Array u32 256
 
-abbrev pub array-ty : Ty
-array-ty = ty_array (ty_int w32) 256
+abbrev pub array_ty : Ty
+array_ty = ty_array (ty_int w32) 256
 
 abbrev pub zero_val : Val
 zero_val = array_val (replicate 256 (vint w32 0))
 
-abbrev pub array-val : List ℕ → Val
-array-val xs = only (array_vals (uint_vals w32) xs)
+abbrev pub array_val : List ℕ → Val
+array_val xs = only (array_vals (uint_vals w32) xs)
 
 module _ {M : Type 1} {𝓤 : Ura M} (𝓛 : Logic 𝓤) where
   open 𝓛 use {H}
 
-  pub array-fits : (xs : List ℕ) (v : Val) → Is A256 xs (v ∷ []) → Holds (has_ty array-ty v) × WT v
-  array-fits xs v is = (Array-Typed u32 (uint_Lawful 𝓛 w32).typed 256 xs (v ∷ []) is).0
+  pub array_fits : (xs : List ℕ) (v : Val) → Is A256 xs (v ∷ []) → Holds (has_ty array_ty v) × WT v
+  array_fits xs v is = (Array-Typed u32 (uint_Lawful 𝓛 w32).typed 256 xs (v ∷ []) is).0
 
   -- an array of zeros is a row of entries
   each-zero : (n : ℕ) → shadow (each ℕ u32.own_val (replicate n 0) (replicate n (vint w32 0)))
   each-zero zero = tt
   each-zero (suc n) = ((refl, lit< tt), each-zero n)
 
-  zeros-fit : (n : ℕ) → Holds (has_ty (ty_array (ty_int w32) n) (array_val (replicate n (vint w32 0)))) × WT (array_val (replicate n (vint w32 0)))
-  zeros-fit n = (Array-Typed u32 (uint_Lawful 𝓛 w32).typed n (replicate n 0) (array_val (replicate n (vint w32 0)) ∷ [])
+  zeros_fit : (n : ℕ) → Holds (has_ty (ty_array (ty_int w32) n) (array_val (replicate n (vint w32 0)))) × WT (array_val (replicate n (vint w32 0)))
+  zeros_fit n = (Array-Typed u32 (uint_Lawful 𝓛 w32).typed n (replicate n 0) (array_val (replicate n (vint w32 0)) ∷ [])
       (replicate n (vint w32 0), ((refl, length-replicate n 0), each-zero n))).0
 
-  zeros-lie : (n b : ℕ) → ent 𝓤 (H.at full_share (ty_array (ty_int w32) n) b 0 (array_val (replicate n (vint w32 0))))
+  zeros_lie : (n b : ℕ) → ent 𝓤 (H.at full_share (ty_array (ty_int w32) n) b 0 (array_val (replicate n (vint w32 0))))
       (sem 𝓛 (row u32 full_share (replicate n 0) b 0))
   unfolding part_of
-  zeros-lie n b =
+  zeros_lie n b =
       qed 𝓛 (‵ (fat full_share (ty_array (ty_int w32) n) b 0 (array_val (replicate n (vint w32 0)))) ∷ []) ∵
       owned ! u32 (Is u32) (uint_Makes 𝓛 w32) 0 (vint w32 0 ∷ []) (refl, lit< tt) $
       use1 𝓛 (‵ ((Array u32 n).own_val (replicate n 0) (array_val (replicate n (vint w32 0)) ∷ []))) (Array-repeat 𝓛 u32 (uint_copy 𝓛 w32) n 0
@@ -158,17 +158,17 @@ module _ {M : Type 1} {𝓤 : Ura M} (𝓛 : Logic 𝓤) where
       use1 𝓛 (‵ ((arr_parts (shares u32) n).part full_share (replicate n 0) b 0)) (Array-apart 𝓛 u32 full_share tt n (replicate n 0) b 0) $ fsplit ! $ toss !
       $ done !
 
-  pub zeros-typed : Holds (has_ty array-ty zero_val) × WT zero_val
-  zeros-typed = zeros-fit 256
+  pub zeros_typed : Holds (has_ty array_ty zero_val) × WT zero_val
+  zeros_typed = zeros_fit 256
 
-  pub zeros-in : (b : ℕ) → ent 𝓤 (H.at full_share array-ty b 0 zero_val) (sem 𝓛 (row u32 full_share zeros b 0))
-  zeros-in b = subst (λ (zs : List ℕ). ent 𝓤 (H.at full_share array-ty b 0 zero_val) (sem 𝓛 (row u32 full_share zs b 0))) (sym zeros-are) (zeros-lie 256 b)
+  pub zeros_in : (b : ℕ) → ent 𝓤 (H.at full_share array_ty b 0 zero_val) (sem 𝓛 (row u32 full_share zeros b 0))
+  zeros_in b = subst (λ (zs : List ℕ). ent 𝓤 (H.at full_share array_ty b 0 zero_val) (sem 𝓛 (row u32 full_share zs b 0))) (sym zeros_are) (zeros_lie 256 b)
 
   -- and a row of entries is read whole
-  pub array-out : (xs : List ℕ) (b : ℕ) → length xs ≡ 256 → ent 𝓤 (sem 𝓛 (row u32 full_share xs b 0)) (sep 𝓤 (H.at full_share array-ty b 0 (array-val xs))
-      (sem 𝓛 (A256.own xs (array-val xs ∷ []))))
+  pub array_out : (xs : List ℕ) (b : ℕ) → length xs ≡ 256 → ent 𝓤 (sem 𝓛 (row u32 full_share xs b 0)) (sep 𝓤 (H.at full_share array_ty b 0 (array_val xs))
+      (sem 𝓛 (A256.own xs (array_val xs ∷ []))))
   unfolding part_of
-  array-out xs b e =
+  array_out xs b e =
       qed 𝓛 (‵ (row u32 full_share xs b 0) ∷ []) ∵ feq_i ! ℕ (length xs) 256 e $ fjoin ! $
       use1 𝓛 (‵ (part_at A256 full_share xs b 0)) (Array-whole 𝓛 u32 full_share 256 xs b 0) $ fpick ! (λ vs. fsplit ! $ move ! (1 ∷ []) $
       peeks ! A256 (Is A256) (shows 𝓛 A256) xs vs (λ is.

@@ -2,37 +2,37 @@
 -- No public promise rests on these.
 use Rattle.std.specs.Prelude.{Bool, false, ◌&&◌, ◌||◌, cond, List, [], ◌∷◌, ℕ, suc, ◌+◌, ◌<◌, ltb, leb, eqb, length, get_or}
 use Rattle.eikonal.specs.declared.Start.{Start}
-use Rattle.eikonal.specs.Order.{Cause, caused, at-fault}
-use Rattle.eikonal.specs.Refusals.{on-board}
+use Rattle.eikonal.specs.Order.{Cause, caused, at_fault}
+use Rattle.eikonal.specs.Refusals.{on_board}
 use Rattle.refusals.specs.declared.board.Judged.{Judged}
 
 -- before any start: any cell may come, and no cause was met
-abbrev pub nothing-judged : Judged
-nothing-judged = record { seen = 0; least = 0; off = 0; low = 0; late = false; walled = false }
+abbrev pub nothing_judged : Judged
+nothing_judged = record { seen = 0; least = 0; off = 0; low = 0; late = false; walled = false }
 
 -- the place of the first at fault after one start more: it is the number of starts looked at while none of them is
 unfoldable pub onward : (first seen : ℕ) → (good : Bool) → ℕ
 onward i k p = cond (eqb i k && p) (suc k) i
 
 -- one start more, on a board of n cells, with the slowness of its cell
-unfoldable pub judge-start : (n slow cell time : ℕ) → Judged → Judged
-judge-start n s c t j = record {
+unfoldable pub judge_start : (n slow cell time : ℕ) → Judged → Judged
+judge_start n s c t j = record {
   seen = suc j.seen;
   least = suc c;
-  off = onward j.off j.seen (on-board n j.least c);
+  off = onward j.off j.seen (on_board n j.least c);
   low = onward j.low j.seen (leb j.least c);
   late = j.late || ltb 1000000 t;
   walled = j.walled || eqb s 0;
 }
 
 -- all of a list, on a board of n cells, whose slownesses the function gives
-unfoldable pub judge-by : (n : ℕ) → (slow : ℕ → ℕ) → List Start → Judged → Judged
-judge-by n f [] j = j
-judge-by n f (x ∷ xs) j = judge-by n f xs (judge-start n (f x.cell) x.cell x.time j)
+unfoldable pub judge_by : (n : ℕ) → (slow : ℕ → ℕ) → List Start → Judged → Judged
+judge_by n f [] j = j
+judge_by n f (x ∷ xs) j = judge_by n f xs (judge_start n (f x.cell) x.cell x.time j)
 
 -- on the slownesses of a board; and as if it had no walls
 abbrev pub judge : (slow : List ℕ) → List Start → Judged → Judged
-judge ss xs j = judge-by (length ss) (λ c. get_or ss c 0) xs j
+judge ss xs j = judge_by (length ss) (λ c. get_or ss c 0) xs j
 
 abbrev pub unwalled : (cell : ℕ) → ℕ
 unwalled c = 1
@@ -42,6 +42,6 @@ abbrev pub Countable : (more : ℕ) → Judged → Type 0
 Countable k j = j.seen + k < 18446744073709551616
 
 -- 7, 18, 8, 9 by what was met
-unfoldable pub judged-causes : Judged → List Cause
-judged-causes j =
-    at-fault 7 j.off j.seen ∷ at-fault 18 j.low j.seen ∷ caused 8 j.late ∷ caused 9 j.walled ∷ []
+unfoldable pub judged_causes : Judged → List Cause
+judged_causes j =
+    at_fault 7 j.off j.seen ∷ at_fault 18 j.low j.seen ∷ caused 8 j.late ∷ caused 9 j.walled ∷ []

@@ -1,18 +1,18 @@
 // Whether a board is refused, and why: 2, 4, 5, 21, 23, 7, 18, 8 or 9.
 ghost use Rattle.std.specs.Prelude.{◌≡◌, ◌&&◌, not, List, [], ◌∷◌, ◌++◌, ℕ, suc, ◌*◌, ◌≤◌, ◌<◌, min, eqb, length, get_or};
-ghost use Rattle.eikonal.specs.Board.{board-of};
+ghost use Rattle.eikonal.specs.Board.{board_of};
 ghost use Rattle.eikonal.specs.Order.{caused, or_else, first_of};
-ghost use Rattle.eikonal.specs.Refusals.{sides-good, steep, half-wall, uneven, ill-stacked, starts-of, handed, board-causes};
+ghost use Rattle.eikonal.specs.Refusals.{sides_good, steep, half_wall, uneven, ill_stacked, starts_of, handed, board_causes};
 ghost use Rattle.eikonal.specs.declared.Start.{Start};
-ghost use Rattle.refusals.specs.Flaws.{flawless, with_pair, with-pairs, flaw-causes};
-ghost use Rattle.refusals.specs.Judge.{nothing-judged, onward, judge-start, judge, Countable, judged-causes};
+ghost use Rattle.refusals.specs.Flaws.{flawless, with_pair, with_pairs, flaw_causes};
+ghost use Rattle.refusals.specs.Judge.{nothing_judged, onward, judge_start, judge, Countable, judged_causes};
 
 use super::causes::{below, or_else, same, when, within};
 use eikonal::{Refusal, cause, house_size, shorter};
 
 // The sides of a board or of a tile.
 pub fn sides_good(width: u32, height: u32) -> bool
-    ensures { result ≡ sides-good width height }
+    ensures { result ≡ sides_good width height }
 {
     within(1, 256, width as usize) & within(1, 256, height as usize)
 }
@@ -42,7 +42,7 @@ pub fn is_steep(g: u32, h: u32) -> bool
 }
 
 pub fn is_half_wall(g: u32, h: u32) -> bool
-    ensures { result ≡ half-wall g h }
+    ensures { result ≡ half_wall g h }
 {
     (g == 0) != (h == 0)
 }
@@ -68,7 +68,7 @@ pub fn with_pair(slow: u32, so_far: Flaws) -> Flaws
 
 // Every entry is looked at, with no way out of the loop, so that several are compared at a time.
 pub fn with_pairs(slow: &[u32], so_far: Flaws) -> Flaws
-    ensures { result ≡ with-pairs slow.now so_far }
+    ensures { result ≡ with_pairs slow.now so_far }
 {
     let mut flaws = so_far;
     let mut i = 0;
@@ -82,7 +82,7 @@ pub fn with_pairs(slow: &[u32], so_far: Flaws) -> Flaws
 // Whether so many storeys make no house, where a pair with unequal numbers was met or was not.
 fn ill_stacked(width: u32, height: u32, storeys: u32, uneven: bool) -> bool
     requires { (width ≤ 256) × (height ≤ 256) }
-    ensures { result ≡ ill-stacked width height storeys uneven }
+    ensures { result ≡ ill_stacked width height storeys uneven }
 {
     let crowded = below(65536, house_size(width, height, storeys));
     let tall = below(1, storeys as usize);
@@ -92,7 +92,7 @@ fn ill_stacked(width: u32, height: u32, storeys: u32, uneven: bool) -> bool
 // 5, 21, 23 by the pairs that were looked at, on a board with these sides and storeys: the last one first, so that those before it hide it.
 pub fn flaws_refusal(width: u32, height: u32, storeys: u32, flaws: Flaws) -> Refusal
     requires { (width ≤ 256) × (height ≤ 256) }
-    ensures { result ≡ first_of (flaw-causes width height storeys flaws) }
+    ensures { result ≡ first_of (flaw_causes width height storeys flaws) }
 {
     let ill = ill_stacked(width, height, storeys, flaws.uneven);
     let by_23 = when(ill, 23, 0, cause(0));
@@ -113,7 +113,7 @@ pub struct Judged {
 }
 
 pub fn nothing_judged() -> Judged
-    ensures { result ≡ nothing-judged }
+    ensures { result ≡ nothing_judged }
 {
     Judged {
         seen: 0,
@@ -139,7 +139,7 @@ fn onward(first: usize, seen: usize, good: bool) -> usize
 // One start more, on a board of n cells, with the slowness of its cell.
 pub fn judge_start(n: usize, slow: u32, cell: u32, time: u32, so_far: Judged) -> Judged
     requires { Countable 1 so_far }
-    ensures { result ≡ judge-start n slow cell time so_far }
+    ensures { result ≡ judge_start n slow cell time so_far }
 {
     let at = cell as usize;
     Judged {
@@ -166,7 +166,7 @@ fn slowness_at(slow: &[u32], cell: u32) -> u32
 // The starts of a part of the lists, after those judged so far. Of lists of unequal length the shorter counts.
 pub fn judge_starts(slow: &[u32], cells: &[u32], begins: &[u32], so_far: Judged) -> Judged
     requires { Countable (min (length cells.now) (length begins.now)) so_far }
-    ensures { result ≡ judge slow.now (starts-of cells.now begins.now) so_far }
+    ensures { result ≡ judge slow.now (starts_of cells.now begins.now) so_far }
 {
     let n = shorter(cells.len(), begins.len());
     let mut judged = so_far;
@@ -181,7 +181,7 @@ pub fn judge_starts(slow: &[u32], cells: &[u32], begins: &[u32], so_far: Judged)
 
 // 7, 18, 8, 9: each for the whole list, the last one first, so that those before it hide it.
 pub fn judged_refusal(judged: Judged) -> Refusal
-    ensures { result ≡ first_of (judged-causes judged) }
+    ensures { result ≡ first_of (judged_causes judged) }
 {
     let off = below(judged.off, judged.seen);
     let low = below(judged.low, judged.seen);
@@ -220,7 +220,7 @@ fn slow_refusal(
     others: Flaws,
 ) -> Refusal
     requires { so_far.number ≡ 0 → (width ≤ 256) × (height ≤ 256) }
-    ensures { result ≡ or_else so_far (first_of (flaw-causes width height storeys (with-pairs slow.now others))) }
+    ensures { result ≡ or_else so_far (first_of (flaw_causes width height storeys (with_pairs slow.now others))) }
 {
     if so_far.number != 0 {
         return so_far;
@@ -242,8 +242,8 @@ pub fn board_refusal(
     ticks: Refusal,
     kinds: Refusal,
 ) -> Refusal
-    ensures { (xs : List Start) (gs : List ℕ) → judged ≡ judge slow.now xs nothing-judged → others ≡ with-pairs gs flawless
-        → result ≡ first_of (board-causes (handed (board-of width height storeys slow.now xs) (eqb cells begins))
+    ensures { (xs : List Start) (gs : List ℕ) → judged ≡ judge slow.now xs nothing_judged → others ≡ with_pairs gs flawless
+        → result ≡ first_of (board_causes (handed (board_of width height storeys slow.now xs) (eqb cells begins))
         (gs ++ slow.now) ticks kinds) }
 {
     let sides = when(!sides_good(width, height), 2, 0, or_else(ticks, cause(0)));

@@ -1,6 +1,6 @@
 // The first of the causes that are met, and the tests that causes are made of.
 ghost use Rattle.std.specs.Prelude.{◌≡◌, cond, ltb, eqb};
-ghost use Rattle.eikonal.specs.Order.{cause-at, or_else};
+ghost use Rattle.eikonal.specs.Order.{cause_at, or_else};
 ghost use Rattle.eikonal.specs.Refusals.{within};
 
 use eikonal::{Refusal, cause_at};
@@ -25,7 +25,7 @@ pub fn within(least: usize, most: usize, n: usize) -> bool
 
 // The refusal by a cause where it was met, or else the next one.
 pub fn when(met: bool, number: u32, place: usize, next: Refusal) -> Refusal
-    ensures { result ≡ cond met (cause-at number place) next }
+    ensures { result ≡ cond met (cause_at number place) next }
 {
     if met {
         return cause_at(number, place);

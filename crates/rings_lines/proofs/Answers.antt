@@ -8,21 +8,21 @@ use lib.ListN.{length, drop}
 use lib.Seq.{sets-eq, length-sets, length-take-le}
 use borrow.Author.Tests.{lt-ltb, le-ltb, eq-eqb, ne_eqb}
 use Rattle.eikonal.specs.declared.Refusal.{Refusal}
-use Rattle.eikonal.proofs.Causes.{None-met, none-met, unrefused, number_is}
-use Rattle.tablet.specs.Small.{small-causes, small-refusal}
+use Rattle.eikonal.proofs.Causes.{NoneMet, none-met, unrefused, number_is}
+use Rattle.tablet.specs.Small.{small_causes, small_refusal}
 use Rattle.rings_lines.specs.Put.{Put}
-use Rattle.rings_lines.specs.Rings.{refused-line, rings-causes, rings-refusal, board-lines, lines, room, Rings-says}
+use Rattle.rings_lines.specs.Rings.{refused_line, rings_causes, rings_refusal, board_lines, lines, room, Rings-says}
 
-pub small-file : (f : List ℕ) → (rings-refusal f).number ≡ 0 → (small-refusal f).number ≡ 0
-unfolding None-met rings-refusal rings-causes small-refusal
-small-file f e = number_is (unrefused (small-causes f) (none-met (rings-causes f) e).1)
+pub small-file : (f : List ℕ) → (rings_refusal f).number ≡ 0 → (small_refusal f).number ≡ 0
+unfolding NoneMet rings_refusal rings_causes small_refusal
+small-file f e = number_is (unrefused (small_causes f) (none-met (rings_causes f) e).1)
 
 -- ---- the lines, from what code has at hand
-pub lines-board : (f : List ℕ) → (rings-refusal f).number ≡ 0 → board-lines f ≡ lines f
+pub lines-board : (f : List ℕ) → (rings_refusal f).number ≡ 0 → board_lines f ≡ lines f
 unfolding lines
-lines-board f e = rw (eq-eqb (rings-refusal f).number 0 e) refl
+lines-board f e = rw (eq-eqb (rings_refusal f).number 0 e) refl
 
-pub lines-refused : (f : List ℕ) (k : Refusal) → k ≡ rings-refusal f → k.number ≢ 0 → refused-line k.number ≡ lines f
+pub lines-refused : (f : List ℕ) (k : Refusal) → k ≡ rings_refusal f → k.number ≢ 0 → refused_line k.number ≡ lines f
 unfolding lines
 lines-refused f k e n = rw (← e, ne_eqb k.number 0 n) refl
 

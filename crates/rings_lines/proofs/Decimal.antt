@@ -6,7 +6,7 @@ use Prim.Native.Nat.{ℕ, zero, suc, ◌+◌, ◌*◌, ◌-◌, ◌/◌, ◌%◌
 use native.Mathlib.Nat.{pow-suc, div-lt_iff_lt-mul}
 use native.Mathlib.Omega.{arith}
 use lib.Dec.{ltb}
-use Rattle.rings_lines.specs.Text.{digits, decimal, value, Decimal-is}
+use Rattle.rings_lines.specs.Text.{digits, decimal, value, DecimalIs}
 
 value-last : (n : ℕ) (ds : List ℕ) (d : ℕ) → value n (ds ++ (d ∷ [])) ≡ 10 * value n ds + (d - 48)
 unfolding value
@@ -26,6 +26,6 @@ value-digits (suc k) x h =
     let pos : 0 < 10 = omega arith in
     one-or-more (ltb x 10) x (digits k (x / 10)) (value-digits k (x / 10) ((div-lt_iff_lt-mul {k = 10} {x = x} {y = 10 ^ k} pos).1 small))
 
-pub decimal-is : Decimal-is
-unfolding Decimal-is decimal
+pub decimal-is : DecimalIs
+unfolding DecimalIs decimal
 decimal-is x h = value-digits 10 x (omega arith)

@@ -8,23 +8,23 @@ use lib.ListN.{length, set, length-append}
 use lib.Seq.{sets}
 use Rattle.rings_lines.specs.Put.{Put}
 
-sets-append : (xs ys l : List ℕ) (i : ℕ) → sets l i (xs ++ ys) ≡ sets (sets l i xs) (i + length xs) ys
-sets-append [] ys l i = rw (add-zero i)
-sets-append (x ∷ xs) ys l i =
+sets_append : (xs ys l : List ℕ) (i : ℕ) → sets l i (xs ++ ys) ≡ sets (sets l i xs) (i + length xs) ys
+sets_append [] ys l i = rw (add-zero i)
+sets_append (x ∷ xs) ys l i =
     let q : suc i + length xs ≡ i + suc (length xs) = omega arith in
-    sets-append xs ys (set l i x) (suc i) ∙ ap (λ u. sets (sets (set l i x) (suc i) xs) u ys) q
+    sets_append xs ys (set l i x) (suc i) ∙ ap (λ u. sets (sets (set l i x) (suc i) xs) u ys) q
 
 module _ {out mid : List ℕ} {at next : ℕ} {xs : List ℕ} (p : Put out at xs mid next) where
   -- more bytes behind them
-  pub put-more : {now : List ℕ} {end : ℕ} {ys : List ℕ} → Put mid next ys now end → Put out at (xs ++ ys) now end
-  put-more {ys = ys} q = record {
+  pub put_more : {now : List ℕ} {end : ℕ} {ys : List ℕ} → Put mid next ys now end → Put out at (xs ++ ys) now end
+  put_more {ys = ys} q = record {
     place = q.place ∙ omega (arith, p.place, length-append xs ys);
-    bytes = q.bytes ∙ (λ i. sets (p.bytes i) (p.place i) ys) ∙ sym (sets-append xs ys out at);
+    bytes = q.bytes ∙ (λ i. sets (p.bytes i) (p.place i) ys) ∙ sym (sets_append xs ys out at);
   }
 
   -- one byte more
   pub put_byte : (d : ℕ) → Put out at (xs ++ (d ∷ [])) (set mid next d) (next + 1)
-  put_byte d = put-more (record { place = refl; bytes = refl })
+  put_byte d = put_more (record { place = refl; bytes = refl })
 
   -- the same bytes under another name
   pub put_is : {ys : List ℕ} → xs ≡ ys → Put out at ys mid next

@@ -16,5 +16,5 @@ value n [] = n
 value n (d ∷ ds) = value (10 * n + (d - 48)) ds
 
 -- A NUMBER of 32 bits is what its text stands for; proofs/Decimal.antt has the proof
-unfoldable pub Decimal-is : Type 0
-Decimal-is = (x : ℕ) → x < 4294967296 → value 0 (decimal x) ≡ x
+unfoldable pub DecimalIs : Type 0
+DecimalIs = (x : ℕ) → x < 4294967296 → value 0 (decimal x) ≡ x

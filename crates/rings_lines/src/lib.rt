@@ -3,10 +3,10 @@ pub mod text;
 
 ghost use Rattle.std.specs.Prelude.{◌≡◌, ◌+◌, ◌*◌, ◌≤◌, length, true, [], ◌∷◌, ◌++◌};
 ghost use Rattle.eikonal.specs.Board.{marched};
-ghost use Rattle.scenario.specs.File.{held, ticks-good};
-ghost use Rattle.tablet.specs.Small.{horizon, small-refusal};
+ghost use Rattle.scenario.specs.File.{held, ticks_good};
+ghost use Rattle.tablet.specs.Small.{horizon, small_refusal};
 ghost use Rattle.rings_lines.specs.Put.{Put};
-ghost use Rattle.rings_lines.specs.Rings.{turn-text, behind, rows, head-line, refused-line, rings-refusal, board-lines, room, Rings-says};
+ghost use Rattle.rings_lines.specs.Rings.{turn_text, behind, rows, head_line, refused_line, rings_refusal, board_lines, room, Rings-says};
 
 use eikonal::{NEVER, Refusal, cause};
 use scenario::heads::{board_size, head_of};
@@ -28,8 +28,8 @@ fn behind(width: usize, cell: usize) -> u8
 
 // A cell's turn, or `-`, with a byte behind it. Answers the place behind that.
 fn put_turn(out: &mut [u8], at: usize, time: u32, ticks: u32, last: u8) -> usize
-    requires { (at + 11 ≤ length out.old) × (ticks-good ticks ≡ true) }
-    ensures put { Put out.old at (turn-text ticks time ++ (last ∷ [])) out.new result }
+    requires { (at + 11 ≤ length out.old) × (ticks_good ticks ≡ true) }
+    ensures put { Put out.old at (turn_text ticks time ++ (last ∷ [])) out.new result }
     ensures most { result ≤ at + 11 }
 {
     let reply = scenario::turn(time, ticks);
@@ -44,7 +44,7 @@ fn put_turn(out: &mut [u8], at: usize, time: u32, ticks: u32, last: u8) -> usize
 
 // A field for each time: the rows of a storey, then those of the next.
 fn put_rows(out: &mut [u8], at: usize, times: &[u32], width: usize, ticks: u32) -> usize
-    requires { (at + 11 * length times.now ≤ length out.old) × (length times.now ≤ 1024) × (1 ≤ width) × (ticks-good ticks ≡ true) }
+    requires { (at + 11 * length times.now ≤ length out.old) × (length times.now ≤ 1024) × (1 ≤ width) × (ticks_good ticks ≡ true) }
     ensures put { Put out.old at (rows width ticks 0 times.now) out.new result }
     ensures most { result ≤ length out.old }
 {
@@ -59,7 +59,7 @@ fn put_rows(out: &mut [u8], at: usize, times: &[u32], width: usize, ticks: u32) 
 
 fn put_head_line(out: &mut [u8], head: Head) -> usize
     requires { 33 ≤ length out.old }
-    ensures put { Put out.old 0 (head-line «head») out.new result }
+    ensures put { Put out.old 0 (head_line «head») out.new result }
     ensures most { result ≤ 33 }
 {
     let second = put_number(out, 0, head.width, 32);
@@ -69,7 +69,7 @@ fn put_head_line(out: &mut [u8], head: Head) -> usize
 
 fn put_refused(out: &mut [u8], number: u32) -> usize
     requires { 33 ≤ length out.old }
-    ensures put { Put out.old 0 (refused-line number) out.new result }
+    ensures put { Put out.old 0 (refused_line number) out.new result }
     ensures most { result ≤ 33 }
 {
     out[0] = b'r';
@@ -84,7 +84,7 @@ fn put_refused(out: &mut [u8], number: u32) -> usize
 }
 
 fn rings_refusal(file: &[u8]) -> Refusal
-    ensures { result ≡ rings-refusal file.now }
+    ensures { result ≡ rings_refusal file.now }
 {
     if file.len() > LONGEST {
         return cause(15);
@@ -94,9 +94,9 @@ fn rings_refusal(file: &[u8]) -> Refusal
 
 // The lines of a file that was judged, whose times were worked out.
 fn put_lines(out: &mut [u8], file: &[u8], times: &[u32]) -> usize
-    requires file { (room ≤ length out.old) × ((small-refusal file.now).number ≡ 0) }
+    requires file { (room ≤ length out.old) × ((small_refusal file.now).number ≡ 0) }
     requires times { (times.now ≡ marched (held file.now) horizon) × (length times.now ≤ 1024) }
-    ensures put { Put out.old 0 (board-lines file.now) out.new result }
+    ensures put { Put out.old 0 (board_lines file.now) out.new result }
     ensures most { result ≤ length out.old }
 {
     let head = head_of(file);
@@ -106,8 +106,8 @@ fn put_lines(out: &mut [u8], file: &[u8], times: &[u32]) -> usize
 
 // Tiles of 8 by 8, stride 65,536.
 fn put_board(out: &mut [u8], file: &[u8]) -> usize
-    requires { (room ≤ length out.old) × ((small-refusal file.now).number ≡ 0) }
-    ensures put { Put out.old 0 (board-lines file.now) out.new result }
+    requires { (room ≤ length out.old) × ((small_refusal file.now).number ≡ 0) }
+    ensures put { Put out.old 0 (board_lines file.now) out.new result }
     ensures most { result ≤ length out.old }
 {
     let n = board_size(head_of(file));

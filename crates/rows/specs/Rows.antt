@@ -2,7 +2,7 @@
 -- cite these: they are definitions.
 use Rattle.std.specs.Prelude.{◌≡◌, ◌⊎◌, List, [], ℕ, ◌*◌, ◌/◌, ◌%◌, ◌≤◌, ◌<◌, length, get_or}
 use Rattle.eikonal.specs.Board.{time}
-use Rattle.eikonal.specs.Tiles.{tile-of, altered}
+use Rattle.eikonal.specs.Tiles.{tile_of, altered}
 use Rattle.front.specs.Board.{land}
 use Rattle.rows.specs.Lists.{due}
 use Rattle.front.specs.declared.Shape.{Shape}
@@ -20,17 +20,17 @@ Everywhere c = Unit {0}
 
 -- the cells of a board so wide that lie in some rows and columns
 pub record Block (wide top bottom left right c : ℕ) : Type 0 where
-  pub top-most : top ≤ c / wide
-  pub bottom-most : c / wide < bottom
-  pub left-most : left ≤ c % wide
-  pub right-most : c % wide < right
+  pub top_most : top ≤ c / wide
+  pub bottom_most : c / wide < bottom
+  pub left_most : left ≤ c % wide
+  pub right_most : c % wide < right
 
 -- the cells that lie in some rows and columns of their storey, whichever it is: rows are numbered through all storeys
 pub record Pillar (wide high top bottom left right c : ℕ) : Type 0 where
-  pub top-most : top ≤ c / wide % high
-  pub bottom-most : c / wide % high < bottom
-  pub left-most : left ≤ c % wide
-  pub right-most : c % wide < right
+  pub top_most : top ≤ c / wide % high
+  pub bottom_most : c / wide % high < bottom
+  pub left_most : left ≤ c % wide
+  pub right_most : c % wide < right
 
 -- those of them in the rows before one
 pub record Pillar-before (wide high top bottom left right row c : ℕ) : Type 0 where
@@ -38,8 +38,8 @@ pub record Pillar-before (wide high top bottom left right row c : ℕ) : Type 0 
   pub before : c / wide < row
 
 -- the number of a cell's tile
-abbrev pub tile-in : Shape → (c : ℕ) → ℕ
-tile-in s c = tile-of (land s []) s.across s.down c
+abbrev pub tile_in : Shape → (c : ℕ) → ℕ
+tile_in s c = tile_of (land s []) s.across s.down c
 
 -- sides and storeys of a board, sides of its tiles, and lists with room for its cells
 pub record Fitting (s : Shape) (times work : List ℕ) : Type 0 where
@@ -47,13 +47,13 @@ pub record Fitting (s : Shape) (times work : List ℕ) : Type 0 where
   pub few : s.cells ≤ 65536
   pub wide_low : 1 ≤ s.width
   pub wide_high : s.width ≤ 256
-  pub high-low : 1 ≤ s.height
-  pub high-high : s.height ≤ 256
-  pub storeys-high : s.storeys ≤ 8
-  pub across-low : 1 ≤ s.across
-  pub across-high : s.across ≤ 256
-  pub down-low : 1 ≤ s.down
-  pub down-high : s.down ≤ 256
+  pub high_low : 1 ≤ s.height
+  pub high_high : s.height ≤ 256
+  pub storeys_high : s.storeys ≤ 8
+  pub across_low : 1 ≤ s.across
+  pub across_high : s.across ≤ 256
+  pub down_low : 1 ≤ s.down
+  pub down_high : s.down ≤ 256
   pub many : length times ≡ s.cells
   pub space : 4 * s.cells ≤ length work
 

@@ -1,10 +1,10 @@
 // The writing of a single round: tile by tile in the order given, each row of a tile lent on as a part of the times.
 ghost use Rattle.std.specs.Prelude.{◌≡◌, true, cond, [], ◌+◌, ◌*◌, ◌≤◌, ◌<◌, eqb, length, get_or};
-ghost use Rattle.eikonal.specs.Refusals.{order-good};
+ghost use Rattle.eikonal.specs.Refusals.{order_good};
 ghost use Rattle.eikonal.specs.Inner.Clip.{clip};
 ghost use Rattle.front.specs.Board.{land};
 ghost use Rattle.rows.specs.Lists.{due};
-ghost use Rattle.rows.specs.Rows.{Entered, Everywhere, Block, Pillar, tile-in, Fitting, Wrote};
+ghost use Rattle.rows.specs.Rows.{Entered, Everywhere, Block, Pillar, tile_in, Fitting, Wrote};
 
 use super::whole::clip;
 use eikonal::shorter;
@@ -119,7 +119,7 @@ fn write_storeys(
 // A tile, cut at the board's edge. It spans all storeys.
 fn write_tile(times: &mut [u32], work: &[u32], shape: Shape, tile: u32, bound: u32) -> u32
     requires { Fitting shape times.old work.now }
-    ensures { Entered (λ c. tile-in shape c ≡ tile) (due bound work.now shape.cells) times.old times.new result }
+    ensures { Entered (λ c. tile_in shape c ≡ tile) (due bound work.now shape.cells) times.old times.new result }
 {
     let w = shape.width;
     let across = shape.across as usize;
@@ -135,7 +135,7 @@ fn write_tile(times: &mut [u32], work: &[u32], shape: Shape, tile: u32, bound: u
 
 // Every tile, in the order given.
 pub fn write_tiles(times: &mut [u32], work: &[u32], shape: Shape, order: &[u32], bound: u32) -> u32
-    requires { Fitting shape times.old work.now × (order-good (land shape []) shape.across shape.down order.now ≡ true) }
+    requires { Fitting shape times.old work.now × (order_good (land shape []) shape.across shape.down order.now ≡ true) }
     ensures { Wrote shape bound work.now times.old times.new result }
 {
     let mut count = 0;

@@ -8,21 +8,21 @@ use lib.ListN.{length, drop}
 use borrow.Author.Tests.{eq-eqb, ne_eqb}
 use Rattle.eikonal.specs.declared.Refusal.{Refusal}
 use Rattle.scenario.specs.File.{head_in}
-use Rattle.scenario.specs.Calls.{filled, scenario, scenario-of, reader-answer}
+use Rattle.scenario.specs.Calls.{filled, scenario, scenario_of, reader_answer}
 
-pub reader-number : (k : Refusal) (f : List ℕ) → (reader-answer k f).number ≡ k.number
-unfolding reader-answer scenario-of scenario
+pub reader-number : (k : Refusal) (f : List ℕ) → (reader_answer k f).number ≡ k.number
+unfolding reader_answer scenario_of scenario
 reader-number k f = elim (ℕ_discrete k.number 0) [
   | yes q ↦ rw (eq-eqb k.number 0 q) (sym q)
   | no q ↦ rw (ne_eqb k.number 0 q) refl
 ]
 
-pub reader-zero : (k : Refusal) (f : List ℕ) → k.number ≡ 0 → reader-answer k f ≡ scenario-of (head_in f)
-unfolding reader-answer
+pub reader-zero : (k : Refusal) (f : List ℕ) → k.number ≡ 0 → reader_answer k f ≡ scenario_of (head_in f)
+unfolding reader_answer
 reader-zero k f e = rw (eq-eqb k.number 0 e)
 
-pub reader-refused : (k : Refusal) (f : List ℕ) → k.number ≢ 0 → reader-answer k f ≡ scenario k 0 0 0 0 0 0
-unfolding reader-answer
+pub reader-refused : (k : Refusal) (f : List ℕ) → k.number ≢ 0 → reader_answer k f ≡ scenario k 0 0 0 0 0 0
+unfolding reader_answer
 reader-refused k f h = rw (ne_eqb k.number 0 h)
 
 -- a list that was lent: entered, or as it was

@@ -3,14 +3,14 @@ use mathlib.Core.Path.{◌≡◌, refl}
 use mathlib.Core.List.{List, [], ◌∷◌}
 use Prim.Native.Nat.{ℕ, ◌+◌, ◌*◌}
 use lib.ListN.{drop}
-use Rattle.eikonal.specs.Board.{Board, size, slowness, along-row, down-column}
+use Rattle.eikonal.specs.Board.{Board, size, slowness, along_row, down_column}
 use Rattle.eikonal.specs.Order.{cause, none, first_of}
-use Rattle.eikonal.specs.Refusals.{sides-good, steep, half-wall, uneven, any-pair, pair-causes}
-use Rattle.eikonal.specs.Refusals.{ill-stacked, first-fault, late, on-wall, record-causes, start-causes}
+use Rattle.eikonal.specs.Refusals.{sides_good, steep, half_wall, uneven, any_pair, pair_causes}
+use Rattle.eikonal.specs.Refusals.{ill_stacked, first_fault, late, on_wall, record_causes, start_causes}
 use Rattle.scenario.specs.Bytes.{two, four, two_bytes, four_bytes, records, bytes_of}
-use Rattle.scenario.specs.Runs.{run, end, painted, run-good, runs-good, closed, runs_on, runs_of}
-use Rattle.scenario.specs.File.{head_bytes, run-bytes, start-bytes, head_of, front, file-of, head_in, run_in, start-in, runs-in, starts-in, held}
-use Rattle.scenario.specs.File.{ticks-good, length-good, front-causes, rest-causes, file-causes, file-refusal}
+use Rattle.scenario.specs.Runs.{run, end, painted, run_good, runs_good, closed, runs_on, runs_of}
+use Rattle.scenario.specs.File.{head_bytes, run_bytes, start_bytes, head_of, front, file_of, head_in, run_in, start_in, runs_in, starts_in, held}
+use Rattle.scenario.specs.File.{ticks_good, length_good, front_causes, rest_causes, file_causes, file_refusal}
 
 abbrev ground : ℕ
 ground = 10 + 65536 * 20
@@ -28,17 +28,17 @@ bytes =
     ∷ 3 ∷ 0 ∷ 0 ∷ 0 ∷ 1 ∷ 0 ∷ 0 ∷ 0 ∷ 0 ∷ 0 ∷ 0 ∷ 0
     ∷ 2 ∷ 0 ∷ 0 ∷ 0 ∷ 112 ∷ 17 ∷ 1 ∷ 0 ∷ []
 
-its-bytes : file-of 100 ground board ≡ bytes
-unfolding file-of head_of front head_bytes two_bytes four_bytes bytes_of run-bytes start-bytes runs_of runs_on closed run board bytes
-its-bytes = refl
+its_bytes : file_of 100 ground board ≡ bytes
+unfolding file_of head_of front head_bytes two_bytes four_bytes bytes_of run_bytes start_bytes runs_of runs_on closed run board bytes
+its_bytes = refl
 
 -- as two storeys of 2 by 1 cells
 stacked : List ℕ
 stacked = 2 ∷ 0 ∷ 1 ∷ 0 ∷ 2 ∷ 0 ∷ drop 6 bytes
 
 -- with pairs of unequal numbers it is accepted on one storey alone
-its-refusal : (file-refusal bytes ≡ none) × (file-refusal stacked ≡ cause 23)
-unfolding file-refusal file-causes front-causes rest-causes first_of length-good sides-good ticks-good pair-causes any-pair
-    steep half-wall uneven ill-stacked along-row down-column start-causes record-causes first-fault late on-wall
-    slowness size held head_in runs-in starts-in records run_in start-in run end painted run-good runs-good two four bytes stacked
-its-refusal = (refl, refl)
+its_refusal : (file_refusal bytes ≡ none) × (file_refusal stacked ≡ cause 23)
+unfolding file_refusal file_causes front_causes rest_causes first_of length_good sides_good ticks_good pair_causes any_pair
+    steep half_wall uneven ill_stacked along_row down_column start_causes record_causes first_fault late on_wall
+    slowness size held head_in runs_in starts_in records run_in start_in run end painted run_good runs_good two four bytes stacked
+its_refusal = (refl, refl)

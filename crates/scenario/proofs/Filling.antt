@@ -19,9 +19,9 @@ two-stored l at a b h =
     ∙ one_more l at a (b ∷ []) (omega arith)
 
 -- pieces put one behind the other
-pub put-behind : (at n m : ℕ) (l o p x y : List ℕ) → take (at + n) o ≡ take at l ++ x → take (at + n + m) p ≡ take (at + n) o ++ y
+pub put_behind : (at n m : ℕ) (l o p x y : List ℕ) → take (at + n) o ≡ take at l ++ x → take (at + n + m) p ≡ take (at + n) o ++ y
     → take (at + (n + m)) p ≡ take at l ++ (x ++ y)
-put-behind at n m l o p x y e q =
+put_behind at n m l o p x y e q =
     ap (λ u. take u p) (let r : at + (n + m) ≡ at + n + m = omega arith in r) ∙ q ∙ ap (λ u. u ++ y) e ∙ append_assoc (take at l) x y
 
 -- a list that is full

@@ -9,11 +9,11 @@ use lib.Dec.{eqb}
 use lib.ListN.{length, replicate, length-append, length-replicate, replicate-append-replicate}
 use borrow.Author.Tests.{eqb-true, eq-eqb, ne_eqb}
 use Rattle.eikonal.proofs.Good.{and-true}
-use Rattle.refusals.proofs.Pairs.{any-pair-append}
+use Rattle.refusals.proofs.Pairs.{any_pair-append}
 use Rattle.scenario.specs.declared.Run.{Run}
-use Rattle.scenario.specs.Runs.{run, end, painted, run-good, runs-good, closed, runs_on, runs_of}
-use Rattle.scenario.proofs.Slows.{Spares, spares-none, spares-rest, spares-more, Among}
-use Rattle.scenario.proofs.GoodRuns.{Fits, good-fits, closed-ground, closed_run, slows-of}
+use Rattle.scenario.specs.Runs.{run, end, painted, run_good, runs_good, closed, runs_on, runs_of}
+use Rattle.scenario.proofs.Slows.{Spares, spares_none, spares_rest, spares_more, Among}
+use Rattle.scenario.proofs.GoodRuns.{Fits, good-fits, closed-ground, closed_run, slows_of}
 
 -- ---- runs, painted and scanned again
 -- the stretch goes on
@@ -42,8 +42,8 @@ gap g a i z k ss xs on none = elim (ℕ_discrete z g) [
 ]
 
 -- GOOD RUNS ARE THE MAXIMAL ONES of what they come to, whatever stretch stands before them
-scanned : (n g a i z : ℕ) (xs : List Run) → runs-good n g i z xs ≡ true → runs_on g a i z (painted g i n xs) ≡ closed g a i z xs
-unfolding runs-good painted end run
+scanned : (n g a i z : ℕ) (xs : List Run) → runs_good n g i z xs ≡ true → runs_on g a i z (painted g i n xs) ≡ closed g a i z xs
+unfolding runs_good painted end run
 scanned n g a i z [] e =
     ap (runs_on g a i z) (sym (append-nil (replicate (n - i) g)))
     ∙ gap g a i z (n - i) [] [] (λ b. ended b) (λ _. none)
@@ -54,7 +54,7 @@ scanned n g a i z [] e =
     none : runs_on g a i z [] ≡ closed g a i z []
     none = unfold runs_on in refl
 scanned n g a i z (x ∷ xs) e =
-    let r = and-true (run-good n g i z x) _ e in
+    let r = and-true (run_good n g i z x) _ e in
     let f = good-fits n g i z x r.0 in
     go f (scanned n g x.offset (x.offset + x.long) x.slow xs r.1)
   where
@@ -75,39 +75,39 @@ scanned n g a i z (x ∷ xs) e =
             ∙ ap (closed g b x.offset y) (on ∙ closed_run g x.offset (x.offset + x.long) x.slow xs f.other
             ∙ ap (λ u. run x.offset u x.slow ∷ xs) (let q : x.offset + x.long - x.offset ≡ x.long = omega arith in q))
 
-pub good-maximal : (n g : ℕ) (xs : List Run) → runs-good n g 0 g xs ≡ true → runs_of g (painted g 0 n xs) ≡ xs
+pub good_maximal : (n g : ℕ) (xs : List Run) → runs_good n g 0 g xs ≡ true → runs_of g (painted g 0 n xs) ≡ xs
 unfolding runs_of
-good-maximal n g xs e = scanned n g 0 0 g xs e ∙ closed-ground g 0 0 xs
+good_maximal n g xs e = scanned n g 0 0 g xs e ∙ closed-ground g 0 0 xs
 
-pub length-painted : (n g a z : ℕ) (xs : List Run) → runs-good n g a z xs ≡ true → a ≤ n → length (painted g a n xs) ≡ n - a
-unfolding painted runs-good end
+pub length-painted : (n g a z : ℕ) (xs : List Run) → runs_good n g a z xs ≡ true → a ≤ n → length (painted g a n xs) ≡ n - a
+unfolding painted runs_good end
 length-painted n g a z [] e l = length-replicate (n - a) g
 length-painted n g a z (x ∷ xs) e l =
-    let r = and-true (run-good n g a z x) _ e in
+    let r = and-true (run_good n g a z x) _ e in
     let f = good-fits n g a z x r.0 in
     simp (length-append, length-replicate) (omega (arith, f.behind, f.within, length-painted n g (x.offset + x.long) x.slow xs r.1 f.within))
 
 -- no slowness but the ground's and the runs'
 module _ (p : (g h : ℕ) → Bool) where
-  append-spares : (ss ts : List ℕ) → Spares p ss → Spares p ts → Spares p (ss ++ ts)
-  append-spares ss ts e f = any-pair-append p ss ts ∙ rw (e, f)
+  append_spares : (ss ts : List ℕ) → Spares p ss → Spares p ts → Spares p (ss ++ ts)
+  append_spares ss ts e f = any_pair-append p ss ts ∙ rw (e, f)
 
-  replicate-spares : (k z : ℕ) (ss : List ℕ) → Spares p (z ∷ ss) → Spares p (replicate k z)
-  replicate-spares zero z ss e = spares-none p
-  replicate-spares (suc k) z ss e = spares-more p z ss (replicate k z) e (replicate-spares k z ss e)
+  replicate_spares : (k z : ℕ) (ss : List ℕ) → Spares p (z ∷ ss) → Spares p (replicate k z)
+  replicate_spares zero z ss e = spares_none p
+  replicate_spares (suc k) z ss e = spares_more p z ss (replicate k z) e (replicate_spares k z ss e)
 
-  painted-spares : (n g a : ℕ) (xs : List Run) → Spares p (g ∷ slows-of xs) → Spares p (painted g a n xs)
+  painted_spares : (n g a : ℕ) (xs : List Run) → Spares p (g ∷ slows_of xs) → Spares p (painted g a n xs)
   unfolding painted
-  painted-spares n g a [] e = replicate-spares (n - a) g [] e
-  painted-spares n g a (x ∷ xs) e =
-      let ss = slows-of xs in
-      let rest = spares-rest p g (x.slow ∷ ss) e in
-      append-spares (replicate (x.offset - a) g) _ (replicate-spares (x.offset - a) g (x.slow ∷ ss) e)
-      (append-spares (replicate x.long x.slow) _ (replicate-spares x.long x.slow ss rest)
-      (painted-spares n g (end x) xs (spares-more p g (x.slow ∷ ss) ss e (spares-rest p x.slow ss rest))))
+  painted_spares n g a [] e = replicate_spares (n - a) g [] e
+  painted_spares n g a (x ∷ xs) e =
+      let ss = slows_of xs in
+      let rest = spares_rest p g (x.slow ∷ ss) e in
+      append_spares (replicate (x.offset - a) g) _ (replicate_spares (x.offset - a) g (x.slow ∷ ss) e)
+      (append_spares (replicate x.long x.slow) _ (replicate_spares x.long x.slow ss rest)
+      (painted_spares n g (end x) xs (spares_more p g (x.slow ∷ ss) ss e (spares_rest p x.slow ss rest))))
 
-pub painted-among : (n g : ℕ) (xs : List Run) → Among (g ∷ painted g 0 n xs) (g ∷ slows-of xs)
-painted-among n g xs p e = spares-more p g (slows-of xs) (painted g 0 n xs) e (painted-spares p n g 0 xs e)
+pub painted-among : (n g : ℕ) (xs : List Run) → Among (g ∷ painted g 0 n xs) (g ∷ slows_of xs)
+painted-among n g xs p e = spares_more p g (slows_of xs) (painted g 0 n xs) e (painted_spares p n g 0 xs e)
 
 -- ---- slownesses, scanned and painted again
 snoc : (k z : ℕ) (ss : List ℕ) → replicate (suc k) z ++ ss ≡ replicate k z ++ (z ∷ ss)

@@ -78,11 +78,11 @@ module _ {A : Type 0} (k : ℕ) (f : List ℕ → A) (g : A → List ℕ) where
       (ap (λ u. x ∷ u) (read_back P one next xs bs h.1))
 
   -- what is read is written as it stood
-  pub write-back : ((bs : List ℕ) → Bytes bs → k ≤ length bs → g (f bs) ≡ take k bs)
+  pub write_back : ((bs : List ℕ) → Bytes bs → k ≤ length bs → g (f bs) ≡ take k bs)
       → (n : ℕ) (bs : List ℕ) → Bytes bs → k * n ≤ length bs → bytes_of g (records k f n bs) ≡ take (k * n) bs
   unfolding records bytes_of
-  write-back one zero bs h l = let q : k * 0 ≡ 0 = omega arith in rw q
-  write-back one (suc n) bs h l =
+  write_back one zero bs h l = let q : k * 0 ≡ 0 = omega arith in rw q
+  write_back one (suc n) bs h l =
       let q : k * suc n ≡ k + k * n = omega arith in
       rw (q, take-add k (k * n) bs)
-      (ap₂ ◌++◌ (one bs h (omega arith)) (write-back one n (drop k bs) (bytes_drop k bs h) (omega (arith, length-drop k bs))))
+      (ap₂ ◌++◌ (one bs h (omega arith)) (write_back one n (drop k bs) (bytes_drop k bs h) (omega (arith, length-drop k bs))))

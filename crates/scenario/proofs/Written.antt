@@ -9,21 +9,21 @@ use lib.Seq.{drop_at, drop-drop}
 use Rattle.eikonal.specs.Board.{Board, size}
 use Rattle.eikonal.specs.declared.Start.{Start}
 use Rattle.eikonal.specs.Order.{none}
-use Rattle.eikonal.specs.Refusals.{steep, handed, handed-refusal}
+use Rattle.eikonal.specs.Refusals.{steep, handed, handed_refusal}
 use Rattle.eikonal.proofs.Causes.{none-met}
-use Rattle.eikonal.proofs.Good.{sides-within, Housed, housed, house-none, Sound, sound}
+use Rattle.eikonal.proofs.Good.{sides-within, Housed, housed, house_none, Sound, sound}
 use Rattle.scenario.specs.Bytes.{two, four, two_bytes, four_bytes, bytes_of}
 use Rattle.scenario.specs.declared.Head.{Head}
 use Rattle.scenario.specs.declared.Run.{Run}
-use Rattle.scenario.specs.Runs.{run, painted, runs-good, runs_of}
-use Rattle.scenario.specs.File.{head-size, run-size, start-size, runs-end, file-size, head_bytes, run-bytes, start-bytes, head_of, front, file-of}
-use Rattle.scenario.specs.File.{head_in, run_in, start-in, runs-in, starts-in, held, ticks-good, file-refusal}
-use Rattle.scenario.specs.Promise.{File-of-is-accepted}
+use Rattle.scenario.specs.Runs.{run, painted, runs_good, runs_of}
+use Rattle.scenario.specs.File.{head_size, run_size, start_size, runs_end, file_size, head_bytes, run_bytes, start_bytes, head_of, front, file_of}
+use Rattle.scenario.specs.File.{head_in, run_in, start_in, runs_in, starts_in, held, ticks_good, file_refusal}
+use Rattle.scenario.specs.Promise.{FileOfIsAccepted}
 use Rattle.scenario.proofs.Numbers.{two-front, four-front}
 use Rattle.scenario.proofs.Records.{read_back, length-bytes}
-use Rattle.scenario.proofs.Slows.{Good, Spares, spares-rest, slow-fits, good-among, with-ground}
+use Rattle.scenario.proofs.Slows.{Good, Spares, spares_rest, slow-fits, good-among, with_ground}
 use Rattle.scenario.proofs.GoodRuns as GoodRuns
-use Rattle.scenario.proofs.GoodRuns.{runs-of-good, slows-of, runs-of-among, runs-of-count}
+use Rattle.scenario.proofs.GoodRuns.{runs_of-good, slows_of, runs_of-among, runs_of-count}
 use Rattle.scenario.proofs.Painted.{painted-runs}
 use Rattle.scenario.proofs.Causes as Causes
 use Rattle.scenario.proofs.Causes.{Given, given, accepts, rise-count, some-ticks}
@@ -51,60 +51,60 @@ head-front x bs s = λ i. record {
   starts = four-front x.starts [] s.starts i;
 }
 
-head-length : (x : Head) → length (head_bytes x) ≡ head-size
+head-length : (x : Head) → length (head_bytes x) ≡ head_size
 unfolding head_bytes four_bytes two_bytes
 head-length x = refl
 
-head-next : (x : Head) (bs : List ℕ) → drop head-size (head_bytes x ++ bs) ≡ bs
+head-next : (x : Head) (bs : List ℕ) → drop head_size (head_bytes x ++ bs) ≡ bs
 unfolding head_bytes four_bytes two_bytes
 head-next x bs = refl
 
-pub run_length : (x : Run) → length (run-bytes x) ≡ run-size
-unfolding run-bytes four_bytes two_bytes
+pub run_length : (x : Run) → length (run_bytes x) ≡ run_size
+unfolding run_bytes four_bytes two_bytes
 run_length x = refl
 
-pub start-length : (x : Start) → length (start-bytes x) ≡ start-size
-unfolding start-bytes four_bytes two_bytes
+pub start-length : (x : Start) → length (start_bytes x) ≡ start_size
+unfolding start_bytes four_bytes two_bytes
 start-length x = refl
 
-run-next : (x : Run) (bs : List ℕ) → drop run-size (run-bytes x ++ bs) ≡ bs
-unfolding run-bytes four_bytes two_bytes
+run-next : (x : Run) (bs : List ℕ) → drop run_size (run_bytes x ++ bs) ≡ bs
+unfolding run_bytes four_bytes two_bytes
 run-next x bs = refl
 
-start-next : (x : Start) (bs : List ℕ) → drop start-size (start-bytes x ++ bs) ≡ bs
-unfolding start-bytes four_bytes two_bytes
+start-next : (x : Start) (bs : List ℕ) → drop start_size (start_bytes x ++ bs) ≡ bs
+unfolding start_bytes four_bytes two_bytes
 start-next x bs = refl
 
-run-front : (x : Run) (bs : List ℕ) → GoodRuns.Small x → run_in (run-bytes x ++ bs) ≡ x
-unfolding run_in run run-bytes four_bytes two_bytes four two
+run-front : (x : Run) (bs : List ℕ) → GoodRuns.Small x → run_in (run_bytes x ++ bs) ≡ x
+unfolding run_in run run_bytes four_bytes two_bytes four two
 run-front x bs s = λ i. record {
   offset = four-front x.offset [] s.offset i;
   long = four-front x.long [] s.long i;
   slow = four-front x.slow [] s.slow i;
 }
 
-start-front : (x : Start) (bs : List ℕ) → Causes.Small x → start-in (start-bytes x ++ bs) ≡ x
-unfolding start-in start-bytes four_bytes two_bytes four two
+start-front : (x : Start) (bs : List ℕ) → Causes.Small x → start_in (start_bytes x ++ bs) ≡ x
+unfolding start_in start_bytes four_bytes two_bytes four two
 start-front x bs s = λ i. record { cell = four-front x.cell [] s.cell i; time = four-front x.time [] s.time i }
 
 -- ---- the bytes in front of the starts, and all
-runs-length : (rs : List Run) → length (bytes_of run-bytes rs) ≡ run-size * length rs
-runs-length rs = length-bytes run-size run-bytes run_length rs
+runs-length : (rs : List Run) → length (bytes_of run_bytes rs) ≡ run_size * length rs
+runs-length rs = length-bytes run_size run_bytes run_length rs
 
-pub starts-length : (xs : List Start) → length (bytes_of start-bytes xs) ≡ start-size * length xs
-starts-length xs = length-bytes start-size start-bytes start-length xs
+pub starts-length : (xs : List Start) → length (bytes_of start_bytes xs) ≡ start_size * length xs
+starts-length xs = length-bytes start_size start_bytes start-length xs
 
-pub front_length : (x : Head) (ss : List ℕ) → length (front x ss) ≡ runs-end (length (runs_of x.ground ss))
+pub front_length : (x : Head) (ss : List ℕ) → length (front x ss) ≡ runs_end (length (runs_of x.ground ss))
 unfolding front
 front_length x ss =
-    let rs = bytes_of run-bytes (runs_of x.ground ss) in
+    let rs = bytes_of run_bytes (runs_of x.ground ss) in
     omega (arith, length-append (head_bytes x) rs, head-length x, runs-length (runs_of x.ground ss))
 
-pub length-file : (t g : ℕ) (b : Board) → length (file-of t g b) ≡ file-size (length (runs_of g b.slow)) (length b.starts)
-unfolding file-of head_of
-length-file t g b =
+pub length_file : (t g : ℕ) (b : Board) → length (file_of t g b) ≡ file_size (length (runs_of g b.slow)) (length b.starts)
+unfolding file_of head_of
+length_file t g b =
     let x = head_of b.wide b.high b.storeys t g b.slow (length b.starts) in
-    omega (arith, length-append (front x b.slow) (bytes_of start-bytes b.starts), front_length x b.slow, starts-length b.starts)
+    omega (arith, length-append (front x b.slow) (bytes_of start_bytes b.starts), front_length x b.slow, starts-length b.starts)
 
 -- ---- a board that is not refused
 module _ (b : Board) (t g : ℕ) (a : Given (handed b true) b.slow) (tl : t ≤ 65535) (gg : Good b.wide b.high b.storeys (g ∷ [])) where
@@ -115,28 +115,28 @@ module _ (b : Board) (t g : ℕ) (a : Given (handed b true) b.slow) (tl : t ≤ 
   x = head_of b.wide b.high b.storeys t g b.slow (length b.starts)
 
   f : List ℕ
-  f = head_bytes x ++ (bytes_of run-bytes rs ++ bytes_of start-bytes b.starts)
+  f = head_bytes x ++ (bytes_of run_bytes rs ++ bytes_of start_bytes b.starts)
 
-  is-file : file-of t g b ≡ f
-  unfolding file-of front head_of x f rs
-  is-file = append_assoc (head_bytes x) (bytes_of run-bytes rs) (bytes_of start-bytes b.starts)
+  is_file : file_of t g b ≡ f
+  unfolding file_of front head_of x f rs
+  is_file = append_assoc (head_bytes x) (bytes_of run_bytes rs) (bytes_of start_bytes b.starts)
 
-  starts-sound : Sound b
-  starts-sound = sound b a.starts
+  starts_sound : Sound b
+  starts_sound = sound b a.starts
 
-  good : runs-good (size b) g 0 g rs ≡ true
+  good : runs_good (size b) g 0 g rs ≡ true
   unfolding rs
-  good = rw a.long at (runs-of-good g b.slow)
+  good = rw a.long at (runs_of-good g b.slow)
 
-  slows : Good b.wide b.high b.storeys (g ∷ slows-of rs)
+  slows : Good b.wide b.high b.storeys (g ∷ slows_of rs)
   unfolding rs
   slows =
-      good-among _ _ _ (g ∷ slows-of (runs_of g b.slow)) (g ∷ b.slow) (runs-of-among g b.slow) (with-ground _ _ _ g b.slow gg a.slows)
+      good-among _ _ _ (g ∷ slows_of (runs_of g b.slow)) (g ∷ b.slow) (runs_of-among g b.slow) (with_ground _ _ _ g b.slow gg a.slows)
 
-  house : Housed b.wide b.high b.storeys (g ∷ slows-of rs)
+  house : Housed b.wide b.high b.storeys (g ∷ slows_of rs)
   house = housed _ _ _ _ slows
 
-  gentle : Spares steep (g ∷ slows-of rs)
+  gentle : Spares steep (g ∷ slows_of rs)
   gentle = house.gentle
 
   n-most : size b ≤ 65536
@@ -150,38 +150,38 @@ module _ (b : Board) (t g : ℕ) (a : Given (handed b true) b.slow) (tl : t ≤ 
     height = omega (arith, (sides-within b.wide b.high a.sides).3);
     storeys = omega (arith, house.high);
     ticks = omega arith;
-    ground = slow-fits g (slows-of rs) gentle;
-    runs = omega (arith, runs-of-count g b.slow, a.long, n-most);
-    starts = omega (arith, rise-count (size b) 0 b.starts starts-sound.rise (omega arith), n-most);
+    ground = slow-fits g (slows_of rs) gentle;
+    runs = omega (arith, runs_of-count g b.slow, a.long, n-most);
+    starts = omega (arith, rise-count (size b) 0 b.starts starts_sound.rise (omega arith), n-most);
   }
 
   holds-head : head_in f ≡ x
   unfolding f
   holds-head = head-front x _ head_small
 
-  behind : drop head-size f ≡ bytes_of run-bytes rs ++ bytes_of start-bytes b.starts
+  behind : drop head_size f ≡ bytes_of run_bytes rs ++ bytes_of start_bytes b.starts
   unfolding f
   behind = head-next x _
 
-  holds-runs : runs-in f ≡ rs
-  unfolding runs-in x head_of rs
+  holds-runs : runs_in f ≡ rs
+  unfolding runs_in x head_of rs
   holds-runs =
       rw (holds-head, behind)
-      (read_back run-size run_in run-bytes GoodRuns.Small run-front run-next rs _
-      (GoodRuns.all_small (size b) g 0 g rs (omega (arith, n-most)) good (spares-rest steep g (slows-of rs) gentle)))
+      (read_back run_size run_in run_bytes GoodRuns.Small run-front run-next rs _
+      (GoodRuns.all_small (size b) g 0 g rs (omega (arith, n-most)) good (spares_rest steep g (slows_of rs) gentle)))
 
-  holds-starts : starts-in f ≡ b.starts
-  unfolding starts-in x head_of rs
+  holds-starts : starts_in f ≡ b.starts
+  unfolding starts_in x head_of rs
   holds-starts =
-      let small = Causes.all_small (size b) 0 b.starts (omega (arith, n-most)) starts-sound.rise starts-sound.early in
+      let small = Causes.all_small (size b) 0 b.starts (omega (arith, n-most)) starts_sound.rise starts_sound.early in
       rw (
         holds-head,
-        ← drop-drop (run-size * length rs) head-size f,
+        ← drop-drop (run_size * length rs) head_size f,
         behind,
-        drop_at (bytes_of run-bytes rs) (bytes_of start-bytes b.starts) (run-size * length rs) (runs-length rs),
-        ← append-nil (bytes_of start-bytes b.starts),
+        drop_at (bytes_of run_bytes rs) (bytes_of start_bytes b.starts) (run_size * length rs) (runs-length rs),
+        ← append-nil (bytes_of start_bytes b.starts),
       )
-      (read_back start-size start-in start-bytes Causes.Small start-front start-next b.starts [] small)
+      (read_back start_size start_in start_bytes Causes.Small start-front start-next b.starts [] small)
 
   holds-slow : painted g 0 (b.wide * b.high * b.storeys) rs ≡ b.slow
   unfolding rs size
@@ -191,11 +191,11 @@ module _ (b : Board) (t g : ℕ) (a : Given (handed b true) b.slow) (tl : t ≤ 
   unfolding held x head_of
   holds = rw (holds-head, holds-runs, holds-starts, holds-slow)
 
-  long : length f ≡ file-size x.runs x.starts
+  long : length f ≡ file_size x.runs x.starts
   unfolding x head_of
-  long = ap length (sym is-file) ∙ length-file t g b
+  long = ap length (sym is_file) ∙ length_file t g b
 
-  is-accepted : ticks-good t ≡ true → (file-refusal f).number ≡ 0
+  is-accepted : ticks_good t ≡ true → (file_refusal f).number ≡ 0
   unfolding x head_of
   is-accepted tg = accepts f (record {
     front = record { head = omega (arith, long); long = rw holds-head long; sides = rw holds-head a.sides };
@@ -209,11 +209,11 @@ module _ (b : Board) (t g : ℕ) (a : Given (handed b true) b.slow) (tl : t ≤ 
   unfolding x head_of
   is_read = rw holds-head (refl, refl)
 
-pub file-of-is-accepted : File-of-is-accepted
-unfolding File-of-is-accepted handed-refusal
-file-of-is-accepted b t g file e tg gg q =
+pub file_of-is-accepted : FileOfIsAccepted
+unfolding FileOfIsAccepted handed_refusal
+file_of-is-accepted b t g file e tg gg q =
     let a = given (handed b true) b.slow none none (none-met _ e) in
     let tl = (some-ticks t tg).1 in
-    let k = house-none _ _ _ _ gg in
+    let k = house_none _ _ _ _ gg in
     let read = is_read b t g a tl k in
-    rw (q ∙ is-file b t g a tl k) (is-accepted b t g a tl k tg, holds b t g a tl k, read.0, read.1)
+    rw (q ∙ is_file b t g a tl k) (is-accepted b t g a tl k tg, holds b t g a tl k, read.0, read.1)

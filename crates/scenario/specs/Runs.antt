@@ -16,13 +16,13 @@ painted g a n (x ∷ xs) = replicate (x.offset - a) g ++ (replicate x.long x.slo
 
 -- the rules of a run, where the one before ended at a and had slowness z: sorted and apart, 1 or more long, within n,
 -- not the ground's slowness, and not that of the one before where the two touch
-unfoldable pub run-good : (n ground a z : ℕ) → Run → Bool
-run-good n g a z x =
+unfoldable pub run_good : (n ground a z : ℕ) → Run → Bool
+run_good n g a z x =
     leb a x.offset && leb 1 x.long && leb (end x) n && not (eqb x.slow g) && not (eqb x.offset a && eqb x.slow z)
 
-unfoldable pub runs-good : (n ground a z : ℕ) → List Run → Bool
-runs-good n g a z [] = true
-runs-good n g a z (x ∷ xs) = run-good n g a z x && runs-good n g (end x) x.slow xs
+unfoldable pub runs_good : (n ground a z : ℕ) → List Run → Bool
+runs_good n g a z [] = true
+runs_good n g a z (x ∷ xs) = run_good n g a z x && runs_good n g (end x) x.slow xs
 
 -- a stretch of equal slowness z from a to i is a run, unless it is ground
 unfoldable pub closed : (ground a i z : ℕ) → List Run → List Run

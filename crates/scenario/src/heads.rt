@@ -1,6 +1,6 @@
 // The head of a file, read and written; what it says of the bytes behind it.
 ghost use Rattle.std.specs.Prelude.{◌≡◌, ◌*◌, ◌≤◌, length, take};
-ghost use Rattle.scenario.specs.File.{head-size, runs-end, file-size, head_bytes, head_in};
+ghost use Rattle.scenario.specs.File.{head_size, runs_end, file_size, head_bytes, head_in};
 
 use super::bytes::{four_at, put_four, put_two, two_at};
 use super::runs::wide;
@@ -8,7 +8,7 @@ use super::{HEAD, Head, RUN, START};
 use eikonal::house_size;
 
 pub fn head_of(file: &[u8]) -> Head
-    requires { head-size ≤ length file.now }
+    requires { head_size ≤ length file.now }
     ensures { result ≡ head_in file.now }
 {
     Head {
@@ -23,8 +23,8 @@ pub fn head_of(file: &[u8]) -> Head
 }
 
 pub fn put_head(out: &mut [u8], head: Head)
-    requires { head-size ≤ length out.old }
-    ensures { take head-size out.new ≡ head_bytes head }
+    requires { head_size ≤ length out.old }
+    ensures { take head_size out.new ≡ head_bytes head }
 {
     put_two(out, 0, head.width);
     put_two(out, 2, head.height);
@@ -45,14 +45,14 @@ pub fn board_size(head: Head) -> usize
 
 // Where the starts begin.
 pub fn starts_base(head: Head) -> usize
-    ensures { result ≡ runs-end head.runs }
+    ensures { result ≡ runs_end head.runs }
 {
     HEAD + RUN * wide(head.runs)
 }
 
 // usize has 64 bits: no two counts of 32 bits make the sum wrap.
 pub fn file_length(head: Head) -> usize
-    ensures { result ≡ file-size head.runs head.starts }
+    ensures { result ≡ file_size head.runs head.starts }
 {
     starts_base(head) + START * wide(head.starts)
 }

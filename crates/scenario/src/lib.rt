@@ -5,8 +5,8 @@ pub mod runs;
 pub mod starts;
 
 ghost use Rattle.std.specs.Prelude.{◌≡◌};
-ghost use Rattle.scenario.specs.File.{ticks-good};
-ghost use Rattle.scenario.specs.Turns.{turn-reply, Turn-says};
+ghost use Rattle.scenario.specs.File.{ticks_good};
+ghost use Rattle.scenario.specs.Turns.{turn_reply, TurnSays};
 
 use eikonal::{LARGEST, NEVER};
 use refusals::causes::within;
@@ -62,13 +62,13 @@ pub struct Run {
 }
 
 pub fn ticks_good(ticks: u32) -> bool
-    ensures { result ≡ ticks-good ticks }
+    ensures { result ≡ ticks_good ticks }
 {
     within(1, 65535, ticks as usize)
 }
 
 fn turn_reply(number: u32, turn: u32, rest: u32) -> TurnReply
-    ensures { result ≡ turn-reply number turn rest }
+    ensures { result ≡ turn_reply number turn rest }
 {
     TurnReply {
         number: number,
@@ -79,7 +79,7 @@ fn turn_reply(number: u32, turn: u32, rest: u32) -> TurnReply
 
 // The turn of a time, rounded up, and the ticks to go until it closes: never and none for never, which a time above 300,000,000 counts as.
 pub fn turn(time: u32, ticks: u32) -> TurnReply
-    ensures { Turn-says time ticks result }
+    ensures { TurnSays time ticks result }
 {
     if !ticks_good(ticks) {
         return turn_reply(3, 0, 0);

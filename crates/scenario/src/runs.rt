@@ -1,10 +1,10 @@
 // The runs in a file, judged before anything is written.
 ghost use Rattle.std.specs.Prelude.{◌≡◌, ◌++◌, map, ◌+◌, ◌≤◌, length, take, drop};
-ghost use Rattle.refusals.specs.Flaws.{with-pairs};
+ghost use Rattle.refusals.specs.Flaws.{with_pairs};
 ghost use Rattle.scenario.specs.Bytes.{records};
-ghost use Rattle.scenario.specs.Runs.{run-good, runs-good};
-ghost use Rattle.scenario.specs.File.{head-size, run-size, runs-end, run-bytes, run_in};
-ghost use Rattle.scenario.specs.Inner.Walk.{runs-onward, past, near};
+ghost use Rattle.scenario.specs.Runs.{run_good, runs_good};
+ghost use Rattle.scenario.specs.File.{head_size, run_size, runs_end, run_bytes, run_in};
+ghost use Rattle.scenario.specs.Inner.Walk.{runs_onward, past, near};
 
 use super::bytes::{four_at, put_four, put_wide_pair};
 use super::{HEAD, RUN, Run};
@@ -24,7 +24,7 @@ pub fn run_end(x: Run) -> usize
 }
 
 pub fn run_at(file: &[u8], at: usize) -> Run
-    requires { at + run-size ≤ length file.now }
+    requires { at + run_size ≤ length file.now }
     ensures { result ≡ run_in (drop at file.now) }
 {
     Run {
@@ -36,8 +36,8 @@ pub fn run_at(file: &[u8], at: usize) -> Run
 
 // The bytes in front of the run stay.
 pub fn put_run(out: &mut [u8], at: usize, x: Run)
-    requires { at + run-size ≤ length out.old }
-    ensures { take (at + run-size) out.new ≡ take at out.old ++ run-bytes x }
+    requires { at + run_size ≤ length out.old }
+    ensures { take (at + run_size) out.new ≡ take at out.old ++ run_bytes x }
 {
     put_wide_pair(out, at, x.offset, x.long);
     put_four(out, at + 8, x.slow);
@@ -45,7 +45,7 @@ pub fn put_run(out: &mut [u8], at: usize, x: Run)
 
 // The rules of a run, where cells are free from one on, and the run that ends there has a slowness.
 fn run_good(n: usize, ground: u32, free: usize, last: u32, x: Run) -> bool
-    ensures { result ≡ run-good n ground free last x }
+    ensures { result ≡ run_good n ground free last x }
 {
     let from = wide(x.offset);
     if from < free {
@@ -68,8 +68,8 @@ fn run_good(n: usize, ground: u32, free: usize, last: u32, x: Run) -> bool
 
 // The runs' slownesses, after those looked at so far.
 pub fn with_runs(file: &[u8], count: usize, so_far: Flaws) -> Flaws
-    requires { runs-end count ≤ length file.now }
-    ensures { result ≡ with-pairs (map (λ x. x.slow) (records run-size run_in count (drop head-size file.now))) so_far }
+    requires { runs_end count ≤ length file.now }
+    ensures { result ≡ with_pairs (map (λ x. x.slow) (records run_size run_in count (drop head_size file.now))) so_far }
 {
     let mut flaws = so_far;
     let mut i = 0;
@@ -81,8 +81,8 @@ pub fn with_runs(file: &[u8], count: usize, so_far: Flaws) -> Flaws
 }
 
 pub fn runs_good(file: &[u8], count: usize, n: usize, ground: u32) -> bool
-    requires { runs-end count ≤ length file.now }
-    ensures { result ≡ runs-good n ground 0 ground (records run-size run_in count (drop head-size file.now)) }
+    requires { runs_end count ≤ length file.now }
+    ensures { result ≡ runs_good n ground 0 ground (records run_size run_in count (drop head_size file.now)) }
 {
     let mut free = 0;
     let mut last = ground;
@@ -101,9 +101,9 @@ pub fn runs_good(file: &[u8], count: usize, n: usize, ground: u32) -> bool
 
 // The first run from the i-th on that ends behind a cell.
 pub fn pass(file: &[u8], count: usize, i: usize, cell: usize) -> usize
-    requires { (runs-end count ≤ length file.now) × (i ≤ count) }
+    requires { (runs_end count ≤ length file.now) × (i ≤ count) }
     ensures most { result ≤ count }
-    ensures is { runs-onward file.now count result ≡ past cell (runs-onward file.now count i) }
+    ensures is { runs_onward file.now count result ≡ past cell (runs_onward file.now count i) }
 {
     let mut k = i;
     while k < count {
@@ -117,8 +117,8 @@ pub fn pass(file: &[u8], count: usize, i: usize, cell: usize) -> usize
 
 // The slowness of a cell that lies in the i-th run or in front of it.
 pub fn slow_near(file: &[u8], count: usize, i: usize, cell: usize, ground: u32) -> u32
-    requires { runs-end count ≤ length file.now }
-    ensures { result ≡ near ground cell (runs-onward file.now count i) }
+    requires { runs_end count ≤ length file.now }
+    ensures { result ≡ near ground cell (runs_onward file.now count i) }
 {
     if i < count {
         let x = run_at(file, HEAD + RUN * i);

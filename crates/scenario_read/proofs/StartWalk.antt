@@ -11,55 +11,55 @@ use lib.Seq.{get_or-append-add}
 use borrow.Author.Tests.{le-leb, lt-leb, ne_eqb, leb-true, ltb-true}
 use Rattle.eikonal.specs.Board.{Board, slowness}
 use Rattle.eikonal.specs.declared.Start.{Start}
-use Rattle.eikonal.specs.Refusals.{on-wall}
-use Rattle.eikonal.specs.Inner.Good.{starts-rise}
-use Rattle.refusals.specs.Judge.{judge-start, judge-by}
+use Rattle.eikonal.specs.Refusals.{on_wall}
+use Rattle.eikonal.specs.Inner.Good.{starts_rise}
+use Rattle.refusals.specs.Judge.{judge_start, judge_by}
 use Rattle.refusals.specs.declared.board.Judged.{Judged}
 use Rattle.eikonal.proofs.Good.{and-true}
 use Rattle.scenario.specs.declared.Run.{Run}
 use Rattle.scenario.specs.Bytes.{records}
-use Rattle.scenario.specs.Runs.{end, painted, run-good, runs-good}
-use Rattle.scenario.specs.File.{start-size, start-in}
-use Rattle.scenario.specs.Inner.Walk.{starts-onward, past, near, wall-among}
+use Rattle.scenario.specs.Runs.{end, painted, run_good, runs_good}
+use Rattle.scenario.specs.File.{start_size, start_in}
+use Rattle.scenario.specs.Inner.Walk.{starts_onward, past, near, wall_among}
 use Rattle.scenario.proofs.Records.{onward-none, onward-next, onward-all}
 use Rattle.scenario.proofs.Filling.{one_more}
 use Rattle.scenario.proofs.GoodRuns.{good-fits}
 
-pub starts-all : (f : List ℕ) (a count : ℕ) → records start-size start-in count (drop a f) ≡ starts-onward f a count 0
-starts-all f a count = sym (onward-all start-size start-in f a count)
+pub starts-all : (f : List ℕ) (a count : ℕ) → records start_size start_in count (drop a f) ≡ starts_onward f a count 0
+starts-all f a count = sym (onward-all start_size start_in f a count)
 
 -- none is left
 module _ (f : List ℕ) (a count i : ℕ) (l : count ≤ i) where
-  pub none : starts-onward f a count i ≡ []
-  none = onward-none start-size start-in f a count i l
+  pub none : starts_onward f a count i ≡ []
+  none = onward-none start_size start_in f a count i l
 
-  pub judged-none : (n : ℕ) (g : ℕ → ℕ) (j : Judged) → judge-by n g (starts-onward f a count i) j ≡ j
-  unfolding judge-by
+  pub judged-none : (n : ℕ) (g : ℕ → ℕ) (j : Judged) → judge_by n g (starts_onward f a count i) j ≡ j
+  unfolding judge_by
   judged-none n g j = rw none
 
-  pub wall-none : (g : ℕ) (xs : List Run) → wall-among g xs (starts-onward f a count i) ≡ false
-  unfolding wall-among
-  wall-none g xs = rw none
+  pub wall_none : (g : ℕ) (xs : List Run) → wall_among g xs (starts_onward f a count i) ≡ false
+  unfolding wall_among
+  wall_none g xs = rw none
 
 -- the start in hand
-module _ (f : List ℕ) (a count i : ℕ) (x : Start) (l : i < count) (e : x ≡ start-in (drop (a + start-size * i) f)) where
-  next : starts-onward f a count i ≡ x ∷ starts-onward f a count (i + 1)
-  next = onward-next start-size start-in f a count i x l e
+module _ (f : List ℕ) (a count i : ℕ) (x : Start) (l : i < count) (e : x ≡ start_in (drop (a + start_size * i) f)) where
+  next : starts_onward f a count i ≡ x ∷ starts_onward f a count (i + 1)
+  next = onward-next start_size start_in f a count i x l e
 
-  pub judged-next : (n : ℕ) (g : ℕ → ℕ) (j : Judged) → judge-by n g (starts-onward f a count i) j
-      ≡ judge-by n g (starts-onward f a count (i + 1)) (judge-start n (g x.cell) x.cell x.time j)
-  unfolding judge-by
+  pub judged-next : (n : ℕ) (g : ℕ → ℕ) (j : Judged) → judge_by n g (starts_onward f a count i) j
+      ≡ judge_by n g (starts_onward f a count (i + 1)) (judge_start n (g x.cell) x.cell x.time j)
+  unfolding judge_by
   judged-next n g j = rw next
 
   -- its cell, or its time, is entered into a list
   pub start-entered : (g : Start → ℕ) (old : List ℕ) → i < length old
-      → take (i + 1) (set old i (g x)) ++ map g (starts-onward f a count (i + 1)) ≡ take i old ++ map g (starts-onward f a count i)
+      → take (i + 1) (set old i (g x)) ++ map g (starts_onward f a count (i + 1)) ≡ take i old ++ map g (starts_onward f a count i)
   start-entered g old h = rw next (one_more old i (g x) _ h)
 
 -- ---- starts among runs
 -- cells that rise from l on rise from anything lower on
-rise-down : (n k l : ℕ) (xs : List Start) → k ≤ l → starts-rise n l xs ≡ true → starts-rise n k xs ≡ true
-unfolding starts-rise
+rise-down : (n k l : ℕ) (xs : List Start) → k ≤ l → starts_rise n l xs ≡ true → starts_rise n k xs ≡ true
+unfolding starts_rise
 rise-down n k l [] h e = refl
 rise-down n k l (x ∷ xs) h e =
     let r = and-true (leb l x.cell && ltb x.cell n) _ e in
@@ -76,37 +76,37 @@ past-past c d (x ∷ xs) h = elim (dec_le (end x) c) [
 ]
 
 -- the runs that end at a cell or before it do not count for later starts
-wall-past : (n g c l : ℕ) (xs : List Run) (ss : List Start) → c ≤ l → starts-rise n l ss ≡ true → wall-among g xs ss ≡ wall-among g (past c xs) ss
-unfolding wall-among starts-rise
-wall-past n g c l xs [] h e = refl
-wall-past n g c l xs (s ∷ ss) h e =
+wall_past : (n g c l : ℕ) (xs : List Run) (ss : List Start) → c ≤ l → starts_rise n l ss ≡ true → wall_among g xs ss ≡ wall_among g (past c xs) ss
+unfolding wall_among starts_rise
+wall_past n g c l xs [] h e = refl
+wall_past n g c l xs (s ∷ ss) h e =
     let r = and-true (leb l s.cell && ltb s.cell n) _ e in
     let low = leb-true l s.cell (and-true (leb l s.cell) (ltb s.cell n) r.0).0 in
     ap₂ (λ u v. eqb u 0 || v) (ap (near g s.cell) (sym (past-past c s.cell xs (omega arith))))
-    (wall-past n g c (suc s.cell) xs ss (omega arith) r.1)
+    (wall_past n g c (suc s.cell) xs ss (omega arith) r.1)
 
 -- the starts behind the one in hand rise too
-module _ (f : List ℕ) (a count i : ℕ) (x : Start) (l : i < count) (e : x ≡ start-in (drop (a + start-size * i) f))
-    (n : ℕ) (r : starts-rise n 0 (starts-onward f a count i) ≡ true) where
-  rise-past : starts-rise n (suc x.cell) (starts-onward f a count (i + 1)) ≡ true
-  unfolding starts-rise
+module _ (f : List ℕ) (a count i : ℕ) (x : Start) (l : i < count) (e : x ≡ start_in (drop (a + start_size * i) f))
+    (n : ℕ) (r : starts_rise n 0 (starts_onward f a count i) ≡ true) where
+  rise-past : starts_rise n (suc x.cell) (starts_onward f a count (i + 1)) ≡ true
+  unfolding starts_rise
   rise-past = (and-true (leb 0 x.cell && ltb x.cell n) _ (rw (next f a count i x l e) at r)).1
 
-  pub rise-behind : starts-rise n 0 (starts-onward f a count (i + 1)) ≡ true
+  pub rise-behind : starts_rise n 0 (starts_onward f a count (i + 1)) ≡ true
   rise-behind = rise-down n 0 (suc x.cell) _ (omega arith) rise-past
 
 -- one start more: its slowness s is found among the runs ys that are left
-module _ (f : List ℕ) (a count i : ℕ) (x : Start) (l : i < count) (e : x ≡ start-in (drop (a + start-size * i) f))
+module _ (f : List ℕ) (a count i : ℕ) (x : Start) (l : i < count) (e : x ≡ start_in (drop (a + start_size * i) f))
     (v : ℕ) (d : v ≡ x.cell) (g : ℕ) (xs ys : List Run) (p : ys ≡ past v xs) (s : ℕ) (q : s ≡ near g v ys) where
-  pub wall-here : s ≡ 0 → wall-among g xs (starts-onward f a count i) ≡ true
-  unfolding wall-among
-  wall-here h = rw (next f a count i x l e, ← d, ← p, ← q, h) refl
+  pub wall_here : s ≡ 0 → wall_among g xs (starts_onward f a count i) ≡ true
+  unfolding wall_among
+  wall_here h = rw (next f a count i x l e, ← d, ← p, ← q, h) refl
 
-  pub wall-next : (n : ℕ) → starts-rise n 0 (starts-onward f a count i) ≡ true → (s ≡ 0 → ⊥)
-      → wall-among g xs (starts-onward f a count i) ≡ wall-among g ys (starts-onward f a count (i + 1))
-  unfolding wall-among
-  wall-next n r h =
-      let rest = wall-past n g v (suc x.cell) xs (starts-onward f a count (i + 1)) (omega arith) (rise-past f a count i x l e n r) in
+  pub wall_next : (n : ℕ) → starts_rise n 0 (starts_onward f a count i) ≡ true → (s ≡ 0 → ⊥)
+      → wall_among g xs (starts_onward f a count i) ≡ wall_among g ys (starts_onward f a count (i + 1))
+  unfolding wall_among
+  wall_next n r h =
+      let rest = wall_past n g v (suc x.cell) xs (starts_onward f a count (i + 1)) (omega arith) (rise-past f a count i x l e n r) in
       rw (next f a count i x l e, ← d, ← p, ← q, ne_eqb s 0 h, p) rest
 
 -- ---- the slowness of a cell, found among the runs
@@ -117,11 +117,11 @@ behind k v i ys h =
 inside : (k v i : ℕ) (ys : List ℕ) → i < k → get_or (replicate k v ++ ys) i 0 ≡ v
 inside k v i ys h = get_or-append (replicate k v) ys 0 i (rw length-replicate h) ∙ get_or-replicate k i v 0 h
 
-painted-at : (n g a z c : ℕ) (xs : List Run) → runs-good n g a z xs ≡ true → a ≤ c → c < n → get_or (painted g a n xs) (c - a) 0 ≡ near g c (past c xs)
-unfolding painted past near runs-good end
+painted-at : (n g a z c : ℕ) (xs : List Run) → runs_good n g a z xs ≡ true → a ≤ c → c < n → get_or (painted g a n xs) (c - a) 0 ≡ near g c (past c xs)
+unfolding painted past near runs_good end
 painted-at n g a z c [] e h k = get_or-replicate (n - a) (c - a) g 0 (omega arith)
 painted-at n g a z c (x ∷ xs) e h k =
-    let r = and-true (run-good n g a z x) _ e in
+    let r = and-true (run_good n g a z x) _ e in
     let f = good-fits n g a z x r.0 in
     elim (dec_le (x.offset + x.long) c) [
       | yes q ↦
@@ -139,15 +139,15 @@ painted-at n g a z c (x ∷ xs) e h k =
     ]
 
 -- ON A WALL: the walk finds what the board says
-pub walls-found : (b : Board) (n g l : ℕ) (xs : List Run) (ss : List Start) → b.slow ≡ painted g 0 n xs → runs-good n g 0 g xs ≡ true
-    → starts-rise n l ss ≡ true → on-wall b ss ≡ wall-among g xs ss
-unfolding on-wall wall-among starts-rise slowness
-walls-found b n g l xs [] p e h = refl
-walls-found b n g l xs (s ∷ ss) p e h =
+pub walls_found : (b : Board) (n g l : ℕ) (xs : List Run) (ss : List Start) → b.slow ≡ painted g 0 n xs → runs_good n g 0 g xs ≡ true
+    → starts_rise n l ss ≡ true → on_wall b ss ≡ wall_among g xs ss
+unfolding on_wall wall_among starts_rise slowness
+walls_found b n g l xs [] p e h = refl
+walls_found b n g l xs (s ∷ ss) p e h =
     let r = and-true (leb l s.cell && ltb s.cell n) _ h in
     let high = ltb-true s.cell n (and-true (leb l s.cell) (ltb s.cell n) r.0).1 in
     let here : get_or b.slow s.cell 0 ≡ near g s.cell (past s.cell xs) =
     ap (λ u. get_or u s.cell 0) p ∙ ap (λ u. get_or (painted g 0 n xs) u 0) (let q : s.cell ≡ s.cell - 0 = omega arith in q)
     ∙ painted-at n g 0 g s.cell xs e (omega arith) high
     in
-    ap₂ (λ u v. eqb u 0 || v) here (walls-found b n g (suc s.cell) xs ss p e r.1)
+    ap₂ (λ u v. eqb u 0 || v) here (walls_found b n g (suc s.cell) xs ss p e r.1)

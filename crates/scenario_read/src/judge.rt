@@ -2,12 +2,12 @@
 ghost use Rattle.std.specs.Prelude.{◌≡◌, true, not, [], ◌∷◌, map, ◌*◌};
 ghost use Rattle.eikonal.specs.Board.{size};
 ghost use Rattle.eikonal.specs.Order.{caused, or_else, first_of};
-ghost use Rattle.eikonal.specs.Refusals.{pair-causes, record-causes};
-ghost use Rattle.eikonal.specs.Inner.Good.{starts-rise};
-ghost use Rattle.scenario.specs.Runs.{runs-good};
-ghost use Rattle.scenario.specs.File.{head_in, held, front-causes, rest-causes, file-refusal};
-ghost use Rattle.scenario.specs.Calls.{scenario, scenario-of, room-good, reader-refusal, reader-answer};
-ghost use Rattle.scenario.specs.Inner.Walk.{Fits, runs_by, starts_by, wall-among};
+ghost use Rattle.eikonal.specs.Refusals.{pair_causes, record_causes};
+ghost use Rattle.eikonal.specs.Inner.Good.{starts_rise};
+ghost use Rattle.scenario.specs.Runs.{runs_good};
+ghost use Rattle.scenario.specs.File.{head_in, held, front_causes, rest_causes, file_refusal};
+ghost use Rattle.scenario.specs.Calls.{scenario, scenario_of, room_good, reader_refusal, reader_answer};
+ghost use Rattle.scenario.specs.Inner.Walk.{Fits, runs_by, starts_by, wall_among};
 
 use super::starts::{judge_unwalled, starts_on_wall};
 use eikonal::{Refusal, cause};
@@ -19,7 +19,7 @@ use scenario::{HEAD, Head, Scenario, ticks_good};
 
 // 1 and 2: a file under 20 bytes has no head.
 pub fn front_refusal(file: &[u8]) -> Refusal
-    ensures { result ≡ first_of (front-causes file.now) }
+    ensures { result ≡ first_of (front_causes file.now) }
 {
     if file.len() < HEAD {
         return cause(1);
@@ -32,7 +32,7 @@ pub fn front_refusal(file: &[u8]) -> Refusal
 // 5, 21 and 23: the ground's slowness and all runs'. Here and below, the file is gone through where nothing was found before.
 fn pairs_refusal(so_far: Refusal, file: &[u8], head: Head) -> Refusal
     requires { Fits «head» file.now }
-    ensures { result ≡ or_else so_far (first_of (pair-causes «head».width «head».height «head».storeys
+    ensures { result ≡ or_else so_far (first_of (pair_causes «head».width «head».height «head».storeys
         («head».ground ∷ map (λ x. x.slow) (runs_by «head» file.now)))) }
 {
     if so_far.number != 0 {
@@ -45,7 +45,7 @@ fn pairs_refusal(so_far: Refusal, file: &[u8], head: Head) -> Refusal
 // 6: the other rules of runs.
 fn rules_refusal(so_far: Refusal, file: &[u8], head: Head) -> Refusal
     requires { Fits «head» file.now }
-    ensures { result ≡ or_else so_far (first_of (caused 6 (not (runs-good («head».width * «head».height * «head».storeys)
+    ensures { result ≡ or_else so_far (first_of (caused 6 (not (runs_good («head».width * «head».height * «head».storeys)
         «head».ground 0 «head».ground (runs_by «head» file.now))) ∷ [])) }
 {
     if so_far.number != 0 {
@@ -58,7 +58,7 @@ fn rules_refusal(so_far: Refusal, file: &[u8], head: Head) -> Refusal
 // 7, 18 and 8: each looks at all starts.
 fn records_refusal(so_far: Refusal, file: &[u8], head: Head) -> Refusal
     requires { Fits «head» file.now }
-    ensures { result ≡ or_else so_far (first_of (record-causes («head».width * «head».height * «head».storeys)
+    ensures { result ≡ or_else so_far (first_of (record_causes («head».width * «head».height * «head».storeys)
         (starts_by «head» file.now))) }
 {
     if so_far.number != 0 {
@@ -70,8 +70,8 @@ fn records_refusal(so_far: Refusal, file: &[u8], head: Head) -> Refusal
 // 9: starts that rise are walked along with the runs, to find walls.
 fn walls_refusal(so_far: Refusal, file: &[u8], head: Head) -> Refusal
     requires file { Fits «head» file.now }
-    requires rise { so_far.number ≡ 0 → starts-rise (size (held file.now)) 0 (starts_by «head» file.now) ≡ true }
-    ensures { result ≡ or_else so_far (first_of (caused 9 (wall-among «head».ground (runs_by «head» file.now)
+    requires rise { so_far.number ≡ 0 → starts_rise (size (held file.now)) 0 (starts_by «head» file.now) ≡ true }
+    ensures { result ≡ or_else so_far (first_of (caused 9 (wall_among «head».ground (runs_by «head» file.now)
         (starts_by «head» file.now)) ∷ [])) }
 {
     if so_far.number != 0 {
@@ -89,8 +89,8 @@ fn walls_refusal(so_far: Refusal, file: &[u8], head: Head) -> Refusal
 
 // 3, 5, 21, 23, 6, 7, 18, 8 and 9 of a file whose front is good, where nothing was found before.
 pub fn rest_refusal(so_far: Refusal, file: &[u8]) -> Refusal
-    requires { so_far.number ≡ 0 → (first_of (front-causes file.now)).number ≡ 0 }
-    ensures { result ≡ or_else so_far (first_of (rest-causes file.now)) }
+    requires { so_far.number ≡ 0 → (first_of (front_causes file.now)).number ≡ 0 }
+    ensures { result ≡ or_else so_far (first_of (rest_causes file.now)) }
 {
     if so_far.number != 0 {
         return so_far;
@@ -104,7 +104,7 @@ pub fn rest_refusal(so_far: Refusal, file: &[u8]) -> Refusal
 }
 
 pub fn file_refusal(file: &[u8]) -> Refusal
-    ensures { result ≡ file-refusal file.now }
+    ensures { result ≡ file_refusal file.now }
 {
     rest_refusal(front_refusal(file), file)
 }
@@ -126,8 +126,8 @@ fn refused(refusal: Refusal) -> Scenario
 
 // 14, where nothing was found before.
 fn room_refusal(so_far: Refusal, file: &[u8], slows: usize, starts: usize) -> Refusal
-    requires { so_far.number ≡ 0 → (file-refusal file.now).number ≡ 0 }
-    ensures { result ≡ or_else so_far (first_of (caused 14 (not (room-good (head_in file.now) slows starts)) ∷ [])) }
+    requires { so_far.number ≡ 0 → (file_refusal file.now).number ≡ 0 }
+    ensures { result ≡ or_else so_far (first_of (caused 14 (not (room_good (head_in file.now) slows starts)) ∷ [])) }
 {
     if so_far.number != 0 {
         return so_far;
@@ -138,7 +138,7 @@ fn room_refusal(so_far: Refusal, file: &[u8], slows: usize, starts: usize) -> Re
 }
 
 fn scenario_of(head: Head) -> Scenario
-    ensures { result ≡ scenario-of «head» }
+    ensures { result ≡ scenario_of «head» }
 {
     Scenario {
         number: 0,
@@ -154,7 +154,7 @@ fn scenario_of(head: Head) -> Scenario
 
 // What the reader answers, for lists that have room for so many slownesses and starts.
 pub fn judge_scenario(file: &[u8], slows: usize, starts: usize) -> Scenario
-    ensures { result ≡ reader-answer (reader-refusal file.now slows starts) file.now }
+    ensures { result ≡ reader_answer (reader_refusal file.now slows starts) file.now }
 {
     let refusal = room_refusal(file_refusal(file), file, slows, starts);
     if refusal.number != 0 {

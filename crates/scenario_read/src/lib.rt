@@ -5,10 +5,10 @@ pub mod starts;
 
 ghost use Rattle.std.specs.Prelude.{◌≡◌, ◌+◌, ◌*◌, ◌≤◌, length, drop};
 ghost use Rattle.eikonal.specs.Board.{size};
-ghost use Rattle.eikonal.specs.Refusals.{cells_of, begins-of};
+ghost use Rattle.eikonal.specs.Refusals.{cells_of, begins_of};
 ghost use Rattle.scenario.specs.Bytes.{records};
-ghost use Rattle.scenario.specs.File.{start-size, held, start-in, start-count, starts-in, file-refusal};
-ghost use Rattle.scenario.specs.Calls.{filled, reader-refusal, reader-answer, Reads};
+ghost use Rattle.scenario.specs.File.{start_size, held, start_in, start_count, starts_in, file_refusal};
+ghost use Rattle.scenario.specs.Calls.{filled, reader_refusal, reader_answer, Reads};
 
 use eikonal::shorter;
 use scenario::heads::{board_size, head_of, starts_base};
@@ -18,9 +18,9 @@ use scenario::{START, Scenario};
 
 // The starts from a place in the file on, as many as the lists hold.
 pub fn read_starts(file: &[u8], base: usize, cells: &mut [u32], begins: &mut [u32])
-    requires { (base + start-size * length cells.old ≤ length file.now) × (length cells.old ≡ length begins.old) }
-    ensures cells { cells.new ≡ cells_of (records start-size start-in (length cells.old) (drop base file.now)) }
-    ensures begins { begins.new ≡ begins-of (records start-size start-in (length cells.old) (drop base file.now)) }
+    requires { (base + start_size * length cells.old ≤ length file.now) × (length cells.old ≡ length begins.old) }
+    ensures cells { cells.new ≡ cells_of (records start_size start_in (length cells.old) (drop base file.now)) }
+    ensures begins { begins.new ≡ begins_of (records start_size start_in (length cells.old) (drop base file.now)) }
 {
     let mut i = 0;
     while i < cells.len() {
@@ -33,7 +33,7 @@ pub fn read_starts(file: &[u8], base: usize, cells: &mut [u32], begins: &mut [u3
 
 // The slownesses of a file that was judged; later entries stay.
 pub fn fill_slow(file: &[u8], slow: &mut [u32])
-    requires { ((file-refusal file.now).number ≡ 0) × (size (held file.now) ≤ length slow.old) }
+    requires { ((file_refusal file.now).number ≡ 0) × (size (held file.now) ≤ length slow.old) }
     ensures { slow.new ≡ filled 0 (held file.now).slow slow.old }
 {
     let head = head_of(file);
@@ -43,10 +43,10 @@ pub fn fill_slow(file: &[u8], slow: &mut [u32])
 
 // Its starts; later entries stay.
 fn fill_starts(file: &[u8], cells: &mut [u32], begins: &mut [u32])
-    requires file { (file-refusal file.now).number ≡ 0 }
-    requires room { (start-count file.now ≤ length cells.old) × (start-count file.now ≤ length begins.old) }
-    ensures cells { cells.new ≡ filled 0 (cells_of (starts-in file.now)) cells.old }
-    ensures begins { begins.new ≡ filled 0 (begins-of (starts-in file.now)) begins.old }
+    requires file { (file_refusal file.now).number ≡ 0 }
+    requires room { (start_count file.now ≤ length cells.old) × (start_count file.now ≤ length begins.old) }
+    ensures cells { cells.new ≡ filled 0 (cells_of (starts_in file.now)) cells.old }
+    ensures begins { begins.new ≡ filled 0 (begins_of (starts_in file.now)) begins.old }
 {
     let head = head_of(file);
     let base = starts_base(head);
@@ -57,7 +57,7 @@ fn fill_starts(file: &[u8], cells: &mut [u32], begins: &mut [u32])
 // What the reader answers, where there is room for so many starts; the slownesses of an accepted file are filled in. A refused
 // one leaves the list as it was.
 pub fn read_ground(file: &[u8], slow: &mut [u32], starts: usize) -> Scenario
-    ensures { (result ≡ reader-answer (reader-refusal file.now (length slow.old) starts) file.now)
+    ensures { (result ≡ reader_answer (reader_refusal file.now (length slow.old) starts) file.now)
         × (slow.new ≡ filled result.number (held file.now).slow slow.old) }
 {
     let judged = judge::judge_scenario(file, slow.len(), starts);

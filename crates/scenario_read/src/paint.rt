@@ -1,7 +1,7 @@
 // The slownesses of a board, from the ground and the runs in a file that was judged.
 ghost use Rattle.std.specs.Prelude.{◌≡◌, true, ◌++◌, ◌+◌, ◌-◌, ◌≤◌, length, take, replicate};
-ghost use Rattle.scenario.specs.Runs.{painted, runs-good};
-ghost use Rattle.scenario.specs.File.{runs-end, head_in, runs-in};
+ghost use Rattle.scenario.specs.Runs.{painted, runs_good};
+ghost use Rattle.scenario.specs.File.{runs_end, head_in, runs_in};
 
 use scenario::runs::{run_at, run_end, wide};
 use scenario::{HEAD, Head, RUN, Run};
@@ -31,9 +31,9 @@ fn paint(slow: &mut [u32], from: usize, ground: u32, x: Run)
 
 // A list as long as the board has cells.
 pub fn read_slow(file: &[u8], head: Head, slow: &mut [u32])
-    requires head { («head» ≡ head_in file.now) × (runs-end «head».runs ≤ length file.now) }
-    requires runs { runs-good (length slow.old) «head».ground 0 «head».ground (runs-in file.now) ≡ true }
-    ensures { slow.new ≡ painted «head».ground 0 (length slow.old) (runs-in file.now) }
+    requires head { («head» ≡ head_in file.now) × (runs_end «head».runs ≤ length file.now) }
+    requires runs { runs_good (length slow.old) «head».ground 0 «head».ground (runs_in file.now) ≡ true }
+    ensures { slow.new ≡ painted «head».ground 0 (length slow.old) (runs_in file.now) }
 {
     let ground = head.ground;
     let count = wide(head.runs);

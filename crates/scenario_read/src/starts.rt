@@ -1,11 +1,11 @@
 // The starts in a file, judged before anything is written.
 ghost use Rattle.std.specs.Prelude.{◌≡◌, true, ◌+◌, ◌*◌, ◌≤◌, length, drop};
 ghost use Rattle.eikonal.specs.Board.{size};
-ghost use Rattle.eikonal.specs.Inner.Good.{starts-rise};
-ghost use Rattle.refusals.specs.Judge.{nothing-judged, judge-by, unwalled};
+ghost use Rattle.eikonal.specs.Inner.Good.{starts_rise};
+ghost use Rattle.refusals.specs.Judge.{nothing_judged, judge_by, unwalled};
 ghost use Rattle.scenario.specs.Bytes.{records};
-ghost use Rattle.scenario.specs.File.{head-size, run-size, start-size, runs-end, run_in, start-in, held};
-ghost use Rattle.scenario.specs.Inner.Walk.{wall-among};
+ghost use Rattle.scenario.specs.File.{head_size, run_size, start_size, runs_end, run_in, start_in, held};
+ghost use Rattle.scenario.specs.Inner.Walk.{wall_among};
 
 use refusals::board::{Judged, judge_start, nothing_judged};
 use scenario::START;
@@ -14,8 +14,8 @@ use scenario::starts::start_at;
 
 // The starts on a board of n cells, as if it had no walls: these are looked for where the starts rise.
 pub fn judge_unwalled(file: &[u8], base: usize, count: usize, n: usize) -> Judged
-    requires { base + start-size * count ≤ length file.now }
-    ensures { result ≡ judge-by n unwalled (records start-size start-in count (drop base file.now)) nothing-judged }
+    requires { base + start_size * count ≤ length file.now }
+    ensures { result ≡ judge_by n unwalled (records start_size start_in count (drop base file.now)) nothing_judged }
 {
     let mut judged = nothing_judged();
     let mut i = 0;
@@ -29,10 +29,10 @@ pub fn judge_unwalled(file: &[u8], base: usize, count: usize, n: usize) -> Judge
 
 // Whether a start lies on a wall. Starts and runs both rise by cell: one walk over both finds the run of each start.
 pub fn starts_on_wall(file: &[u8], runs: usize, base: usize, count: usize, ground: u32) -> bool
-    requires room { (runs-end runs ≤ length file.now) × (base + start-size * count ≤ length file.now) }
-    requires rise { starts-rise (size (held file.now)) 0 (records start-size start-in count (drop base file.now)) ≡ true }
-    ensures { result ≡ wall-among ground (records run-size run_in runs (drop head-size file.now))
-        (records start-size start-in count (drop base file.now)) }
+    requires room { (runs_end runs ≤ length file.now) × (base + start_size * count ≤ length file.now) }
+    requires rise { starts_rise (size (held file.now)) 0 (records start_size start_in count (drop base file.now)) ≡ true }
+    ensures { result ≡ wall_among ground (records run_size run_in runs (drop head_size file.now))
+        (records start_size start_in count (drop base file.now)) }
 {
     let mut run = 0;
     let mut i = 0;

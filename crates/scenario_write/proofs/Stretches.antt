@@ -12,7 +12,7 @@ use borrow.Author.Tests.{eq-eqb, ne_eqb, eqb-true}
 use Rattle.scenario.specs.declared.Run.{Run}
 use Rattle.scenario.specs.Bytes.{bytes_of}
 use Rattle.scenario.specs.Runs.{run, closed, runs_on}
-use Rattle.scenario.specs.File.{run-bytes}
+use Rattle.scenario.specs.File.{run_bytes}
 use Rattle.scenario.proofs.Records.{bytes-append}
 use Rattle.scenario.proofs.GoodRuns.{closed-ground}
 
@@ -33,21 +33,21 @@ module _ (l : List ℕ) (g i : ℕ) where
   unfolding runs_on
   after_none h = rw (drop_of_length-le l h) (closed-ground g i i [])
 
-  pub stretch-last : (a z : ℕ) → length l ≤ i → runs_on g a i z (drop i l) ≡ closed g a i z (runs_after l g i)
+  pub stretch_last : (a z : ℕ) → length l ≤ i → runs_on g a i z (drop i l) ≡ closed g a i z (runs_after l g i)
   unfolding runs_on
-  stretch-last a z h = ap (runs_on g a i z) (drop_of_length-le l h) ∙ ap (closed g a i z) (sym (after_none h))
+  stretch_last a z h = ap (runs_on g a i z) (drop_of_length-le l h) ∙ ap (closed g a i z) (sym (after_none h))
 
   module _ (h : i < length l) where
-    pub stretch-new : runs_after l g i ≡ runs_on g i (i + 1) (get_or l i 0) (drop (i + 1) l)
-    stretch-new = rw (drop-cons l i 0 h, add-one i) (fresh g i (get_or l i 0) (drop (suc i) l))
+    pub stretch_new : runs_after l g i ≡ runs_on g i (i + 1) (get_or l i 0) (drop (i + 1) l)
+    stretch_new = rw (drop-cons l i 0 h, add-one i) (fresh g i (get_or l i 0) (drop (suc i) l))
 
-    pub stretch-on : (a z : ℕ) → get_or l i 0 ≡ z → runs_on g a i z (drop i l) ≡ runs_on g a (i + 1) z (drop (i + 1) l)
+    pub stretch_on : (a z : ℕ) → get_or l i 0 ≡ z → runs_on g a i z (drop i l) ≡ runs_on g a (i + 1) z (drop (i + 1) l)
     unfolding runs_on
-    stretch-on a z e = rw (drop-cons l i 0 h, add-one i, eq-eqb (get_or l i 0) z e)
+    stretch_on a z e = rw (drop-cons l i 0 h, add-one i, eq-eqb (get_or l i 0) z e)
 
-    pub stretch-turn : (a z : ℕ) → (get_or l i 0 ≡ z → ⊥) → runs_on g a i z (drop i l) ≡ closed g a i z (runs_after l g i)
+    pub stretch_turn : (a z : ℕ) → (get_or l i 0 ≡ z → ⊥) → runs_on g a i z (drop i l) ≡ closed g a i z (runs_after l g i)
     unfolding runs_on
-    stretch-turn a z e =
+    stretch_turn a z e =
         rw (drop-cons l i 0 h, ne_eqb (get_or l i 0) z e) (ap (closed g a i z) (sym (fresh g i (get_or l i 0) (drop (suc i) l))))
 
 -- ---- a stretch that ends
@@ -75,5 +75,5 @@ pub closed-length : (g a i z : ℕ) (xs ys : List Run) → ys ≡ closed g a i z
 closed-length g a i z xs ys e = ap length (e ∙ closed-append g a i z xs) ∙ length-append (closed g a i z []) xs
 
 pub closed-bytes : (g a i z : ℕ) (xs ys : List Run) → ys ≡ closed g a i z xs
-    → bytes_of run-bytes ys ≡ bytes_of run-bytes (closed g a i z []) ++ bytes_of run-bytes xs
-closed-bytes g a i z xs ys e = ap (bytes_of run-bytes) (e ∙ closed-append g a i z xs) ∙ bytes-append run-bytes (closed g a i z []) xs
+    → bytes_of run_bytes ys ≡ bytes_of run_bytes (closed g a i z []) ++ bytes_of run_bytes xs
+closed-bytes g a i z xs ys e = ap (bytes_of run_bytes) (e ∙ closed-append g a i z xs) ∙ bytes-append run_bytes (closed g a i z []) xs

@@ -1,7 +1,7 @@
 // The writer of scenario files.
 pub mod write;
 
-ghost use Rattle.eikonal.specs.Refusals.{by-lists};
+ghost use Rattle.eikonal.specs.Refusals.{by_lists};
 ghost use Rattle.scenario.specs.Calls.{Writes};
 ghost use Rattle.scenario.specs.Inner.Begin.{Judging, Begins};
 
@@ -65,7 +65,7 @@ pub fn write_scenario(
     begins: &[u32],
     out: &mut [u8],
 ) -> Reply
-    ensures { Writes (by-lists width height storeys slow.now cells.now begins.now) ticks ground
+    ensures { Writes (by_lists width height storeys slow.now cells.now begins.now) ticks ground
         out.old out.new result }
 {
     let judged = judge_starts(slow, cells, begins, nothing_judged());

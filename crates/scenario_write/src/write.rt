@@ -1,9 +1,9 @@
 // A board written as a scenario file. Each function fills a list of bytes from a place on; the bytes in front of it stay.
 ghost use Rattle.std.specs.Prelude.{◌≡◌, cond, [], ◌++◌, ℕ, ◌+◌, ◌*◌, ◌≤◌, ◌<◌, eqb, length, take, drop, get_or};
-ghost use Rattle.eikonal.specs.Refusals.{starts-of};
+ghost use Rattle.eikonal.specs.Refusals.{starts_of};
 ghost use Rattle.scenario.specs.Bytes.{bytes_of};
 ghost use Rattle.scenario.specs.Runs.{closed, runs_on, runs_of};
-ghost use Rattle.scenario.specs.File.{head-size, run-size, start-size, runs-end, run-bytes, start-bytes, head_of, front};
+ghost use Rattle.scenario.specs.File.{head_size, run_size, start_size, runs_end, run_bytes, start_bytes, head_of, front};
 
 use scenario::bytes::put_wide_pair;
 use scenario::heads::put_head;
@@ -48,9 +48,9 @@ pub fn count_runs(slow: &[u32], ground: u32) -> usize
 
 // A stretch from a cell up to another is a run, unless it is ground. Answers the next place.
 fn put_stretch(out: &mut [u8], at: usize, from: usize, until: usize, x: u32, ground: u32) -> usize
-    requires { (at + run-size * length (closed ground from until x []) ≤ length out.old) × (from ≤ until) × (until < 4294967296) }
-    ensures at { result ≡ at + run-size * length (closed ground from until x []) }
-    ensures is { take result out.new ≡ take at out.old ++ bytes_of run-bytes (closed ground from until x []) }
+    requires { (at + run_size * length (closed ground from until x []) ≤ length out.old) × (from ≤ until) × (until < 4294967296) }
+    ensures at { result ≡ at + run_size * length (closed ground from until x []) }
+    ensures is { take result out.new ≡ take at out.old ++ bytes_of run_bytes (closed ground from until x []) }
 {
     if x == ground {
         return at;
@@ -66,9 +66,9 @@ fn put_stretch(out: &mut [u8], at: usize, from: usize, until: usize, x: u32, gro
 
 // The runs behind the head.
 pub fn write_runs(out: &mut [u8], slow: &[u32], ground: u32)
-    requires { (runs-end (length (runs_of ground slow.now)) ≤ length out.old) × (length slow.now ≤ 65536) }
+    requires { (runs_end (length (runs_of ground slow.now)) ≤ length out.old) × (length slow.now ≤ 65536) }
     ensures { let rs = runs_of ground slow.now in
-        take (runs-end (length rs)) out.new ≡ take head-size out.old ++ bytes_of run-bytes rs }
+        take (runs_end (length rs)) out.new ≡ take head_size out.old ++ bytes_of run_bytes rs }
 {
     let mut at = HEAD;
     let mut i = 0;
@@ -81,9 +81,9 @@ pub fn write_runs(out: &mut [u8], slow: &[u32], ground: u32)
 
 // The starts of a part of the lists, from a place on.
 fn write_starts(out: &mut [u8], at: usize, cells: &[u32], begins: &[u32])
-    requires { (at + start-size * length cells.now ≤ length out.old) × (length cells.now ≡ length begins.now) }
-    ensures { take (at + start-size * length cells.now) out.new
-        ≡ take at out.old ++ bytes_of start-bytes (starts-of cells.now begins.now) }
+    requires { (at + start_size * length cells.now ≤ length out.old) × (length cells.now ≡ length begins.now) }
+    ensures { take (at + start_size * length cells.now) out.new
+        ≡ take at out.old ++ bytes_of start_bytes (starts_of cells.now begins.now) }
 {
     let mut i = 0;
     while i < cells.len() {
@@ -118,7 +118,7 @@ pub fn head_for(
 
 // A list that ends where the starts begin: the head, the runs.
 pub fn write_front(out: &mut [u8], head: Head, slow: &[u32])
-    requires out { length out.old ≡ runs-end «head».runs }
+    requires out { length out.old ≡ runs_end «head».runs }
     requires slow { («head».runs ≡ length (runs_of «head».ground slow.now)) × (length slow.now ≤ 65536) }
     ensures { out.new ≡ front «head» slow.now }
 {
@@ -128,9 +128,9 @@ pub fn write_front(out: &mut [u8], head: Head, slow: &[u32])
 
 // The starts of a part of the lists, from a place on; all other bytes stay.
 pub fn put_starts(out: &mut [u8], at: usize, cells: &[u32], begins: &[u32])
-    requires { (at + start-size * length cells.now ≤ length out.old) × (length cells.now ≡ length begins.now) }
-    ensures { out.new ≡ take at out.old ++ (bytes_of start-bytes (starts-of cells.now begins.now)
-        ++ drop (at + start-size * length cells.now) out.old) }
+    requires { (at + start_size * length cells.now ≤ length out.old) × (length cells.now ≡ length begins.now) }
+    ensures { out.new ≡ take at out.old ++ (bytes_of start_bytes (starts_of cells.now begins.now)
+        ++ drop (at + start_size * length cells.now) out.old) }
 {
     let end = at + START * cells.len();
     write_starts(&mut out[at..end], 0, cells, begins);

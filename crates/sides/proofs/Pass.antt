@@ -12,25 +12,25 @@ use lib.ListN.{length, get_or, set, take, drop, length-set, length-drop}
 use lib.Seq.{length-take-le, get_or-take, get_or-drop, get_or-set_same, get_or-set_other}
 use borrow.Author.Tests.{lt-ltb, le-ltb}
 use Rattle.eikonal.specs.Board.{never}
-use Rattle.eikonal.specs.Tiles.{tile-of, counts-as}
-use Rattle.eikonal.specs.Sides.{sides-seen}
+use Rattle.eikonal.specs.Tiles.{tile_of, counts_as}
+use Rattle.eikonal.specs.Sides.{sides_seen}
 use Rattle.eikonal.specs.Inner.Good.{Good}
-use Rattle.eikonal.specs.Inner.Sides.{sides-by}
+use Rattle.eikonal.specs.Inner.Sides.{sides_by}
 use Rattle.eikonal.proofs.Levels.{order}
 use Rattle.eikonal.proofs.Sides.{side-most, sides-agree}
 use borrow.Rule.Slice.PartMut.{mid_of, put_mid, same_len_mid}
 use Rattle.queue.specs.Lists.{Filled}
-use Rattle.queue.proofs.Parts.{part-long, put-before, put-within, put-after}
-use Rattle.front.specs.Front.{ghosted, Among, Not-among}
-use Rattle.front.specs.Seams.{edge, mark-under, mark-over}
+use Rattle.queue.proofs.Parts.{part-long, put_before, put_within, put_after}
+use Rattle.front.specs.Front.{ghosted, Among, NotAmong}
+use Rattle.front.specs.Seams.{edge, mark_under, mark_over}
 use Rattle.front.specs.Board.{land, tentative, Marked, Ground}
 use Rattle.front.specs.declared.Shape.{Shape}
-use Rattle.front.proofs.Theory.Reading.{place-behind, place-ahead, measured}
-use Rattle.front.proofs.Theory.Reading.{cells-most, cells-size, lines-most, rows_whole, storey-most}
+use Rattle.front.proofs.Theory.Reading.{place-behind, place_ahead, measured}
+use Rattle.front.proofs.Theory.Reading.{cells-most, cells-size, lines-most, rows_whole, storey_most}
 use Rattle.sides.specs.Row.{flat, Even}
-use Rattle.sides.specs.Pass.{Off, Lines, Seen-row, Legal, seen_at, flat-at, stack_at, found_at, Done, Some-land, Found-whole, Ghosts}
-use Rattle.sides.specs.Pass.{own-part, far-part, Laid, Found-round}
-use Rattle.sides.proofs.Seen.{row_ends, house-is, flat-all}
+use Rattle.sides.specs.Pass.{Off, Lines, Seen-row, Legal, seen_at, flat_at, stack_at, found_at, Done, Some-land, Found-whole, Ghosts}
+use Rattle.sides.specs.Pass.{own_part, far_part, Laid, Found-round}
+use Rattle.sides.proofs.Seen.{row_ends, house_is, flat-all}
 
 -- ---- A ROW of a legal board, its lists lent in parts
 module _ {s : Shape} {own far off cols rows sides : List ℕ} (lg : Legal s own far off cols rows sides) {row : ℕ} (line : row < s.height * s.storeys) where
@@ -60,8 +60,8 @@ module _ {s : Shape} {own far off cols rows sides : List ℕ} (lg : Legal s own 
       let e = ends in record {
         small = (omega (arith, e), l, e.3);
         low = λ q. (h q).0;
-        own-fits = λ q. omega (arith, (h q).1, e);
-        far-fits = λ q. omega (arith, (h q).1, e);
+        own_fits = λ q. omega (arith, (h q).1, e);
+        far_fits = λ q. omega (arith, (h q).1, e);
       }
 
   pub above-lines : Lines (get_or rows row 0) own far start s.width 0 s.width
@@ -72,16 +72,16 @@ module _ {s : Shape} {own far off cols rows sides : List ℕ} (lg : Legal s own 
   pub below-lines : Lines (get_or rows (row + 1) 0) own far start 0 s.width s.width
   below-lines =
       lines (omega (arith, ends))
-      (λ q. (omega arith, omega (arith, mul-le-mul_right s.width (place-ahead lg.ground.lines line q), rows_whole lg.ground)))
+      (λ q. (omega arith, omega (arith, mul-le-mul_right s.width (place_ahead lg.ground.lines line q), rows_whole lg.ground)))
 
   module _ {area : ℕ} (storey : area ≡ s.width * s.height) where
-    storey-few : area ≤ s.cells
-    storey-few = omega (arith, storey, storey-most lg.ground measured)
+    storey_few : area ≤ s.cells
+    storey_few = omega (arith, storey, storey_most lg.ground measured)
 
-    pub over-lines : Lines (mark-over s.cells area start) own far start 0 area s.width
-    over-lines = lines (omega (arith, storey-few, ends)) (λ q. (omega arith, over q))
+    pub over-lines : Lines (mark_over s.cells area start) own far start 0 area s.width
+    over-lines = lines (omega (arith, storey_few, ends)) (λ q. (omega arith, over q))
       where
-        over : mark-over s.cells area start ≢ edge → start + area + s.width ≤ s.cells + 0
+        over : mark_over s.cells area start ≢ edge → start + area + s.width ≤ s.cells + 0
         over q = go (order (row + s.height) (s.height * s.storeys))
           where
             back : s.height * s.width ≡ area
@@ -92,10 +92,10 @@ module _ {s : Shape} {own far off cols rows sides : List ℕ} (lg : Legal s own 
             go (inr k) =
                 absurd (q (rw (le-ltb (start + area) s.cells (omega (arith, mul-le-mul_right s.width k, back, rows_whole lg.ground)))))
 
-    pub under-lines : Lines (mark-under area start) own far start area 0 s.width
+    pub under-lines : Lines (mark_under area start) own far start area 0 s.width
     under-lines = lines (omega arith) (λ q. (under q (order start area), omega (arith, ends)))
       where
-        under : mark-under area start ≢ edge → (start < area) ⊎ (area ≤ start) → area ≤ start + 0
+        under : mark_under area start ≢ edge → (start < area) ⊎ (area ≤ start) → area ≤ start + 0
         under q (inl k) = absurd (q (rw (lt-ltb start area k)))
         under q (inr k) = omega (arith, k)
 
@@ -119,13 +119,13 @@ done-part {f} xs ys a e up fits long each = record {
   each = λ c i.
       let at : a + (c - a) ≡ c = omega (arith, i.0) in
       let within : c - a < e - a = omega (arith, i) in
-      ap (λ (u : ℕ). get_or (put_mid a (e - a) xs ys) u 0) (sym at) ∙ put-within xs ys a e up fits long (c - a) within ∙ each (c - a) within ∙ ap f at;
+      ap (λ (u : ℕ). get_or (put_mid a (e - a) xs ys) u 0) (sym at) ∙ put_within xs ys a e up fits long (c - a) within ∙ each (c - a) within ∙ ap f at;
   others = λ c o. out c o (order c a) (order c e);
 }
   where
-    out : (c : ℕ) → Not-among a e c → (c < a) ⊎ (a ≤ c) → (c < e) ⊎ (e ≤ c) → get_or (put_mid a (e - a) xs ys) c 0 ≡ get_or xs c 0
-    out c o (inl l) r = put-before xs ys a e up fits long c l
-    out c o (inr l) (inr r) = put-after xs ys a e up fits long c r
+    out : (c : ℕ) → NotAmong a e c → (c < a) ⊎ (a ≤ c) → (c < e) ⊎ (e ≤ c) → get_or (put_mid a (e - a) xs ys) c 0 ≡ get_or xs c 0
+    out c o (inl l) r = put_before xs ys a e up fits long c l
+    out c o (inr l) (inr r) = put_after xs ys a e up fits long c r
     out c o (inr l) (inl r) = absurd (o (l, r))
 
 pub done_none : {f : ℕ → ℕ} {xs : List ℕ} {lo hi : ℕ} → hi ≤ lo → Done f lo hi xs xs
@@ -143,8 +143,8 @@ done-then {f} {xs} {ys} {zs} {lo} {mid} {hi} h k p q = record {
     here c i (inr l) = q.each c (l, i.1)
 
 -- the same by another word for what is done
-pub done-as : {f g : ℕ → ℕ} {lo hi : ℕ} {xs ys : List ℕ} → ((c : ℕ) → Among lo hi c → f c ≡ g c) → Done f lo hi xs ys → Done g lo hi xs ys
-done-as h p = record { long = p.long; each = λ c i. p.each c i ∙ h c i; others = p.others }
+pub done_as : {f g : ℕ → ℕ} {lo hi : ℕ} {xs ys : List ℕ} → ((c : ℕ) → Among lo hi c → f c ≡ g c) → Done f lo hi xs ys → Done g lo hi xs ys
+done_as h p = record { long = p.long; each = λ c i. p.each c i ∙ h c i; others = p.others }
 
 -- ---- A ROW FOUND, from its two passes
 flat-low : (l r u d t : ℕ) → flat l r u d t ≤ 10
@@ -175,33 +175,33 @@ module _ {s : Shape} {own far off cols rows sides : List ℕ} (lg : Legal s own 
       let at : first + (c - first) ≡ c = omega (arith, i.0) in
       subst P at (h (c - first) (omega (arith, i)))
 
-  pub flat-most : {now : List ℕ} → Done (flat-at s own far m) first last sides now → (c : ℕ) → Among first last c → get_or now c 0 ≤ 10
+  pub flat-most : {now : List ℕ} → Done (flat_at s own far m) first last sides now → (c : ℕ) → Among first last c → get_or now c 0 ≤ 10
   flat-most d c i = subst (λ x. x ≤ 10) (sym (d.each c i)) (flat-low _ _ _ _ _)
 
-  pub row-flat : s.storeys ≡ 1 → m ≤ never → {now : List ℕ} → Done (flat-at s own far m) first last sides now
+  pub row-flat : s.storeys ≡ 1 → m ≤ never → {now : List ℕ} → Done (flat_at s own far m) first last sides now
       → Done (found_at s own far m) first last sides now
   row-flat flat low =
-      done-as
-      (by-column (λ c. flat-at s own far m c ≡ found_at s own far m c) (λ i l. flat-all lg.ground far lg.beyond m line l flat low))
+      done_as
+      (by-column (λ c. flat_at s own far m c ≡ found_at s own far m c) (λ i l. flat-all lg.ground far lg.beyond m line l flat low))
 
-  pub row-house : {now then : List ℕ} → Done (flat-at s own far m) first last sides now
+  pub row_house : {now then : List ℕ} → Done (flat_at s own far m) first last sides now
       → Done (λ c. get_or now c 0 + 16 * stack_at s own far m c) first last now then → Done (found_at s own far m) first last sides then
-  row-house {now} {then} p q = record {
+  row_house {now} {then} p q = record {
     long = q.long ∙ p.long;
     each = λ c i. q.each c i ∙ ap (λ (u : ℕ). u + 16 * stack_at s own far m c) (p.each c i)
-        ∙ by-column (λ c. flat-at s own far m c + 16 * stack_at s own far m c ≡ found_at s own far m c)
-        (λ j l. house-is lg.ground far lg.beyond m line l) c i;
+        ∙ by-column (λ c. flat_at s own far m c + 16 * stack_at s own far m c ≡ found_at s own far m c)
+        (λ j l. house_is lg.ground far lg.beyond m line l) c i;
     others = λ c o. q.others c o ∙ p.others c o;
   }
 
 -- ---- GHOSTS laid out, one after the other
 module _ {s : Shape} {slow stored : List ℕ} where
-  pub ghosts-none : {v : List ℕ} → Ghosts s slow stored 0 v v
-  ghosts-none = record { long = refl; each = λ e l. absurd (omega arith); front = λ j l. refl; rest = λ j l. refl }
+  pub ghosts_none : {v : List ℕ} → Ghosts s slow stored 0 v v
+  ghosts_none = record { long = refl; each = λ e l. absurd (omega arith); front = λ j l. refl; rest = λ j l. refl }
 
-  pub ghosts-next : {k x : ℕ} {v u : List ℕ} → Ghosts s slow stored k v u → k < s.cells → 2 * s.cells ≤ length v → x ≡ counts-as (land s slow) stored k
+  pub ghosts_next : {k x : ℕ} {v u : List ℕ} → Ghosts s slow stored k v u → k < s.cells → 2 * s.cells ≤ length v → x ≡ counts_as (land s slow) stored k
       → Ghosts s slow stored (suc k) v (set u (s.cells + k) x)
-  ghosts-next {k} {x} {v} {u} g l room q = record {
+  ghosts_next {k} {x} {v} {u} g l room q = record {
     long = length-set u (s.cells + k) x ∙ g.long;
     each = λ e h. elim (ℕ_discrete e k) [
       | yes z ↦ rw z (get_or-set_same u (s.cells + k) x 0 (omega (arith, g.long)) ∙ q)
@@ -227,7 +227,7 @@ ground-on gr us e = record {
 -- a row has no more cells than the board
 wide-few : (s : Shape) {slow : List ℕ} → Good (land s slow) → s.cells ≡ s.width * s.height * s.storeys → s.width ≤ s.cells
 wide-few s g e =
-    omega (arith, e, mul-le-mul_left s.width g.high-low, mul-le-mul_left (s.width * s.height) g.storeys-low)
+    omega (arith, e, mul-le-mul_left s.width g.high_low, mul-le-mul_left (s.width * s.height) g.storeys_low)
 
 off-take : {w : ℕ} (v : List ℕ) → w ≤ length v → ((i : ℕ) → i < w → get_or v i 0 ≡ never) → Off w (take w v)
 off-take {w} v l h = record {
@@ -268,7 +268,7 @@ module _ {s : Shape} {times work sides now : List ℕ} (la : Some-land s times w
     kept = fi.long;
     rest = λ j l. fi.outside j (inr l);
     long = d.long;
-    each = λ c l. d.each c (omega arith, l) ∙ ap (λ (f : ℕ → ℕ). sides-by (land s []) m c f (get_or times c 0)) (fun_ext (λ e. one c e));
+    each = λ c l. d.each c (omega arith, l) ∙ ap (λ (f : ℕ → ℕ). sides_by (land s []) m c f (get_or times c 0)) (fun_ext (λ e. one c e));
   }
     where
       both : (p : Bool) (x : ℕ) → cond p x x ≡ x
@@ -276,44 +276,44 @@ module _ {s : Shape} {times work sides now : List ℕ} (la : Some-land s times w
       both false x = refl
 
       one : (c e : ℕ) → seen_at (covered s) times times c e ≡ get_or times e 0
-      one c e = both (eqb (tile-of (land s []) 256 256 c) (tile-of (land s []) 256 256 e)) (get_or times e 0)
+      one c e = both (eqb (tile_of (land s []) 256 256 c) (tile_of (land s []) 256 256 e)) (get_or times e 0)
 
 -- ---- A ROUND
 pub ground-wide : {s : Shape} {slow stored cols rows : List ℕ} (n : ℕ) → Ground s slow stored cols rows → 4 * s.cells ≤ n → s.width ≤ n
 ground-wide {s} n gr l = omega (arith, l, wide-few s gr.good gr.cells)
 
 module _ (s : Shape) (work : List ℕ) where
-  own-part-long : 4 * s.cells ≤ length work → length (own-part s work) ≡ s.cells
-  own-part-long l =
+  own_part-long : 4 * s.cells ≤ length work → length (own_part s work) ≡ s.cells
+  own_part-long l =
       length-take-le (3 * s.cells - 2 * s.cells) (drop (2 * s.cells) work) (omega (arith, length-drop (2 * s.cells) work)) ∙ omega arith
 
-  far-part-long : 4 * s.cells ≤ length work → length (far-part s work) ≡ s.cells
-  far-part-long l = length-take-le (2 * s.cells - s.cells) (drop s.cells work) (omega (arith, length-drop s.cells work)) ∙ omega arith
+  far_part-long : 4 * s.cells ≤ length work → length (far_part s work) ≡ s.cells
+  far_part-long l = length-take-le (2 * s.cells - s.cells) (drop s.cells work) (omega (arith, length-drop s.cells work)) ∙ omega arith
 
-  own-part-at : (e : ℕ) → e < s.cells → get_or (own-part s work) e 0 ≡ tentative work s.cells e
-  own-part-at e l = get_or-take (3 * s.cells - 2 * s.cells) (drop (2 * s.cells) work) e 0 (omega (arith, l)) ∙ get_or-drop (2 * s.cells) work e 0
+  own_part-at : (e : ℕ) → e < s.cells → get_or (own_part s work) e 0 ≡ tentative work s.cells e
+  own_part-at e l = get_or-take (3 * s.cells - 2 * s.cells) (drop (2 * s.cells) work) e 0 (omega (arith, l)) ∙ get_or-drop (2 * s.cells) work e 0
 
-  far-part-at : (e : ℕ) → e < s.cells → get_or (far-part s work) e 0 ≡ get_or work (s.cells + e) 0
-  far-part-at e l = get_or-take (2 * s.cells - s.cells) (drop s.cells work) e 0 (omega (arith, l)) ∙ get_or-drop s.cells work e 0
+  far_part-at : (e : ℕ) → e < s.cells → get_or (far_part s work) e 0 ≡ get_or work (s.cells + e) 0
+  far_part-at e l = get_or-take (2 * s.cells - s.cells) (drop s.cells work) e 0 (omega (arith, l)) ∙ get_or-drop s.cells work e 0
 
-  pub laid-wide : {cols rows sides : List ℕ} → Laid s work cols rows sides → s.width ≤ length work
-  laid-wide la = ground-wide (length work) la.ground la.room
+  pub laid_wide : {cols rows sides : List ℕ} → Laid s work cols rows sides → s.width ≤ length work
+  laid_wide la = ground-wide (length work) la.ground la.room
 
-  pub laid-legal : {cols rows sides : List ℕ} → Laid s work cols rows sides
-      → Legal s (own-part s work) (far-part s work) (take s.width work) cols rows sides
-  laid-legal la = record {
+  pub laid_legal : {cols rows sides : List ℕ} → Laid s work cols rows sides
+      → Legal s (own_part s work) (far_part s work) (take s.width work) cols rows sides
+  laid_legal la = record {
     slow = la.slow;
-    ground = ground-on la.ground (own-part s work) (own-part-long la.room);
+    ground = ground-on la.ground (own_part s work) (own_part-long la.room);
     narrow = la.narrow;
-    beyond = far-part-long la.room;
-    nothing = off-take work (laid-wide la) la.off;
+    beyond = far_part-long la.room;
+    nothing = off-take work (laid_wide la) la.off;
     long = la.long;
   }
 
 module _ {s : Shape} {slow stored cols rows work now then : List ℕ} (gr : Ground s slow stored cols rows) (fi : Filled 0 s.width never work now)
     (gh : Ghosts s slow stored s.cells now then) where
-  pub round-laid : {sides : List ℕ} → s.across ≤ 256 → 4 * s.cells ≤ length work → length sides ≡ s.cells → Laid s then cols rows sides
-  round-laid narrow room long = record {
+  pub round_laid : {sides : List ℕ} → s.across ≤ 256 → 4 * s.cells ≤ length work → length sides ≡ s.cells → Laid s then cols rows sides
+  round_laid narrow room long = record {
     slow = slow;
     stored = stored;
     ground = gr;
@@ -326,32 +326,32 @@ module _ {s : Shape} {slow stored cols rows work now then : List ℕ} (gr : Grou
   kept : (j : ℕ) → 2 * s.cells ≤ j → get_or then j 0 ≡ get_or work j 0
   kept j l = gh.rest j l ∙ fi.outside j (inr (omega (arith, l, wide-few s gr.good gr.cells)))
 
-  own-now : (e : ℕ) → e < s.cells → get_or (own-part s then) e 0 ≡ tentative work s.cells e
-  own-now e l = own-part-at s then e l ∙ kept (2 * s.cells + e) (omega arith)
+  own_now : (e : ℕ) → e < s.cells → get_or (own_part s then) e 0 ≡ tentative work s.cells e
+  own_now e l = own_part-at s then e l ∙ kept (2 * s.cells + e) (omega arith)
 
   abbrev tile : (c : ℕ) → ℕ
-  tile c = tile-of (land s slow) s.across s.down c
+  tile c = tile_of (land s slow) s.across s.down c
 
-  abbrev as-stored : (d e : ℕ) → ℕ
-  as-stored d e = counts-as (land s slow) stored e
+  abbrev as_stored : (d e : ℕ) → ℕ
+  as_stored d e = counts_as (land s slow) stored e
 
-  pub round-found : {m : ℕ} {sides found : List ℕ} → Done (found_at s (own-part s then) (far-part s then) m) 0 s.cells sides found
+  pub round-found : {m : ℕ} {sides found : List ℕ} → Done (found_at s (own_part s then) (far_part s then) m) 0 s.cells sides found
       → Found-round s slow stored m work then sides found
-  unfolding tile-of sides-by sides-seen
+  unfolding tile_of sides_by sides_seen
   round-found {m} d = record {
     kept = gh.long ∙ fi.long;
     rest = kept;
     long = d.long;
     each = λ c l.
         d.each c (omega arith, l)
-        ∙ sides-agree gr.good c (rw (← cells-size gr) l) m (seen_at s (own-part s then) (far-part s then) c) _
+        ∙ sides-agree gr.good c (rw (← cells-size gr) l) m (seen_at s (own_part s then) (far_part s then) c) _
         (λ e k n. ap (min (suc m)) (seen c e (rw (cells-size gr) k) (eqb (tile c) (tile e))))
-        (get_or (own-part s then) c 0)
-        ∙ ap (λ (t : ℕ). sides-by (land s slow) m c (ghosted (land s slow) s.across s.down as-stored (tentative work s.cells) c) t)
-        (own-now c l);
+        (get_or (own_part s then) c 0)
+        ∙ ap (λ (t : ℕ). sides_by (land s slow) m c (ghosted (land s slow) s.across s.down as_stored (tentative work s.cells) c) t)
+        (own_now c l);
   }
     where
-      seen : (c e : ℕ) → e < s.cells → (p : Bool) → cond p (get_or (own-part s then) e 0) (get_or (far-part s then) e 0)
-          ≡ cond p (tentative work s.cells e) (counts-as (land s slow) stored e)
-      seen c e k true = own-now e k
-      seen c e k false = far-part-at s then e k ∙ gh.each e k
+      seen : (c e : ℕ) → e < s.cells → (p : Bool) → cond p (get_or (own_part s then) e 0) (get_or (far_part s then) e 0)
+          ≡ cond p (tentative work s.cells e) (counts_as (land s slow) stored e)
+      seen c e k true = own_now e k
+      seen c e k false = far_part-at s then e k ∙ gh.each e k

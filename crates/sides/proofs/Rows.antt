@@ -16,12 +16,12 @@ use borrow.Rule.Slice.PartMut.{mid_of, put_mid, mid_len, same_len_mid}
 use Rattle.eikonal.specs.Board.{never}
 use Rattle.eikonal.proofs.Levels.{order}
 use Rattle.queue.proofs.Filling.{Stored, here, elsewhere, after_store}
-use Rattle.queue.proofs.Parts.{entry_at, put-within}
+use Rattle.queue.proofs.Parts.{entry_at, put_within}
 use Rattle.front.specs.Seams.{seam, edge, inside, across}
 use Rattle.front.specs.Board.{Marked}
 use Rattle.front.proofs.Theory.Seams.{seam-edge, seam-border, seam-inside}
 use Rattle.front.proofs.Theory.Reading.{across-inside}
-use Rattle.sides.specs.Row.{flat, Even, Set, Set-inner, left-of, right_of, on-storey, Part, Set-ends, Found-flat}
+use Rattle.sides.specs.Row.{flat, Even, Set, Set-inner, left_of, right_of, on_storey, Part, Set-ends, Found-flat}
 
 -- ---- entries worked out from the front: those before i are, those from i on are as they were
 pub record Worked (f : ℕ → ℕ) (i : ℕ) (old new : List ℕ) : Type 0 where
@@ -92,27 +92,27 @@ module _ {own above below : List ℕ} (sides : List ℕ) (e : Even (length sides
             let up = entry_at above 1 (n - 1 - 1) i second k in
             let down = entry_at below 1 (n - 1 - 1) i second k in
             ap (λ (u : ℕ). get_or (put_mid 1 (n - 1 - 1) sides part) u 0) (sym second)
-            ∙ put-within sides part 1 (n - 1) (omega arith) (omega (arith, e.own)) r.long i k ∙ r.each i (omega (arith, here)) ∙ cc;
+            ∙ put_within sides part 1 (n - 1) (omega arith) (omega (arith, e.own)) r.long i k ∙ r.each i (omega (arith, here)) ∙ cc;
       }
 
 -- ---- seams: across one that is not inside a tile, the tile's own times are not seen
-beyond-of : (m f g : ℕ) → m ≢ inside → across m f g ≡ cond (eqb m edge) never g
+beyond_of : (m f g : ℕ) → m ≢ inside → across m f g ≡ cond (eqb m edge) never g
 unfolding across
-beyond-of m f g q = rw (ne_eqb m inside q)
+beyond_of m f g q = rw (ne_eqb m inside q)
 
 -- at the edge, or where a tile begins
-no-inside : (w s i : ℕ) → i % w % s ≡ 0 → seam w s i ≢ inside
-no-inside w s i e q = elim (ℕ_discrete (i % w) 0) [
+no_inside : (w s i : ℕ) → i % w % s ≡ 0 → seam w s i ≢ inside
+no_inside w s i e q = elim (ℕ_discrete (i % w) 0) [
   | yes z ↦ omega (arith, seam-edge w s i z, q)
   | no z ↦ omega (arith, seam-border w s i z e, q)
 ]
 
-no-inside-at : (w s i : ℕ) → i < w → i % s ≡ 0 → seam w s i ≢ inside
-no-inside-at w s i l e = no-inside w s i (ap (λ (u : ℕ). u % s) (mod-eq_of_lt l) ∙ e)
+no_inside_at : (w s i : ℕ) → i < w → i % s ≡ 0 → seam w s i ≢ inside
+no_inside_at w s i l e = no_inside w s i (ap (λ (u : ℕ). u % s) (mod-eq_of_lt l) ∙ e)
 
 -- where the row ends
-no-inside-end : (w s : ℕ) → seam w s w ≢ inside
-no-inside-end w s = no-inside w s w (ap (λ (u : ℕ). u % s) (mod_self w) ∙ zero-mod s)
+no_inside_end : (w s : ℕ) → seam w s w ≢ inside
+no_inside_end w s = no_inside w s w (ap (λ (u : ℕ). u % s) (mod_self w) ∙ zero-mod s)
 
 -- ---- A TILE'S PART OF THE ROW begins where the one before it ended
 module _ {s w col end : ℕ} (some : 1 ≤ s) (l : col < w) (b : col % s ≡ 0) (e : end ≡ min (col + s) w) where
@@ -125,7 +125,7 @@ module _ {s w col end : ℕ} (some : 1 ≤ s) (l : col < w) (b : col % s ≡ 0) 
   part_of = record {
     up = omega arith;
     fits = omega arith;
-    before = no-inside-at w s col l b;
+    before = no_inside_at w s col l b;
     behind = go (order end w);
     within = λ i m h. seam-inside w s i (λ z. omega (arith, at i h)) (λ z. omega (arith, at i h, beyond i m h, ap (λ (u : ℕ). u % s) (at i h)));
   }
@@ -134,10 +134,10 @@ module _ {s w col end : ℕ} (some : 1 ≤ s) (l : col < w) (b : col % s ≡ 0) 
       last = omega arith
 
       go : (end < w) ⊎ (w ≤ end) → seam w s (suc (end - 1)) ≢ inside
-      go (inl h) = rw last (no-inside-at w s end h (next-begins h))
+      go (inl h) = rw last (no_inside_at w s end h (next-begins h))
       go (inr h) =
           let same : suc (end - 1) ≡ w = omega arith in
-          rw same (no-inside-end w s)
+          rw same (no_inside_end w s)
 
       at : (i : ℕ) → i ≤ end - 1 → i % w ≡ i
       at i h = mod-eq_of_lt (omega arith)
@@ -149,38 +149,38 @@ module _ {s w col end : ℕ} (some : 1 ≤ s) (l : col < w) (b : col % s ≡ 0) 
 
 -- ---- what the cells at its ends see
 module _ {s w from last : ℕ} {cols : List ℕ} (own far : List ℕ) (la : Marked w s 1 cols) (p : Part s w from last) (e : length own ≡ w) where
-  pub left-beyond : cond (eqb (get_or cols from 0) edge) never (get_or far (from - 1) 0) ≡ left-of s own far from
-  left-beyond = rw (la.at from (omega (arith, p.up, p.fits)), e) (sym (beyond-of _ _ _ p.before))
+  pub left-beyond : cond (eqb (get_or cols from 0) edge) never (get_or far (from - 1) 0) ≡ left_of s own far from
+  left-beyond = rw (la.at from (omega (arith, p.up, p.fits)), e) (sym (beyond_of _ _ _ p.before))
 
   pub right-beyond : cond (eqb (get_or cols (last + 1) 0) edge) never (get_or far (last + 1) 0) ≡ right_of s own far last
-  right-beyond = rw (add-one last, la.at (suc last) (omega (arith, p.fits)), e) (sym (beyond-of _ _ _ p.behind))
+  right-beyond = rw (add-one last, la.at (suc last) (omega (arith, p.fits)), e) (sym (beyond_of _ _ _ p.behind))
 
-  pub left-own : from ≢ last → get_or own (last - 1) 0 ≡ left-of s own far last
+  pub left-own : from ≢ last → get_or own (last - 1) 0 ≡ left_of s own far last
   left-own q = rw e (sym (across-inside _ _ _ (p.within last (omega (arith, p.up, q)) (omega arith))))
 
   pub right-own : from ≢ last → get_or own (from + 1) 0 ≡ right_of s own far from
   right-own q = rw (add-one from, e) (sym (across-inside _ _ _ (p.within (suc from) (omega arith) (omega (arith, p.up, q)))))
 
 -- ---- their sides, worked out and stored
-pub flat-of : (u d : ℕ) {x l r t l' r' t' : ℕ} → x ≡ flat l r u d t → l ≡ l' → r ≡ r' → t ≡ t' → x ≡ flat l' r' u d t'
-flat-of u d e p q o = cc
+pub flat_of : (u d : ℕ) {x l r t l' r' t' : ℕ} → x ≡ flat l r u d t → l ≡ l' → r ≡ r' → t ≡ t' → x ≡ flat l' r' u d t'
+flat_of u d e p q o = cc
 
 module _ {s m : ℕ} {own far above below sides : List ℕ} {from last : ℕ} where
-  pub ends-one : {x : ℕ} → from ≡ last → from < length sides → x ≡ on-storey s m own far above below from
+  pub ends_one : {x : ℕ} → from ≡ last → from < length sides → x ≡ on_storey s m own far above below from
       → Set-ends s m own far above below from last sides (set sides from x)
-  ends-one {x} q l e = record {
+  ends_one {x} q l e = record {
     long = length-set sides from x;
     first = there;
-    end = ap (λ (u : ℕ). get_or (set sides from x) u 0) (sym q) ∙ there ∙ ap (on-storey s m own far above below) q;
+    end = ap (λ (u : ℕ). get_or (set sides from x) u 0) (sym q) ∙ there ∙ ap (on_storey s m own far above below) q;
     kept = λ i a b. get_or-set_other sides from i x 0 a;
   }
     where
-      there : get_or (set sides from x) from 0 ≡ on-storey s m own far above below from
+      there : get_or (set sides from x) from 0 ≡ on_storey s m own far above below from
       there = get_or-set_same sides from x 0 l ∙ e
 
-  pub ends-two : {x y : ℕ} → from ≢ last → from < length sides → last < length sides → x ≡ on-storey s m own far above below from
-      → y ≡ on-storey s m own far above below last → Set-ends s m own far above below from last sides (set (set sides from x) last y)
-  ends-two {x} {y} q l h e f =
+  pub ends_two : {x y : ℕ} → from ≢ last → from < length sides → last < length sides → x ≡ on_storey s m own far above below from
+      → y ≡ on_storey s m own far above below last → Set-ends s m own far above below from last sides (set (set sides from x) last y)
+  ends_two {x} {y} q l h e f =
       let once = set sides from x in
       record {
         long = length-set once last y ∙ length-set sides from x;
@@ -194,9 +194,9 @@ pub record Found-before (s m : ℕ) (own far above below : List ℕ) (col : ℕ)
   pub upto : col ≤ length own
   pub begins : col < length own → col % s ≡ 0
   pub long : length sides ≡ length own
-  pub before : (i : ℕ) → i < col → get_or sides i 0 ≡ on-storey s m own far above below i
+  pub before : (i : ℕ) → i < col → get_or sides i 0 ≡ on_storey s m own far above below i
   pub within : (i : ℕ) → i < length own → seam (length own) s i ≡ inside → seam (length own) s (suc i) ≡ inside
-      → get_or sides i 0 ≡ on-storey s m own far above below i
+      → get_or sides i 0 ≡ on_storey s m own far above below i
 
 module _ {s m : ℕ} {own far above below : List ℕ} where
   pub found_none : {old sides : List ℕ} → length old ≡ length own → Set-inner m own above below old sides → Found-before s m own far above below 0 sides
@@ -209,17 +209,17 @@ module _ {s m : ℕ} {own far above below : List ℕ} where
   }
     where
       at : (i : ℕ) → i < length own → seam (length own) s i ≡ inside → seam (length own) s (suc i) ≡ inside
-          → get_or sides i 0 ≡ on-storey s m own far above below i
-      at zero l a b = absurd (no-inside-at (length own) s 0 l (zero-mod s) a)
+          → get_or sides i 0 ≡ on_storey s m own far above below i
+      at zero l a b = absurd (no_inside_at (length own) s 0 l (zero-mod s) a)
       at (suc i) l a b =
-          let more : suc (suc i) ≢ length own = λ z. no-inside-end (length own) s (rw z at b) in
+          let more : suc (suc i) ≢ length own = λ z. no_inside_end (length own) s (rw z at b) in
           let back : suc i - 1 ≡ i = omega arith in
           rw (across-inside _ (get_or own (suc i - 1) 0) _ a, across-inside _ (get_or own (suc (suc i)) 0) _ b, back) (r.each i (omega (arith, e, more)))
 
   module _ {col end : ℕ} {old sides : List ℕ} (f : Found-before s m own far above below col old) (some : 1 ≤ s) (l : col < length own)
       (e : end ≡ min (col + s) (length own)) (r : Set-ends s m own far above below col (end - 1) old sides) where
     -- a cell at neither end is as it was
-    at : (i : ℕ) → (i ≢ col → i ≢ end - 1 → get_or old i 0 ≡ on-storey s m own far above below i) → get_or sides i 0 ≡ on-storey s m own far above below i
+    at : (i : ℕ) → (i ≢ col → i ≢ end - 1 → get_or old i 0 ≡ on_storey s m own far above below i) → get_or sides i 0 ≡ on_storey s m own far above below i
     at i h = elim (ℕ_discrete i col) [
       | yes p ↦ rw p r.first
       | no p ↦ elim (ℕ_discrete i (end - 1)) [
@@ -240,7 +240,7 @@ module _ {s m : ℕ} {own far above below : List ℕ} where
         part : Part s (length own) col (end - 1)
         part = part_of some l (f.begins l) e
 
-        go : (i : ℕ) → i < end → i ≢ col → i ≢ end - 1 → (i < col) ⊎ (col ≤ i) → get_or old i 0 ≡ on-storey s m own far above below i
+        go : (i : ℕ) → i < end → i ≢ col → i ≢ end - 1 → (i < col) ⊎ (col ≤ i) → get_or old i 0 ≡ on_storey s m own far above below i
         go i h p q (inl k) = f.before i k
         go i h p q (inr k) =
             f.within i (omega arith) (part.within i (omega (arith, p)) (omega arith)) (part.within (suc i) (omega arith) (omega (arith, q)))

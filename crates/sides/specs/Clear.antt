@@ -3,11 +3,11 @@ use Rattle.std.specs.Prelude.{◌≡◌, Bool, false, ◌&&◌, ◌||◌, cond, 
 use Rattle.eikonal.specs.declared.Start.{Start}
 
 -- one of the starts is at the cell c, at the time t
-unfoldable pub begins-at : (c t : ℕ) → List Start → Bool
-begins-at c t [] = false
-begins-at c t (x ∷ xs) = (eqb x.cell c && eqb x.time t) || begins-at c t xs
+unfoldable pub begins_at : (c t : ℕ) → List Start → Bool
+begins_at c t [] = false
+begins_at c t (x ∷ xs) = (eqb x.cell c && eqb x.time t) || begins_at c t xs
 
 -- the sides of such cells are none now, all others are as they were
 pub record Cleared (xs : List Start) (times sides sides' : List ℕ) : Type 0 where
   pub long : length sides' ≡ length sides
-  pub each : (c : ℕ) → c < length sides → get_or sides' c 0 ≡ cond (begins-at c (get_or times c 0) xs) 0 (get_or sides c 0)
+  pub each : (c : ℕ) → c < length sides → get_or sides' c 0 ≡ cond (begins_at c (get_or times c 0) xs) 0 (get_or sides c 0)

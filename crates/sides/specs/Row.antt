@@ -31,15 +31,15 @@ pub record Set-inner (bound : ℕ) (own above below sides sides' : List ℕ) : T
       → get_or sides' (suc i) 0 ≡ flat (get_or own i 0) (get_or own (suc (suc i)) 0) (get_or above (suc i) 0) (get_or below (suc i) 0) (shown bound (get_or own (suc i) 0))
 
 -- with tiles `side` wide, what the cell at a column sees before it and behind it
-abbrev pub left-of : (side : ℕ) → (own far : List ℕ) → (i : ℕ) → ℕ
-left-of s os fs i = across (seam (length os) s i) (get_or os (i - 1) 0) (get_or fs (i - 1) 0)
+abbrev pub left_of : (side : ℕ) → (own far : List ℕ) → (i : ℕ) → ℕ
+left_of s os fs i = across (seam (length os) s i) (get_or os (i - 1) 0) (get_or fs (i - 1) 0)
 
 abbrev pub right_of : (side : ℕ) → (own far : List ℕ) → (i : ℕ) → ℕ
 right_of s os fs i = across (seam (length os) s (suc i)) (get_or os (suc i) 0) (get_or fs (suc i) 0)
 
 -- ITS SIDES ON ITS STOREY
-abbrev pub on-storey : (side bound : ℕ) → (own far above below : List ℕ) → (i : ℕ) → ℕ
-on-storey s m os fs us ds i = flat (left-of s os fs i) (right_of s os fs i) (get_or us i 0) (get_or ds i 0) (shown m (get_or os i 0))
+abbrev pub on_storey : (side bound : ℕ) → (own far above below : List ℕ) → (i : ℕ) → ℕ
+on_storey s m os fs us ds i = flat (left_of s os fs i) (right_of s os fs i) (get_or us i 0) (get_or ds i 0) (shown m (get_or os i 0))
 
 -- the columns from `from` to `last` are a tile's part of the row: the seams around it are not inside ones, those in it are
 pub record Part (side w from last : ℕ) : Type 0 where
@@ -52,13 +52,13 @@ pub record Part (side w from last : ℕ) : Type 0 where
 -- the cells at both its ends have their sides, all others are as they were
 pub record Set-ends (side bound : ℕ) (own far above below : List ℕ) (from last : ℕ) (sides sides' : List ℕ) : Type 0 where
   pub long : length sides' ≡ length sides
-  pub first : get_or sides' from 0 ≡ on-storey side bound own far above below from
-  pub end : get_or sides' last 0 ≡ on-storey side bound own far above below last
+  pub first : get_or sides' from 0 ≡ on_storey side bound own far above below from
+  pub end : get_or sides' last 0 ≡ on_storey side bound own far above below last
   pub kept : (i : ℕ) → i ≢ from → i ≢ last → get_or sides' i 0 ≡ get_or sides i 0
 
 pub record Found-flat (side bound : ℕ) (own far above below sides sides' : List ℕ) : Type 0 where
   pub long : length sides' ≡ length sides
-  pub each : (i : ℕ) → i < length sides → get_or sides' i 0 ≡ on-storey side bound own far above below i
+  pub each : (i : ℕ) → i < length sides → get_or sides' i 0 ≡ on_storey side bound own far above below i
 
 -- and with the storeys over and under
 pub record Added (bound : ℕ) (own over under sides sides' : List ℕ) : Type 0 where

@@ -5,8 +5,8 @@ mod row;
 ghost use Rattle.std.specs.Prelude.{◌≡◌, ℕ, ◌+◌, ◌*◌, ◌-◌, ◌≤◌, ◌<◌, length, get_or};
 ghost use Rattle.front.specs.Front.{Among};
 ghost use Rattle.front.specs.Board.{Ground};
-ghost use Rattle.sides.specs.Pass.{Off, Lines, Seen-row, Legal, Stacked, flat-at, stack_at, found_at, Done, Some-land, Found-whole};
-ghost use Rattle.sides.specs.Pass.{Ghosts, own-part, far-part, Laid, Found-round};
+ghost use Rattle.sides.specs.Pass.{Off, Lines, Seen-row, Legal, Stacked, flat_at, stack_at, found_at, Done, Some-land, Found-whole};
+ghost use Rattle.sides.specs.Pass.{Ghosts, own_part, far_part, Laid, Found-round};
 
 use eikonal::NEVER;
 use front::Shape;
@@ -52,7 +52,7 @@ fn flat_row<'a>(
     sides: &mut [u8],
 )
     requires { Legal shape own.now far.now off.now cols.now rows.now sides.old × (row < shape.height * shape.storeys) }
-    ensures { Done (flat-at shape own.now far.now bound) (row * shape.width) (row * shape.width + shape.width)
+    ensures { Done (flat_at shape own.now far.now bound) (row * shape.width) (row * shape.width + shape.width)
         sides.old sides.new }
 {
     let w = shape.width;
@@ -188,7 +188,7 @@ fn find_laid(
     sides: &mut [u8],
 )
     requires { Laid shape work.now cols.now rows.now sides.old }
-    ensures { Done (found_at shape (own-part shape work.now) (far-part shape work.now) bound) 0 shape.cells
+    ensures { Done (found_at shape (own_part shape work.now) (far_part shape work.now) bound) 0 shape.cells
         sides.old sides.new }
 {
     let n = shape.cells;

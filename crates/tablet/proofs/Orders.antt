@@ -8,8 +8,8 @@ use lib.Dec.{eqb}
 use lib.ListN.{length, get_or, take, drop}
 use borrow.Author.Tests.{eq-eqb}
 use Rattle.eikonal.specs.Board.{Board}
-use Rattle.eikonal.specs.Tiles.{tile-count}
-use Rattle.eikonal.specs.Refusals.{member, all_there, order-good}
+use Rattle.eikonal.specs.Tiles.{tile_count}
+use Rattle.eikonal.specs.Refusals.{member, all_there, order_good}
 use Rattle.tablet.proofs.Parts.{back}
 
 member-at : (xs : List ℕ) (k v : ℕ) → k < length xs → get_or xs k 0 ≡ v → member v xs ≡ true
@@ -24,12 +24,12 @@ module _ (xs : List ℕ) (rises : (k : ℕ) → k < length xs → get_or xs k 0 
   all-rise zero h = refl
   all-rise (suc n) h = rw (member-at xs n n h (rises n h), all-rise n (omega arith))
 
-  pub rise-good : (b : Board) (tw th : ℕ) → length xs ≡ tile-count b tw th → order-good b tw th xs ≡ true
-  unfolding order-good
-  rise-good b tw th e = rw (eq-eqb (length xs) (tile-count b tw th) e, all-rise (tile-count b tw th) (omega arith))
+  pub rise-good : (b : Board) (tw th : ℕ) → length xs ≡ tile_count b tw th → order_good b tw th xs ≡ true
+  unfolding order_good
+  rise-good b tw th e = rw (eq-eqb (length xs) (tile_count b tw th) e, all-rise (tile_count b tw th) (omega arith))
 
 -- the part of a longer list that was filled so
 pub part-good : (n : ℕ) (l part : List ℕ) → n ≤ length l → length part ≡ length (take n l)
-    → ((k : ℕ) → k < length (take n l) → get_or part k 0 ≡ k) → (b : Board) (tw th : ℕ) → n ≡ tile-count b tw th
-    → order-good b tw th (take n (part ++ drop n l)) ≡ true
+    → ((k : ℕ) → k < length (take n l) → get_or part k 0 ≡ k) → (b : Board) (tw th : ℕ) → n ≡ tile_count b tw th
+    → order_good b tw th (take n (part ++ drop n l)) ≡ true
 part-good n l part h e r b tw th q = let p = back n l part h e in rw p.same (rise-good part (λ k i. r k (omega arith)) b tw th (p.long ∙ q))

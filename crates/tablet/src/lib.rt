@@ -7,8 +7,8 @@ ghost use Rattle.eikonal.specs.Board.{size};
 ghost use Rattle.eikonal.specs.Order.{caused, or_else, first_of};
 ghost use Rattle.scenario.specs.Bytes.{four_bytes, bytes_of};
 ghost use Rattle.scenario.specs.File.{held};
-ghost use Rattle.tablet.specs.Small.{small-refusal};
-ghost use Rattle.tablet.specs.Tablet.{tablet-refusal, Tablet-says};
+ghost use Rattle.tablet.specs.Small.{small_refusal};
+ghost use Rattle.tablet.specs.Tablet.{tablet_refusal, Tablet-says};
 
 use eikonal::{LARGEST, Refusal, cause};
 use refusals::board::sides_good;
@@ -18,7 +18,7 @@ use scenario::heads::{board_size, head_of};
 
 // 14, where nothing was found before.
 fn room_refusal(so_far: Refusal, file: &[u8], room: usize) -> Refusal
-    requires { so_far.number ≡ 0 → (small-refusal file.now).number ≡ 0 }
+    requires { so_far.number ≡ 0 → (small_refusal file.now).number ≡ 0 }
     ensures { result ≡ or_else so_far (first_of (caused 14 (ltb room (4 * size (held file.now))) ∷ [])) }
 {
     if so_far.number != 0 {
@@ -30,7 +30,7 @@ fn room_refusal(so_far: Refusal, file: &[u8], room: usize) -> Refusal
 
 // All that the tablet is refused by, for an output of so many bytes.
 fn tablet_refusal(file: &[u8], stride: u32, across: u32, down: u32, room: usize) -> Refusal
-    ensures { result ≡ tablet-refusal file.now stride across down room }
+    ensures { result ≡ tablet_refusal file.now stride across down room }
 {
     let by_11 = when(!sides_good(across, down), 11, 0, cause(0));
     let tiling = when(!within(1, LARGEST as usize, stride as usize), 10, 0, by_11);

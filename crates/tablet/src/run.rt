@@ -2,9 +2,9 @@
 ghost use Rattle.std.specs.Prelude.{◌≡◌, ℕ, ◌*◌, ◌≤◌, ◌<◌, length, get_or};
 ghost use Rattle.eikonal.specs.Board.{size, marched};
 ghost use Rattle.eikonal.specs.Tiles.{rounds};
-ghost use Rattle.eikonal.specs.Refusals.{by-lists, handed-refusal};
+ghost use Rattle.eikonal.specs.Refusals.{by_lists, handed_refusal};
 ghost use Rattle.scenario.specs.File.{held};
-ghost use Rattle.tablet.specs.Small.{horizon, small-refusal, Tiled};
+ghost use Rattle.tablet.specs.Small.{horizon, small_refusal, Tiled};
 
 use eikonal::{nothing_own, run_job};
 use scenario::heads::{head_of, starts_base};
@@ -58,14 +58,14 @@ fn run_board(
     down: u32,
     times: &mut [u32],
 ) -> u32
-    requires board { (handed-refusal (by-lists width height storeys slow.now cells.now begins.now)).number ≡ 0 }
+    requires board { (handed_refusal (by_lists width height storeys slow.now cells.now begins.now)).number ≡ 0 }
     requires sides { (width ≤ 32) × (height ≤ 32) × (width * height * storeys ≤ 1024)
         × (length times.old ≡ width * height * storeys) }
     requires tiles { Tiled stride across down }
     ensures rounds { result
-        ≡ rounds (by-lists width height storeys slow.now cells.now begins.now).board across down stride horizon }
+        ≡ rounds (by_lists width height storeys slow.now cells.now begins.now).board across down stride horizon }
     ensures times { times.new
-        ≡ marched (by-lists width height storeys slow.now cells.now begins.now).board horizon }
+        ≡ marched (by_lists width height storeys slow.now cells.now begins.now).board horizon }
 {
     let mut order = entries();
     let tiles = (tiles_along(width, across) * tiles_along(height, down)) as usize;
@@ -99,7 +99,7 @@ fn run_starts(
     down: u32,
     times: &mut [u32],
 ) -> u32
-    requires board { ((small-refusal file.now).number ≡ 0) × (slow.now ≡ (held file.now).slow) × (length times.old ≡ size (held file.now)) }
+    requires board { ((small_refusal file.now).number ≡ 0) × (slow.now ≡ (held file.now).slow) × (length times.old ≡ size (held file.now)) }
     requires tiles { Tiled stride across down }
     ensures rounds { result ≡ rounds (held file.now) across down stride horizon }
     ensures times { times.new ≡ marched (held file.now) horizon }
@@ -126,7 +126,7 @@ fn run_starts(
 
 // The board of a file that was judged, with as many times as it has cells. Answers the rounds.
 pub fn run_file(file: &[u8], stride: u32, across: u32, down: u32, times: &mut [u32]) -> u32
-    requires board { ((small-refusal file.now).number ≡ 0) × (length times.old ≡ size (held file.now)) }
+    requires board { ((small_refusal file.now).number ≡ 0) × (length times.old ≡ size (held file.now)) }
     requires tiles { Tiled stride across down }
     ensures rounds { result ≡ rounds (held file.now) across down stride horizon }
     ensures times { times.new ≡ marched (held file.now) horizon }

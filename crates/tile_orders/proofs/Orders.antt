@@ -11,56 +11,56 @@ use lib.Dec.{eqb}
 use lib.ListN.{length, get_or, set, take, length-set}
 use lib.Seq.{take-suc, get_or-set_same, get_or-set_other}
 use borrow.Author.Tests.{eq-eqb, ne_eqb}
-use Rattle.eikonal.specs.Tiles.{up, tile-count}
-use Rattle.eikonal.specs.Refusals.{member, all_there, order-good}
-use Rattle.eikonal.specs.Board.{board-of}
-use Rattle.tile_orders.specs.Orders.{all-below, part-there, marked, Noted}
+use Rattle.eikonal.specs.Tiles.{up, tile_count}
+use Rattle.eikonal.specs.Refusals.{member, all_there, order_good}
+use Rattle.eikonal.specs.Board.{board_of}
+use Rattle.tile_orders.specs.Orders.{all_below, part_there, marked, Noted}
 
 -- ---- each number below n passes
-pub all-below-same : (n : ℕ) (f g : ℕ → Bool) → ((j : ℕ) → j < n → f j ≡ g j) → all-below n f ≡ all-below n g
-unfolding all-below
-all-below-same zero f g e = refl
-all-below-same (suc n) f g e = ap₂ ◌&&◌ (e n (omega arith)) (all-below-same n f g (λ j h. e j (omega arith)))
+pub all_below-same : (n : ℕ) (f g : ℕ → Bool) → ((j : ℕ) → j < n → f j ≡ g j) → all_below n f ≡ all_below n g
+unfolding all_below
+all_below-same zero f g e = refl
+all_below-same (suc n) f g e = ap₂ ◌&&◌ (e n (omega arith)) (all_below-same n f g (λ j h. e j (omega arith)))
 
 -- where the first a pass, the next decide
-pub all-below-on : (a b : ℕ) (f : ℕ → Bool) → all-below a f ≡ true → all-below (a + b) f ≡ all-below b (λ j. f (a + j))
-unfolding all-below
-all-below-on a zero f e = rw add-zero e
-all-below-on a (suc b) f e = rw add-suc (ap (λ (t : Bool). f (a + b) && t) (all-below-on a b f e))
+pub all_below-on : (a b : ℕ) (f : ℕ → Bool) → all_below a f ≡ true → all_below (a + b) f ≡ all_below b (λ j. f (a + j))
+unfolding all_below
+all_below-on a zero f e = rw add-zero e
+all_below-on a (suc b) f e = rw add-suc (ap (λ (t : Bool). f (a + b) && t) (all_below-on a b f e))
 
 -- one that fails is not mended by later ones
-pub all-below-fails : (m n : ℕ) (f : ℕ → Bool) → m ≤ n → all-below m f ≡ false → all-below n f ≡ false
-unfolding all-below
-all-below-fails m n f h e =
+pub all_below_fails : (m n : ℕ) (f : ℕ → Bool) → m ≤ n → all_below m f ≡ false → all_below n f ≡ false
+unfolding all_below
+all_below_fails m n f h e =
     let same : m + (n - m) ≡ n = omega arith in
-    subst (λ (k : ℕ). all-below k f ≡ false) same (go (n - m))
+    subst (λ (k : ℕ). all_below k f ≡ false) same (go (n - m))
   where
-    go : (k : ℕ) → all-below (m + k) f ≡ false
+    go : (k : ℕ) → all_below (m + k) f ≡ false
     go zero = rw add-zero e
     go (suc k) = rw (add-suc, go k, and-false (f (m + k)))
 
 -- one number more: it passes, or it decides
-pub all-below-more : (m : ℕ) (f : ℕ → Bool) → all-below m f ≡ true → f m ≡ true → all-below (suc m) f ≡ true
-unfolding all-below
-all-below-more m f e t = rw (t, e)
+pub all_below-more : (m : ℕ) (f : ℕ → Bool) → all_below m f ≡ true → f m ≡ true → all_below (suc m) f ≡ true
+unfolding all_below
+all_below-more m f e t = rw (t, e)
 
-pub all-below-stops : (m n : ℕ) (f : ℕ → Bool) → m < n → f m ≡ false → all-below n f ≡ false
-unfolding all-below
-all-below-stops m n f h e = all-below-fails (suc m) n f h (rw e)
+pub all_below_stops : (m n : ℕ) (f : ℕ → Bool) → m < n → f m ≡ false → all_below n f ≡ false
+unfolding all_below
+all_below_stops m n f h e = all_below_fails (suc m) n f h (rw e)
 
 -- ---- every number below n is in the list
-all-there-is : (n : ℕ) (xs : List ℕ) → all_there n xs ≡ all-below n (λ v. member v xs)
-unfolding all_there all-below
-all-there-is zero xs = refl
-all-there-is (suc n) xs = ap (λ (t : Bool). member n xs && t) (all-there-is n xs)
+all_there-is : (n : ℕ) (xs : List ℕ) → all_there n xs ≡ all_below n (λ v. member v xs)
+unfolding all_there all_below
+all_there-is zero xs = refl
+all_there-is (suc n) xs = ap (λ (t : Bool). member n xs && t) (all_there-is n xs)
 
 -- where the first a are there, the next part decides
-pub there-on : (a m : ℕ) (xs : List ℕ) → all_there a xs ≡ true → all_there (a + m) xs ≡ part-there a m xs
-there-on a m xs e = all-there-is (a + m) xs ∙ all-below-on a m (λ v. member v xs) (sym (all-there-is a xs) ∙ e)
+pub there-on : (a m : ℕ) (xs : List ℕ) → all_there a xs ≡ true → all_there (a + m) xs ≡ part_there a m xs
+there-on a m xs e = all_there-is (a + m) xs ∙ all_below-on a m (λ v. member v xs) (sym (all_there-is a xs) ∙ e)
 
-pub there-fails : (m n : ℕ) (xs : List ℕ) → m ≤ n → all_there m xs ≡ false → all_there n xs ≡ false
-there-fails m n xs h e =
-    all-there-is n xs ∙ all-below-fails m n (λ v. member v xs) h (sym (all-there-is m xs) ∙ e)
+pub there_fails : (m n : ℕ) (xs : List ℕ) → m ≤ n → all_there m xs ≡ false → all_there n xs ≡ false
+there_fails m n xs h e =
+    all_there-is n xs ∙ all_below_fails m n (λ v. member v xs) h (sym (all_there-is m xs) ∙ e)
 
 -- ---- the first i entries of the order
 member-append : (v : ℕ) (xs ys : List ℕ) → member v (xs ++ ys) ≡ member v xs || member v ys
@@ -92,10 +92,10 @@ inside a x ms l h = record { many = length-set ms (x - a) 1; marks = mark }
 
 -- ---- the tiles of a board: with n across and m down, the length is judged first
 module _ (w h tw th : ℕ) (xs : List ℕ) (n m : ℕ) (across : n ≡ up w tw) (down : m ≡ up h th) where
-  pub order-uneven : length xs ≢ n * m → false ≡ order-good (board-of w h 1 [] []) tw th xs
-  unfolding order-good tile-count
+  pub order-uneven : length xs ≢ n * m → false ≡ order_good (board_of w h 1 [] []) tw th xs
+  unfolding order_good tile_count
   order-uneven d = rw (← across, ← down, ne_eqb (length xs) (n * m) d)
 
-  pub order-even : length xs ≡ n * m → (q : Bool) → q ≡ all_there (n * m) xs → q ≡ order-good (board-of w h 1 [] []) tw th xs
-  unfolding order-good tile-count
+  pub order-even : length xs ≡ n * m → (q : Bool) → q ≡ all_there (n * m) xs → q ≡ order_good (board_of w h 1 [] []) tw th xs
+  unfolding order_good tile_count
   order-even e q t = rw (← across, ← down, eq-eqb (length xs) (n * m) e) t

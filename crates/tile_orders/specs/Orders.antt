@@ -3,13 +3,13 @@ use Rattle.std.specs.Prelude.{◌≡◌, Bool, true, ◌&&◌, ◌||◌, List, �
 use Rattle.eikonal.specs.Refusals.{member}
 
 -- each number below n passes
-unfoldable pub all-below : (n : ℕ) → (ℕ → Bool) → Bool
-all-below zero f = true
-all-below (suc n) f = f n && all-below n f
+unfoldable pub all_below : (n : ℕ) → (ℕ → Bool) → Bool
+all_below zero f = true
+all_below (suc n) f = f n && all_below n f
 
 -- so many numbers, from the given one on, are all in the list
-abbrev pub part-there : (from many : ℕ) → List ℕ → Bool
-part-there a m xs = all-below m (λ j. member (a + j) xs)
+abbrev pub part_there : (from many : ℕ) → List ℕ → Bool
+part_there a m xs = all_below m (λ j. member (a + j) xs)
 
 -- marks: 1 at j where the number j has been seen
 abbrev pub marked : List ℕ → (j : ℕ) → Bool

@@ -1,9 +1,9 @@
 // Whether an order of tiles names each of a board's tiles once.
 ghost use Rattle.std.specs.Prelude.{◌≡◌, [], ◌≤◌, min, length};
-ghost use Rattle.eikonal.specs.Board.{board-of};
+ghost use Rattle.eikonal.specs.Board.{board_of};
 ghost use Rattle.eikonal.specs.Tiles.{up};
-ghost use Rattle.eikonal.specs.Refusals.{all_there, order-good};
-ghost use Rattle.tile_orders.specs.Orders.{all-below, part-there, marked, Noted};
+ghost use Rattle.eikonal.specs.Refusals.{all_there, order_good};
+ghost use Rattle.tile_orders.specs.Orders.{all_below, part_there, marked, Noted};
 
 // How many tile numbers are looked for at a time.
 const PART: usize = 8192;
@@ -27,7 +27,7 @@ fn note(seen: &mut [u8; 8192], from: usize, x: u32)
 // Whether the first entries are all marked.
 fn all_marked(seen: &[u8; 8192], many: usize) -> bool
     requires { many ≤ 8192 }
-    ensures { result ≡ all-below many (λ j. marked seen.now j) }
+    ensures { result ≡ all_below many (λ j. marked seen.now j) }
 {
     let mut j = 0;
     while j < many {
@@ -42,7 +42,7 @@ fn all_marked(seen: &[u8; 8192], many: usize) -> bool
 // Whether the order has so many tile numbers, from the given one on.
 fn part_there(order: &[u32], from: usize, many: usize) -> bool
     requires { many ≤ 8192 }
-    ensures { result ≡ part-there from many order.now }
+    ensures { result ≡ part_there from many order.now }
 {
     let mut seen = [0u8; 8192];
     let mut i = 0;
@@ -86,7 +86,7 @@ pub fn tiles_along(cells: u32, side: u32) -> u32
 // Whether the order has each of the board's tile numbers once. Of the board the sides matter here.
 pub fn order_good(width: u32, height: u32, across: u32, down: u32, order: &[u32]) -> bool
     requires { (width ≤ 256) × (height ≤ 256) × (1 ≤ across) × (across ≤ 256) × (1 ≤ down) × (down ≤ 256) }
-    ensures { result ≡ order-good (board-of width height 1 [] []) across down order.now }
+    ensures { result ≡ order_good (board_of width height 1 [] []) across down order.now }
 {
     let count = (tiles_along(width, across) * tiles_along(height, down)) as usize;
     if order.len() != count {

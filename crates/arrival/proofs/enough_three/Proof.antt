@@ -2,7 +2,7 @@
 use Prim.Native.Nat.{◌+◌, ◌*◌, ◌≤◌, ◌<◌}
 use native.Mathlib.Omega.{arith}
 use borrow.Author.Rules.{rules}
-use Rattle.arrival.proofs.Root.{past-plane, sides-short}
+use Rattle.arrival.proofs.Root.{past_plane, sides-short}
 use Rattle.arrival.proofs.enough_three.Statement.{statement}
 use Rattle.arrival.proofs.enough_three.Tie as tie
 
@@ -10,7 +10,7 @@ short : (c : tie.Start) → let a = c.args in (a.far < a.slowness) × (a.near < 
 short c = sides-short c.args.slowness c.args.far c.args.near c.requires.1
 
 returns : tie.Need-returns
-returns c = (omega arith, past-plane _ _ _ _ (omega arith))
+returns c = (omega arith, past_plane _ _ _ _ (omega arith))
 
 pub enough-three-spec : {M : Type 1} → statement M
 enough-three-spec =

@@ -3,7 +3,7 @@ use Prim.Native.Nat.{◌+◌, ◌*◌, ◌-◌, ◌/◌, ◌≤◌, ◌<◌}
 use native.Mathlib.Omega.{arith}
 use native.Mathlib.Nat.{mul-le-mul}
 use borrow.Author.Rules.{rules}
-use Rattle.arrival.proofs.Root.{at, squares-fit, some-past, Nearer, step, no_step}
+use Rattle.arrival.proofs.Root.{at, squares_fit, some-past, Nearer, step, no_step}
 use Rattle.arrival.proofs.least_past.Statement.{statement}
 use Rattle.arrival.proofs.least_past.Tie as tie
 
@@ -22,7 +22,7 @@ loop-holds c = (c.enough.ensures.0, omega (arith, c.enough.ensures.1))
 
 squares : (c : tie.At-loop invariant-loop decreases-loop)
     → (c.before.before.args.apart + c.loop.past) * (c.before.before.args.apart + c.loop.past) + c.loop.past * c.loop.past ≤ 134184962
-squares c = squares-fit _ _ (omega arith)
+squares c = squares_fit _ _ (omega arith)
 
 mul-over : tie.Need-overflow-mul-over invariant-loop decreases-loop
 mul-over c = omega (arith, squares c)

@@ -34,15 +34,15 @@ three-squares-requires c κs =
     ((sides s).0, (sides s).1, c.loop.invariant.0)
 
 sub-over : tie.Need-overflow-sub-over invariant-loop decreases-loop
-sub-over c = omega (arith, c.three-squares.ensures, c.before.loop.invariant.1)
+sub-over c = omega (arith, c.three_squares.ensures, c.before.loop.invariant.1)
 
 -- what the ticks at hand come to, and three of them more than the others
 fits : (c : tie.After-three-squares invariant-loop decreases-loop) → let a = c.before.before.before.args in
-    (c.three-squares.result ≤ 150921225) × (a.far + a.near + 3 * c.before.loop.past ≤ 20475)
+    (c.three_squares.result ≤ 150921225) × (a.far + a.near + 3 * c.before.loop.past ≤ 20475)
 fits c =
     let s = c.before.before.before in
     let p = c.before.loop.invariant.0 in
-    (omega (arith, c.three-squares.ensures, three-most _ _ _ (sides s).0 (sides s).1 p), omega (arith, sides s, p))
+    (omega (arith, c.three_squares.ensures, three-most _ _ _ (sides s).0 (sides s).1 p), omega (arith, sides s, p))
 
 returns : tie.Need-returns invariant-loop decreases-loop
 returns c =
@@ -51,15 +51,15 @@ returns c =
     let e = l.loop.invariant.1 in (
       some-past _ _ _ _ curved (low s) _ e,
       omega (arith, e),
-      omega (arith, no_step _ _ _ _ curved (low s) _ e (omega (arith, c.before.three-squares.ensures, c.if1.true))),
+      omega (arith, no_step _ _ _ _ curved (low s) _ e (omega (arith, c.before.three_squares.ensures, c.if1.true))),
     )
 
 next : (c : tie.Else1 invariant-loop decreases-loop) → let l = c.before.before in let a = l.before.before.args in
     Nearer (a.slowness * a.slowness) (a.far * a.far + a.near * a.near) (a.far + a.near) 3 l.loop.past
-    ((c.before.three-squares.result - a.slowness * a.slowness + 3) / (2 * (a.far + a.near + 3 * l.loop.past)))
+    ((c.before.three_squares.result - a.slowness * a.slowness + 3) / (2 * (a.far + a.near + 3 * l.loop.past)))
 next c =
     let l = c.before.before in
-    step _ _ _ _ curved (low l.before.before) _ l.loop.invariant.1 _ _ (omega (arith, c.before.three-squares.ensures)) refl c.if1.false
+    step _ _ _ _ curved (low l.before.before) _ l.loop.invariant.1 _ _ (omega (arith, c.before.three_squares.ensures)) refl c.if1.false
 
 div-past : tie.Need-nonzero-div-past invariant-loop decreases-loop
 div-past c =

@@ -1,12 +1,12 @@
 -- `arrival::local_refusal` meets its contract.
 use mathlib.Core.Path.{refl}
 use Rattle.eikonal.specs.Order.{first_of}
-use Rattle.eikonal.specs.Entry.{local-causes, local-refusal}
+use Rattle.eikonal.specs.Entry.{local_causes, local_refusal}
 use Rattle.arrival.proofs.local_refusal.Statement.{statement}
 use Rattle.arrival.proofs.local_refusal.Tie as tie
 
 returns : tie.Need-returns
-unfolding local-refusal local-causes first_of
+unfolding local_refusal local_causes first_of
 returns c =
     let h = c.before.before in
     let w = h.before in

@@ -2,8 +2,8 @@
 use mathlib.Core.Path.{◌≡◌, sym, ap, ap₂, ◌∙◌}
 use native.Mathlib.Omega.{arith}
 use borrow.Author.Rules.{rules}
-use Rattle.eikonal.specs.Sides.{sides-of, local-sides}
-use Rattle.eikonal.specs.Entry.{local-answer, local-refusal, Local-says}
+use Rattle.eikonal.specs.Sides.{sides_of, local_sides}
+use Rattle.eikonal.specs.Entry.{local_answer, local_refusal, LocalSays}
 use Rattle.eikonal.specs.declared.Refusal.{Refusal}
 use Rattle.eikonal.proofs.Answers.{local-answered-zero, local-answered-refused}
 use Rattle.arrival.proofs.Sides.{sides-shown}
@@ -11,20 +11,20 @@ use Rattle.arrival.proofs.local_rule.Statement.{statement}
 use Rattle.arrival.proofs.local_rule.Tie as tie
 
 returns : tie.Need-returns
-unfolding Local-says local-answer
+unfolding LocalSays local_answer
 returns c =
-    let e = c.before.before.local-refusal.ensures in
-    ap (λ (k : Refusal). local-answer k.number 0 0) e
+    let e = c.before.before.local_refusal.ensures in
+    ap (λ (k : Refusal). local_answer k.number 0 0) e
     ∙ sym (local-answered-refused _ _ _ (λ z. c.if1.true (ap (λ (k : Refusal). k.number) e ∙ z)))
 
-unrefused : (c : tie.Else1) → let a = c.before.before.before.args in (local-refusal a.g a.h a.over a.under).number ≡ 0
-unrefused c = sym (ap (λ (k : Refusal). k.number) c.before.before.local-refusal.ensures) ∙ c.if1.false
+unrefused : (c : tie.Else1) → let a = c.before.before.before.args in (local_refusal a.g a.h a.over a.under).number ≡ 0
+unrefused c = sym (ap (λ (k : Refusal). k.number) c.before.before.local_refusal.ensures) ∙ c.if1.false
 
 local-time-requires : tie.Need-local-time-requires
 local-time-requires c κs = unrefused c
 
 returns-2 : tie.Need-returns-2
-unfolding Local-says local-answer local-sides
+unfolding LocalSays local_answer local_sides
 returns-2 c =
     let s = c.before in
     let n = s.before in
@@ -35,9 +35,9 @@ returns-2 c =
     let l = r.before in
     let t = l.before in
     let sides = rw (s.shown.ensures, n.known6.ensures, o.known5.ensures, d.known4.ensures, u.known3.ensures, r.known2.ensures, l.known.ensures)
-    at c.sides-of.ensures in
+    at c.sides_of.ensures in
     let all = sides ∙ sides-shown _ _ _ _ _ _ t.local-time.result (omega (arith, t.local-time.type-inv)) in
-    ap₂ (local-answer 0) t.local-time.ensures (rw t.local-time.ensures at all) ∙ sym (local-answered-zero _ _ _ (unrefused t.before))
+    ap₂ (local_answer 0) t.local-time.ensures (rw t.local-time.ensures at all) ∙ sym (local-answered-zero _ _ _ (unrefused t.before))
 
 pub local-rule-spec : {M : Type 1} → statement M
 local-rule-spec =

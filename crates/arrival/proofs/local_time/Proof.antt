@@ -6,29 +6,29 @@ use Prim.Native.Nat.{ℕ, ◌+◌, min}
 use native.Mathlib.Omega.{arith}
 use lib.Dec.{ltb, eqb}
 use borrow.Author.Tests.{ltb-false, eqb-true, ne_eqb, not-false}
-use Rattle.eikonal.specs.Board.{never, largest, earlier, local-of, local}
-use Rattle.eikonal.specs.Entry.{seen, local-causes, local-refusal}
+use Rattle.eikonal.specs.Board.{never, largest, earlier, local_of, local}
+use Rattle.eikonal.specs.Entry.{seen, local_causes, local_refusal}
 use Rattle.eikonal.specs.Inner.Good.{Known, Pair}
-use Rattle.eikonal.proofs.Causes.{None-met, none-met}
-use Rattle.eikonal.proofs.Good.{to-pair}
+use Rattle.eikonal.proofs.Causes.{NoneMet, none-met}
+use Rattle.eikonal.proofs.Good.{to_pair}
 use Rattle.eikonal.proofs.Local.{local-is}
-use Rattle.eikonal.proofs.Solution.{earlier-known, local_known}
+use Rattle.eikonal.proofs.Solution.{earlier_known, local_known}
 use Rattle.eikonal.proofs.Walls.{unequal}
 use Rattle.eikonal.proofs.FirstPass.{alike}
 use Rattle.arrival.proofs.local_time.Statement.{statement}
 use Rattle.arrival.proofs.local_time.Tie as tie
 
 -- a pair that is not refused
-spared : (g h o n : ℕ) → (local-refusal g h o n).number ≡ 0 → Pair g h
-unfolding local-refusal local-causes None-met
-spared g h o n e = let r = none-met (local-causes g h o n) e in to-pair g h r.0 r.1.0
+spared : (g h o n : ℕ) → (local_refusal g h o n).number ≡ 0 → Pair g h
+unfolding local_refusal local_causes NoneMet
+spared g h o n e = let r = none-met (local_causes g h o n) e in to_pair g h r.0 r.1.0
 
 -- and has no time over or under if its numbers differ
-flat : (g h o n : ℕ) → (local-refusal g h o n).number ≡ 0 → (g ≡ h → ⊥) → earlier (seen o) (seen n) ≡ never
-unfolding local-refusal local-causes None-met
+flat : (g h o n : ℕ) → (local_refusal g h o n).number ≡ 0 → (g ≡ h → ⊥) → earlier (seen o) (seen n) ≡ never
+unfolding local_refusal local_causes NoneMet
 flat g h o n e d =
     let z = earlier (seen o) (seen n) in
-    let p : not (eqb g h) && not (eqb z never) ≡ false = (none-met (local-causes g h o n) e).1.1.0 in
+    let p : not (eqb g h) && not (eqb z never) ≡ false = (none-met (local_causes g h o n) e).1.1.0 in
     eqb-true z never (not-false _ (rw (ne_eqb g h d) at p))
 
 seen-known : (t : ℕ) → Known largest (seen t)
@@ -40,7 +40,7 @@ seen-known t = go (ltb largest t) refl
     go false e = inr (ltb-false largest t e)
 
 axis-known : (x y : ℕ) → Known largest (earlier (seen x) (seen y))
-axis-known x y = earlier-known largest _ _ (seen-known x) (seen-known y)
+axis-known x y = earlier_known largest _ _ (seen-known x) (seen-known y)
 
 uncut : (g h l r u d o n : ℕ) → Pair g h → let t = local g h (seen l) (seen r) (seen u) (seen d) (seen o) (seen n) in min never t ≡ t
 uncut g h l r u d o n p =
@@ -52,9 +52,9 @@ uncut g h l r u d o n p =
     go (inr k) = omega arith
 
 -- the time of three axes
-is-local : (g h l r u d o n a b z x : ℕ) → (local-refusal g h o n).number ≡ 0
+is-local : (g h l r u d o n a b z x : ℕ) → (local_refusal g h o n).number ≡ 0
     → a ≡ earlier (seen l) (seen r) → b ≡ earlier (seen u) (seen d) → z ≡ earlier (seen o) (seen n)
-    → x ≡ min never (local-of g h a b z) → x ≡ local g h (seen l) (seen r) (seen u) (seen d) (seen o) (seen n)
+    → x ≡ min never (local_of g h a b z) → x ≡ local g h (seen l) (seen r) (seen u) (seen d) (seen o) (seen n)
 is-local g h l r u d o n a b z x e p q s t =
     t ∙ rw (p, q, s, ← local-is g h (seen l) (seen r) (seen u) (seen d) (seen o) (seen n)) (uncut g h l r u d o n (spared g h o n e))
 
@@ -74,7 +74,7 @@ returns c =
 
 -- equal numbers, with no time over or under
 of-equal-requires : tie.Need-of-equal-requires
-of-equal-requires c κs = (spared _ _ _ _ (start c.before.before.before).requires).along-most
+of-equal-requires c κs = (spared _ _ _ _ (start c.before.before.before).requires).along_most
 
 returns-2 : tie.Need-returns-2
 returns-2 c =
@@ -84,7 +84,7 @@ returns-2 c =
     (alike _ _ _ _ _ _ _ s.before.if1.false c.of-equal.ensures)
 
 of-three-requires : tie.Need-of-three-requires
-of-three-requires c κs = (spared _ _ _ _ (start c.before.before.before).requires).along-most
+of-three-requires c κs = (spared _ _ _ _ (start c.before.before.before).requires).along_most
 
 returns-3 : tie.Need-returns-3
 returns-3 c =

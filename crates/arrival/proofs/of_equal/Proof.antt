@@ -5,8 +5,8 @@ use native.Mathlib.Omega.{arith}
 use borrow.Author.Rules.{rules}
 use borrow.Author.Tests.{ltb-true, ltb-false}
 use Rattle.eikonal.specs.Board.{never}
-use Rattle.arrival.proofs.Root.{no-fewer}
-use Rattle.eikonal.proofs.FirstPass.{cut_twice, limit-stays, no-later, straight, too-early, slanted, weighed-scaled, weighed-short, in_order}
+use Rattle.arrival.proofs.Root.{no_fewer}
+use Rattle.eikonal.proofs.FirstPass.{cut_twice, limit-stays, no_later, straight, too_early, slanted, weighed_scaled, weighed-short, in_order}
 use Rattle.arrival.proofs.of_equal.Statement.{statement}
 use Rattle.arrival.proofs.of_equal.Tie as tie
 
@@ -42,7 +42,7 @@ returns-3 c =
     let g = c.before.before in
     let o = open-cell g in
     in_order _ _ _ _ _ _ _ _ (by-never (start g)) g.before.lesser.ensures g.greater.ensures
-    (no-later _ _ _ _ o o (ordered g) _ (by-never (start g)) c.before.if2.false c.if3.true)
+    (no_later _ _ _ _ o o (ordered g) _ (by-never (start g)) c.before.if2.false c.if3.true)
 
 returns-4 : tie.Need-returns-4
 returns-4 c =
@@ -50,18 +50,18 @@ returns-4 c =
     let g = k.before.before in
     let o = open-cell g in
     in_order _ _ _ _ _ _ _ _ (by-never (start g)) g.before.lesser.ensures g.greater.ensures
-    (too-early _ _ _ _ o o (ordered g) _ (by-never (start g)) k.if3.false
+    (too_early _ _ _ _ o o (ordered g) _ (by-never (start g)) k.if3.false
     (weighed-short _ _ _ o (ltb-true _ _ (rw c.before.too_few.ensures at c.if4.true))))
 
 -- one tick before the limit is late enough, so that the answer is no later
-in-time : (c : tie.After-least-past) → let g = c.before.before.before.before.before in
+in_time : (c : tie.After-least-past) → let g = c.before.before.before.before.before in
     g.greater.result + c.least-past.result < (start g).args.limit
-in-time c =
+in_time c =
     let f = c.before.before in
     omega (
       arith,
       f.before.if3.false,
-      no-fewer _ _ _ _ _ _ c.least-past.ensures.2 (ltb-false _ _ (rw f.too_few.ensures at c.before.if4.false)),
+      no_fewer _ _ _ _ _ _ c.least-past.ensures.2 (ltb-false _ _ (rw f.too_few.ensures at c.before.if4.false)),
     )
 
 returns-5 : tie.Need-returns-5
@@ -70,7 +70,7 @@ returns-5 c =
     let o = open-cell g in
     let e = c.least-past.ensures in
     in_order _ _ _ _ _ _ _ _ (by-never (start g)) g.before.lesser.ensures g.greater.ensures
-    (slanted _ _ _ _ o o (ordered g) _ (by-never (start g)) _ (in-time c) e.0 (weighed-scaled _ _ _ e.1) (weighed-short _ _ _ o e.2))
+    (slanted _ _ _ _ o o (ordered g) _ (by-never (start g)) _ (in_time c) e.0 (weighed_scaled _ _ _ e.1) (weighed-short _ _ _ o e.2))
 
 pub of-equal-spec : {M : Type 1} → statement M
 of-equal-spec =
@@ -78,4 +78,4 @@ of-equal-spec =
     (tie.spec
     returns (λ c κs. tt) (λ c κs. tt) (λ c. omega (arith, ordered c)) (λ c κs. tt) (λ c κs. tt) returns-2 returns-3
     (λ c. search rules) (λ c. omega (arith, c.if3.false)) (λ c κs. search rules) returns-4 (λ c κs. search rules)
-    (λ c. omega (arith, in-time c)) returns-5)
+    (λ c. omega (arith, in_time c)) returns-5)

@@ -1,12 +1,12 @@
 -- `arrival::sides_of` meets its contract.
 use native.Mathlib.Omega.{arith}
 use borrow.Author.Rules.{rules}
-use Rattle.eikonal.specs.Sides.{sides-of}
+use Rattle.eikonal.specs.Sides.{sides_of}
 use Rattle.arrival.proofs.sides_of.Statement.{statement}
 use Rattle.arrival.proofs.sides_of.Tie as tie
 
 returns : tie.Need-returns
-unfolding sides-of
+unfolding sides_of
 returns c = omega (arith, c.before.flat-sides.ensures.0, c.side.ensures.0)
 
 pub sides-of-spec : {M : Type 1} → statement M

@@ -6,7 +6,7 @@ use native.Mathlib.Nat.{mul-le-mul}
 use borrow.Author.Rules.{rules}
 use borrow.Author.Tests.{le-ltb}
 use Rattle.eikonal.specs.Inner.Weighed.{weighed}
-use Rattle.arrival.proofs.Root.{as_many, squares-fit}
+use Rattle.arrival.proofs.Root.{as_many, squares_fit}
 use Rattle.arrival.proofs.too_few.Statement.{statement}
 use Rattle.arrival.proofs.too_few.Tie as tie
 
@@ -19,7 +19,7 @@ returns c =
 squares : (c : tie.Else1)
     → (c.before.args.apart + c.before.args.past) * (c.before.args.apart + c.before.args.past)
     + c.before.args.past * c.before.args.past ≤ 134184962
-squares c = squares-fit _ _ (omega arith)
+squares c = squares_fit _ _ (omega arith)
 
 mul-result : tie.Need-overflow-mul-result
 mul-result c = omega (arith, squares c)

@@ -17,7 +17,7 @@ mul-result : tie.Need-overflow-mul-result
 mul-result c = omega (arith, square-most c.before.before.before.before.requires)
 
 returns-2 : tie.Need-returns-2
-returns-2 c = rw c.three-squares.ensures refl
+returns-2 c = rw c.three_squares.ensures refl
 
 pub too-few-three-spec : {M : Type 1} → statement M
 too-few-three-spec =

@@ -2,12 +2,12 @@
 use mathlib.Core.Path.{◌≡◌, refl, sym, ap, ◌∙◌}
 use mathlib.Core.List.{List, [], ◌∷◌, ◌++◌}
 use Prim.Native.Nat.{ℕ}
-use Rattle.eikonal.specs.Board.{board-of, size}
-use Rattle.eikonal.specs.Tiles.{tile-count}
+use Rattle.eikonal.specs.Board.{board_of, size}
+use Rattle.eikonal.specs.Tiles.{tile_count}
 use Rattle.eikonal.specs.Order.{found, or_else, first_of}
-use Rattle.eikonal.specs.Refusals.{board-causes, order-good, tile-causes, job-causes, list-causes, handed}
-use Rattle.eikonal.specs.Ledger.{call-causes, own-refusal}
-use Rattle.eikonal.proofs.Causes.{neither, number_is, or-else-assoc, first-append, also-found}
+use Rattle.eikonal.specs.Refusals.{board_causes, order_good, tile_causes, job_causes, list_causes, handed}
+use Rattle.eikonal.specs.Ledger.{call_causes, own_refusal}
+use Rattle.eikonal.proofs.Causes.{neither, number_is, or_else_assoc, first-append, also-found}
 use Rattle.eikonal.specs.declared.Start.{Start}
 use Rattle.eikonal.specs.declared.Job.{Job}
 use Rattle.eikonal.specs.declared.Job.TheVariants.{March, Round, Run}
@@ -15,12 +15,12 @@ use Rattle.call_refusals.proofs.call_refusal.Statement.{statement}
 use Rattle.call_refusals.proofs.call_refusal.Tie as tie
 
 -- of a board the causes 10, 11 and 12 see the sides alone
-same-sides : (w h s : ℕ) (slow : List ℕ) (ys : List Start) (j : Job) (xs : List ℕ) → job-causes (board-of w h 1 [] []) j xs
-    ≡ job-causes (board-of w h s slow ys) j xs
-unfolding job-causes tile-causes order-good tile-count
-same-sides w h s slow ys (March z) xs = refl
-same-sides w h s slow ys (Round tw th m) xs = refl
-same-sides w h s slow ys (Run tw th k z) xs = refl
+same_sides : (w h s : ℕ) (slow : List ℕ) (ys : List Start) (j : Job) (xs : List ℕ) → job_causes (board_of w h 1 [] []) j xs
+    ≡ job_causes (board_of w h s slow ys) j xs
+unfolding job_causes tile_causes order_good tile_count
+same_sides w h s slow ys (March z) xs = refl
+same_sides w h s slow ys (Round tw th m) xs = refl
+same_sides w h s slow ys (Run tw th k z) xs = refl
 
 job-refusal-requires : tie.Need-job-refusal-requires
 job-refusal-requires c κs z = let p = c.before.before.requires (neither _ _ (sym (number_is c.or_else.ensures) ∙ z)).0 in (p.0, p.1)
@@ -32,19 +32,19 @@ lists-refusal-requires c κs z =
     o.before.before.requires (neither _ _ (sym (number_is o.or_else.ensures) ∙ r.0)).0
 
 returns : tie.Need-returns
-unfolding own-refusal call-causes size
+unfolding own_refusal call_causes size
 returns c slow xs p e =
     let j = c.before in
     let a = j.before.before.before.args in
-    let b = board-of a.width a.height a.storeys slow xs in
-    let front = board-causes (handed b p) slow a.own.ticks a.own.kinds in
-    let jobs = job-causes b a.job a.order.now in
-    let lists = list-causes (size b) a.times a.sides a.work a.own in
+    let b = board_of a.width a.height a.storeys slow xs in
+    let front = board_causes (handed b p) slow a.own.ticks a.own.kinds in
+    let jobs = job_causes b a.job a.order.now in
+    let lists = list_causes (size b) a.times a.sides a.work a.own in
     let own = a.own.cell in
-    let same = same-sides a.width a.height a.storeys slow xs a.job a.order.now in
+    let same = same_sides a.width a.height a.storeys slow xs a.job a.order.now in
     rw (c.lists-refusal.ensures, j.job-refusal.ensures, j.before.or_else.ensures, e, same)
-    (or-else-assoc (or_else (first_of front) own) (first_of jobs) (first_of lists)
-    ∙ or-else-assoc (first_of front) own (or_else (first_of jobs) (first_of lists))
+    (or_else_assoc (or_else (first_of front) own) (first_of jobs) (first_of lists)
+    ∙ or_else_assoc (first_of front) own (or_else (first_of jobs) (first_of lists))
     ∙ ap (or_else (first_of front)) (also-found own (jobs ++ lists) (sym (first-append jobs lists)))
     ∙ sym (first-append front (found own ∷ (jobs ++ lists))))
 

@@ -2,22 +2,22 @@
 use mathlib.Core.Path.{◌≡◌, refl, ap, ◌∙◌}
 use borrow.Author.Rules.{rules}
 use Rattle.eikonal.specs.Order.{first_of}
-use Rattle.eikonal.specs.Refusals.{job-causes}
+use Rattle.eikonal.specs.Refusals.{job_causes}
 use Rattle.call_refusals.proofs.job_refusal.Statement.{statement}
 use Rattle.call_refusals.proofs.job_refusal.Tie as tie
 
 march : tie.Need-returns
-unfolding job-causes first_of
+unfolding job_causes first_of
 march c =
     let w = c.before.before in
     rw (w.before.before.before.job.given.1, c.or_else.ensures, c.before.when.ensures, w.cause.ensures, w.before.below.ensures) refl
 
 round : tie.Need-returns-2
-unfolding job-causes
+unfolding job_causes
 round c = rw c.before.before.before.job2.given.1 (rw c.before.below2.ensures at c.tiles-refusal.ensures)
 
 run : tie.Need-returns-3
-unfolding job-causes
+unfolding job_causes
 run c =
     let b = c.before.before in
     rw b.before.before.job3.given.1 (rw (b.below3.ensures, c.before.within.ensures) at c.tiles-refusal2.ensures)

@@ -2,7 +2,7 @@
 use mathlib.Core.Path.{refl}
 use mathlib.Core.List.{[]}
 use native.Mathlib.Omega.{arith}
-use Rattle.eikonal.specs.Refusals.{list-causes}
+use Rattle.eikonal.specs.Refusals.{list_causes}
 use Rattle.eikonal.proofs.Causes.{first, next, nothing-met, also-met, also-found}
 use Rattle.call_refusals.proofs.lists_refusal.Statement.{statement}
 use Rattle.call_refusals.proofs.lists_refusal.Tie as tie
@@ -17,7 +17,7 @@ mul-below : tie.Need-overflow-mul-below
 mul-below c = let e = c.before.before in omega (arith, c.before.house-size.ensures, (e.before.before.requires e.if1.false).2)
 
 returns-2 : tie.Need-returns-2
-unfolding list-causes
+unfolding list_causes
 returns-2 c =
     let o = c.before.before in
     let w = o.before in

@@ -19,7 +19,7 @@ returns-2 : tie.Need-returns-2
 unfolding first_of
 returns-2 c =
     let o = c.before.before in
-    next _ _ _ o.before.if1.false (rw (c.when.ensures, c.before.cause.ensures, o.order-good.ensures) refl)
+    next _ _ _ o.before.if1.false (rw (c.when.ensures, c.before.cause.ensures, o.order_good.ensures) refl)
 
 pub order-refusal-spec : {M : Type 1} → statement M
 order-refusal-spec = tie.close (tie.spec returns order-good-requires (λ c κs. tt) (λ c κs. tt) returns-2)

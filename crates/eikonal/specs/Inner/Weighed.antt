@@ -6,5 +6,5 @@ abbrev pub weighed : (v w d e : ℕ) → ℕ
 weighed v w d e = v * ((d + e) * (d + e)) + w * (e * e)
 
 -- and of three axes of one weight, the others d and f ticks before the last
-abbrev pub three-squares : (d f e : ℕ) → ℕ
-three-squares d f e = (d + e) * (d + e) + (f + e) * (f + e) + e * e
+abbrev pub three_squares : (d f e : ℕ) → ℕ
+three_squares d f e = (d + e) * (d + e) + (f + e) * (f + e) + e * e

@@ -9,10 +9,10 @@ use Prim.Native.Nat.{ℕ, ◌*◌, ◌≤◌}
 use lib.ListN.{length, replicate}
 use borrow.Author.Tests.{eq-eqb, ne_eqb}
 use Rattle.eikonal.specs.Board.{Board, largest, size}
-use Rattle.eikonal.specs.Tiles.{tile-count}
+use Rattle.eikonal.specs.Tiles.{tile_count}
 use Rattle.eikonal.specs.Order.{none, first_of}
-use Rattle.eikonal.specs.Refusals.{Handed, board-causes, order-good, job-causes}
-use Rattle.eikonal.specs.Ledger.{Sheet, sheet, Call, call-board, own-refusal, entered, answer, own-answer, own-times, own-sides, own-work}
+use Rattle.eikonal.specs.Refusals.{Handed, board_causes, order_good, job_causes}
+use Rattle.eikonal.specs.Ledger.{Sheet, sheet, Call, call_board, own_refusal, entered, answer, own_answer, own_times, own_sides, own_work}
 use Rattle.eikonal.specs.Entry.{lent, Counts}
 use Rattle.eikonal.specs.declared.Refusal.{Refusal}
 use Rattle.eikonal.specs.declared.Own.{Own}
@@ -20,9 +20,9 @@ use Rattle.eikonal.specs.declared.Reply.{Reply}
 use Rattle.eikonal.specs.declared.Job.{Job}
 use Rattle.eikonal.specs.declared.Job.TheVariants.{March, Round, Run}
 use Rattle.eikonal.specs.declared.Start.{Start}
-use Rattle.eikonal.proofs.Causes.{None-met, none-met, number_is}
+use Rattle.eikonal.proofs.Causes.{NoneMet, none-met, number_is}
 use Rattle.eikonal.proofs.Good.{size-most, passes}
-use Rattle.eikonal.proofs.Accepted.{Fits, fits, march-can, round-can, run-can}
+use Rattle.eikonal.proofs.Accepted.{Fits, fits, march_can, round-can, run-can}
 use Rattle.eikonal.proofs.Answers.{answered-zero, answered-refused}
 use Rattle.front.specs.State.{Begun}
 use Rattle.front.specs.declared.Shape.{Shape}
@@ -36,22 +36,22 @@ use Rattle.engine.proofs.Theory.Calls.{drop-same}
 
 -- ---- an accepted job can be done in its shape, whose tiles have good sides
 module _ (b : Board) (xs : List ℕ) (wide : b.wide ≤ 256) (high : b.high ≤ 256) where
-  doable : (j : Job) → None-met (job-causes b j xs) → Doable j (shaped b.wide b.high b.storeys j) xs
-  unfolding Doable order-good tile-count
-  doable (March z) e = (wide, high, march-can b xs z e)
+  doable : (j : Job) → NoneMet (job_causes b j xs) → Doable j (shaped b.wide b.high b.storeys j) xs
+  unfolding Doable order_good tile_count
+  doable (March z) e = (wide, high, march_can b xs z e)
   doable (Round tw th m) e = let r = round-can b xs tw th m e in (refl, refl, r.0, r.1.ordered)
   doable (Run tw th d z) e = let r = run-can b xs tw th d z e in (refl, refl, r.1, r.2, r.0)
 
-  bound-low : (j : Job) → None-met (job-causes b j xs) → bound_of j ≤ largest
-  bound-low (March z) e = march-can b xs z e
-  bound-low (Round tw th m) e = (round-can b xs tw th m e).0
-  bound-low (Run tw th d z) e = (run-can b xs tw th d z e).0
+  bound_low : (j : Job) → NoneMet (job_causes b j xs) → bound_of j ≤ largest
+  bound_low (March z) e = march_can b xs z e
+  bound_low (Round tw th m) e = (round-can b xs tw th m e).0
+  bound_low (Run tw th d z) e = (run-can b xs tw th d z e).0
 
-  tiles-sided : (j : Job) → None-met (job-causes b j xs) → (s : Shape) → s ≡ shaped b.wide b.high b.storeys j
+  tiles-sided : (j : Job) → NoneMet (job_causes b j xs) → (s : Shape) → s ≡ shaped b.wide b.high b.storeys j
       → (1 ≤ s.across) × (s.across ≤ 256) × (1 ≤ s.down) × (s.down ≤ 256)
   tiles-sided (March z) e s is = rw is (omega arith, omega arith, omega arith, omega arith)
-  tiles-sided (Round tw th m) e s is = let r = (round-can b xs tw th m e).1 in rw is (r.across-low, r.across-high, r.down-low, r.down-high)
-  tiles-sided (Run tw th d z) e s is = let r = (run-can b xs tw th d z e).3 in rw is (r.across-low, r.across-high, r.down-low, r.down-high)
+  tiles-sided (Round tw th m) e s is = let r = (round-can b xs tw th m e).1 in rw is (r.across_low, r.across_high, r.down_low, r.down_high)
+  tiles-sided (Run tw th d z) e s is = let r = (run-can b xs tw th d z e).3 in rw is (r.across_low, r.across_high, r.down_low, r.down_high)
 
 -- the board is in its shape
 record In-shape (b : Board) (s : Shape) : Type 0 where
@@ -61,34 +61,34 @@ record In-shape (b : Board) (s : Shape) : Type 0 where
   whole : s.cells ≡ s.width * s.height * s.storeys
   cells : s.cells ≡ size b
 
-in-shape : (b : Board) (j : Job) (s : Shape) → s ≡ shaped b.wide b.high b.storeys j → In-shape b s
+in_shape : (b : Board) (j : Job) (s : Shape) → s ≡ shaped b.wide b.high b.storeys j → In-shape b s
 unfolding size
-in-shape b (March z) s is = rw is (record { wide = refl; high = refl; storeys = refl; whole = refl; cells = refl })
-in-shape b (Round tw th m) s is = rw is (record { wide = refl; high = refl; storeys = refl; whole = refl; cells = refl })
-in-shape b (Run tw th d z) s is = rw is (record { wide = refl; high = refl; storeys = refl; whole = refl; cells = refl })
+in_shape b (March z) s is = rw is (record { wide = refl; high = refl; storeys = refl; whole = refl; cells = refl })
+in_shape b (Round tw th m) s is = rw is (record { wide = refl; high = refl; storeys = refl; whole = refl; cells = refl })
+in_shape b (Run tw th d z) s is = rw is (record { wide = refl; high = refl; storeys = refl; whole = refl; cells = refl })
 
 -- ---- what a call that is not refused gives its beginning: sides that fit, and room
-pub sides-fit : (p : Handed) (u v r : Refusal) → r ≡ first_of (board-causes p p.board.slow u v) → r.number ≡ 0
+pub sides_fit : (p : Handed) (u v r : Refusal) → r ≡ first_of (board_causes p p.board.slow u v) → r.number ≡ 0
     → (p.board.wide ≤ 256) × (p.board.high ≤ 256) × (p.board.wide * p.board.high * p.board.storeys ≤ 65536)
 unfolding size
-sides-fit p u v r e z = let g = (passes p u v (none-met _ (sym (number_is e) ∙ z))).good in (g.wide_high, g.high-high, g.few)
+sides_fit p u v r e z = let g = (passes p u v (none-met _ (sym (number_is e) ∙ z))).good in (g.wide_high, g.high_high, g.few)
 
-module _ (c : Call) (o : Own) (t : ℕ) (r : Refusal) (e : r ≡ own-refusal c o t) (z : r.number ≡ 0) where
+module _ (c : Call) (o : Own) (t : ℕ) (r : Refusal) (e : r ≡ own_refusal c o t) (z : r.number ≡ 0) where
   fine : Fits c t
   fine = fits c o t (sym (number_is e) ∙ z)
 
-  pub board-sides : ((call-board c).wide ≤ 256) × ((call-board c).high ≤ 256) × ((call-board c).wide * (call-board c).high * (call-board c).storeys ≤ 65536)
+  pub board-sides : ((call_board c).wide ≤ 256) × ((call_board c).high ≤ 256) × ((call_board c).wide * (call_board c).high * (call_board c).storeys ≤ 65536)
   unfolding size
-  board-sides = let g = fine.given.good in (g.wide_high, g.high-high, g.few)
+  board-sides = let g = fine.given.good in (g.wide_high, g.high_high, g.few)
 
-  pub board-room : (s : Shape) → s ≡ shaped (call-board c).wide (call-board c).high (call-board c).storeys c.job
+  pub board-room : (s : Shape) → s ≡ shaped (call_board c).wide (call_board c).high (call_board c).storeys c.job
       → (s.cells ≤ 65536) × (4 * s.cells ≤ c.work)
-  board-room s is = rw (in-shape (call-board c) c.job s is).cells (fine.given.good.few, fine.work-fits)
+  board-room s is = rw (in_shape (call_board c) c.job s is).cells (fine.given.good.few, fine.work_fits)
 
 -- what is kept of the work list is kept from before the starts were placed
-through-from : {b : Board} {j : Job} {ts : List ℕ} {n r : ℕ} {xs : List Start} {p : Sheet} {v v' w : List ℕ} → Begun n xs v v' → Through b j ts n r p v' w
+through_from : {b : Board} {j : Job} {ts : List ℕ} {n r : ℕ} {xs : List Start} {p : Sheet} {v v' w : List ℕ} → Begun n xs v v' → Through b j ts n r p v' w
     → Through b j ts n r p v w
-through-from {n = n} {v = v} {v' = v'} be th = record {
+through_from {n = n} {v = v} {v' = v'} be th = record {
   counts = th.counts;
   enters = th.enters;
   timed = th.timed;
@@ -101,7 +101,7 @@ through-from {n = n} {v = v} {v' = v'} be th = record {
 module _ (c : Call) (o : Own) (t : Task) (ts ss v v0 : List ℕ) (broad : c.sides ≡ length ss) (same : c.work ≡ length v)
     (op : Opened c o (length ts) t v v0) where
   abbrev refused : Refusal
-  refused = own-refusal c o (length ts)
+  refused = own_refusal c o (length ts)
 
   not-refused : t.refusal.number ≡ 0 → refused.number ≡ 0
   not-refused z = sym (number_is op.judged) ∙ z
@@ -109,75 +109,75 @@ module _ (c : Call) (o : Own) (t : Task) (ts ss v v0 : List ℕ) (broad : c.side
   fit : t.refusal.number ≡ 0 → Fits c (length ts)
   fit z = fits c o (length ts) (not-refused z)
 
-  cells_are : t.refusal.number ≡ 0 → t.shape.cells ≡ size (call-board c)
-  cells_are z = (in-shape (call-board c) c.job t.shape (op.shape_is z)).cells
+  cells_are : t.refusal.number ≡ 0 → t.shape.cells ≡ size (call_board c)
+  cells_are z = (in_shape (call_board c) c.job t.shape (op.shape_is z)).cells
 
   -- plain lists of its starts are of one length
   pub even : t.refusal.number ≡ 0 → c.handed.paired ≡ true
   even z = (fit z).given.paired
 
   -- its starts can be placed
-  pub sowable : Sowable t (call-board c).starts v0
+  pub sowable : Sowable t (call_board c).starts v0
   sowable z = (rw (cells_are z) (size-most (fit z).given.good), (op.emptied z).placed, rw (cells_are z) (fit z).given.starts.rise)
 
-  module _ (v1 : List ℕ) (so : Sown t (call-board c).starts v0 v1) where
-    stands : t.refusal.number ≡ 0 → Begun t.shape.cells (call-board c).starts v v1
-    stands z = begun t.shape.cells (call-board c).starts v v0 v1 (sowable z).2 (fit z).given.starts.early (op.emptied z) (so.sown z)
+  module _ (v1 : List ℕ) (so : Sown t (call_board c).starts v0 v1) where
+    stands : t.refusal.number ≡ 0 → Begun t.shape.cells (call_board c).starts v v1
+    stands z = begun t.shape.cells (call_board c).starts v v0 v1 (sowable z).2 (fit z).given.starts.early (op.emptied z) (so.sown z)
 
-    fitting : (z : t.refusal.number ≡ 0) → Fit t.shape (call-board c).slow (call-board c).starts ts ss v1
+    fitting : (z : t.refusal.number ≡ 0) → Fit t.shape (call_board c).slow (call_board c).starts ts ss v1
     unfolding size
     fitting z =
-        let b = call-board c in
-        let i = in-shape b c.job t.shape (op.shape_is z) in
+        let b = call_board c in
+        let i = in_shape b c.job t.shape (op.shape_is z) in
         let g = (fit z).given.good in
-        let d = tiles-sided b c.order g.wide_high g.high-high c.job (fit z).can t.shape (op.shape_is z) in
+        let d = tiles-sided b c.order g.wide_high g.high_high c.job (fit z).can t.shape (op.shape_is z) in
         record {
           good = rw (i.wide, i.high, i.storeys) g;
           size = i.whole;
-          across-low = d.0;
-          across-high = d.1;
-          down-low = d.2;
-          down-high = d.3;
-          many = (fit z).times-fit ∙ sym i.cells;
-          sided = sym broad ∙ (fit z).sides-fit ∙ sym i.cells;
-          room = omega (arith, (fit z).work-fits, i.cells, (stands z).long, same);
+          across_low = d.0;
+          across_high = d.1;
+          down_low = d.2;
+          down_high = d.3;
+          many = (fit z).times_fit ∙ sym i.cells;
+          sided = sym broad ∙ (fit z).sides_fit ∙ sym i.cells;
+          room = omega (arith, (fit z).work_fits, i.cells, (stands z).long, same);
         }
 
     -- the job can be done
-    pub endable : Endable t c.job (call-board c).slow c.order ts ss v1
+    pub endable : Endable t c.job (call_board c).slow c.order ts ss v1
     endable z =
         let g = (fit z).given.good in (
-          record { starts = (call-board c).starts; fit = fitting z; stands = (stands z).stands },
+          record { starts = (call_board c).starts; fit = fitting z; stands = (stands z).stands },
           subst (λ (s : Shape). Doable c.job s c.order) (sym (op.shape_is z))
-              (doable (call-board c) c.order g.wide_high g.high-high c.job (fit z).can),
+              (doable (call_board c) c.order g.wide_high g.high_high c.job (fit z).can),
         )
 
-    module _ (x : Reply) (us qs u : List ℕ) (en : Ended t c.job (call-board c).slow x (sheet ts ss) (sheet us qs) v1 u) where
+    module _ (x : Reply) (us qs u : List ℕ) (en : Ended t c.job (call_board c).slow x (sheet ts ss) (sheet us qs) v1 u) where
       -- once it is
-      through : (z : t.refusal.number ≡ 0) → Through (call-board c) c.job ts (size (call-board c)) x.count (sheet us qs) v u
+      through : (z : t.refusal.number ≡ 0) → Through (call_board c) c.job ts (size (call_board c)) x.count (sheet us qs) v u
       through z =
-          let b = call-board c in
-          let i = in-shape b c.job t.shape (op.shape_is z) in
+          let b = call_board c in
+          let i = in_shape b c.job t.shape (op.shape_is z) in
           let is : whole t.shape b.slow b.starts ≡ b = rw (i.wide, i.high, i.storeys) refl in
-          rw (is, i.cells) at (through-from (stands z) ((en.gone-through z).1 b.starts (fitting z) (stands z).stands))
+          rw (is, i.cells) at (through_from (stands z) ((en.gone_through z).1 b.starts (fitting z) (stands z).stands))
 
       -- the starts' sides can be cleared
-      pub clearable : Clearable t (call-board c).starts us qs
+      pub clearable : Clearable t (call_board c).starts us qs
       clearable z =
           let th = through z in
           let g = (fit z).given in
           (th.sided ∙ sym th.timed, rw th.timed (size-most g.good), rw th.timed g.starts.rise)
 
       -- and when they are, the call has kept its contract
-      pub says : (ps : List ℕ) → Clear t (call-board c).starts us qs ps → Counts c o x (lent ts ss v) (lent us ps u)
-      unfolding own-answer own-times own-sides own-work
+      pub says : (ps : List ℕ) → Clear t (call_board c).starts us qs ps → Counts c o x (lent ts ss v) (lent us ps u)
+      unfolding own_answer own_times own_sides own_work
       says ps cl = elim (ℕ_discrete t.refusal.number 0) [
         | yes z ↦
             let k = not-refused z in
             let th = through z in
             record {
-              answers = (en.gone-through z).0 ∙ ap (answer none) th.counts ∙ sym (answered-zero refused _ k);
-              leaves = entered-now z ps (cl.cleared z) ∙ rw (eq-eqb refused.number 0 k) refl;
+              answers = (en.gone_through z).0 ∙ ap (answer none) th.counts ∙ sym (answered-zero refused _ k);
+              leaves = entered_now z ps (cl.cleared z) ∙ rw (eq-eqb refused.number 0 k) refl;
               works = th.wipes ∙ rw (eq-eqb refused.number 0 k);
             }
         | no d ↦
@@ -190,10 +190,10 @@ module _ (c : Call) (o : Own) (t : Task) (ts ss v v0 : List ℕ) (broad : c.side
             }
       ]
         where
-          entered-now : t.refusal.number ≡ 0 → (ps : List ℕ) → Cleared (call-board c).starts us qs ps → sheet us ps ≡ entered (call-board c) c.job ts
-          entered-now z ps cl =
+          entered_now : t.refusal.number ≡ 0 → (ps : List ℕ) → Cleared (call_board c).starts us qs ps → sheet us ps ≡ entered (call_board c) c.job ts
+          entered_now z ps cl =
               let th = through z in
               let g = (fit z).given in
-              let low = bound-low (call-board c) c.order g.good.wide_high g.good.high-high c.job (fit z).can in
+              let low = bound_low (call_board c) c.order g.good.wide_high g.good.high_high c.job (fit z).can in
               let now = cleared-sides g.good ts c.job low g.starts.rise th.enters th.timed th.sided th.sides cl in
               λ i. sheet (th.enters i) (now i)

@@ -3,25 +3,25 @@
 use Rattle.std.proofs.Common.{◌≡◌, ℕ, zero, suc, ◌<◌, ◌≤◌, min, Bool, true, false, cond, ◌||◌, eqb, ltb, ◌≢◌, List, sym, refl, ap, ◌∙◌, subst, arith, ltb-false, ltb-true, le-ltb, eq-eqb, ne_eqb}
 use native.Mathlib.Decide.{ℕ_discrete}
 use Rattle.eikonal.specs.Board.{Board, never, largest, size, slowness, time}
-use Rattle.eikonal.specs.Tiles.{tile-of, counts-as}
+use Rattle.eikonal.specs.Tiles.{tile_of, counts_as}
 use Rattle.eikonal.specs.Promise.{Neighbour}
 use Rattle.eikonal.specs.Inner.Good.{Good}
 use Rattle.front.specs.Front.{ghosted, gives, heard, Settled, Midway, Upheld}
 use Rattle.front.proofs.Theory.Sight.{gives-mono, gives-causal, gives_same}
-use Rattle.front.specs.Board.{rule-by}
+use Rattle.front.specs.Board.{rule_by}
 
 -- what a stored time counts as
-unfoldable ghost-of : Board → (e t : ℕ) → ℕ
-ghost-of b e t = cond (eqb (slowness b e) 0 || ltb largest t) never t
+unfoldable ghost_of : Board → (e t : ℕ) → ℕ
+ghost_of b e t = cond (eqb (slowness b e) 0 || ltb largest t) never t
 
-ghost-is : (b : Board) (ts : List ℕ) (e : ℕ) → counts-as b ts e ≡ ghost-of b e (time ts e)
-unfolding counts-as ghost-of
+ghost-is : (b : Board) (ts : List ℕ) (e : ℕ) → counts_as b ts e ≡ ghost_of b e (time ts e)
+unfolding counts_as ghost_of
 ghost-is b ts e = refl
 
 -- a stored time that falls: its ghost falls, and agrees up to the new time
-ghost-falls : (b : Board) (e t u : ℕ) → t ≤ u → ghost-of b e t ≤ ghost-of b e u
-unfolding ghost-of
-ghost-falls b e t u l = go (eqb (slowness b e) 0) (ltb largest t) refl (ltb largest u) refl
+ghost_falls : (b : Board) (e t u : ℕ) → t ≤ u → ghost_of b e t ≤ ghost_of b e u
+unfolding ghost_of
+ghost_falls b e t u l = go (eqb (slowness b e) 0) (ltb largest t) refl (ltb largest u) refl
   where
     go : (p q : Bool) → ltb largest t ≡ q → (r : Bool) → ltb largest u ≡ r → cond (p || q) never t ≤ cond (p || r) never u
     go true q f r h = omega arith
@@ -30,9 +30,9 @@ ghost-falls b e t u l = go (eqb (slowness b e) 0) (ltb largest t) refl (ltb larg
     go false false f true h = omega (arith, ltb-false largest t f)
     go false false f false h = l
 
-ghost-agrees : (b : Board) (e t u : ℕ) → t ≤ u → t ≤ largest → min t (ghost-of b e u) ≡ min t (ghost-of b e t)
-unfolding ghost-of
-ghost-agrees b e t u l m = rw (le-ltb largest t m) (go (eqb (slowness b e) 0) (ltb largest u))
+ghost_agrees : (b : Board) (e t u : ℕ) → t ≤ u → t ≤ largest → min t (ghost_of b e u) ≡ min t (ghost_of b e t)
+unfolding ghost_of
+ghost_agrees b e t u l m = rw (le-ltb largest t m) (go (eqb (slowness b e) 0) (ltb largest u))
   where
     go : (p q : Bool) → min t (cond (p || q) never u) ≡ min t (cond (p || false) never t)
     go true q = refl
@@ -40,21 +40,21 @@ ghost-agrees b e t u l m = rw (le-ltb largest t m) (go (eqb (slowness b e) 0) (l
     go false false = omega arith
 
 -- d does not see c as a ghost
-abbrev pub No-ghost : Board → (tw th c d : ℕ) → Type 0
-No-ghost b tw th c d = Neighbour b d c → tile-of b tw th d ≡ tile-of b tw th c
+abbrev pub NoGhost : Board → (tw th c d : ℕ) → Type 0
+NoGhost b tw th c d = Neighbour b d c → tile_of b tw th d ≡ tile_of b tw th c
 
 -- ---- stored times of which the first i noted ones are new
-unfoldable pub part-new : Board → (ts us : List ℕ) → (note : ℕ → ℕ) → (i d e : ℕ) → ℕ
-part-new b ts us note zero d e = counts-as b ts e
-part-new b ts us note (suc i) d e = cond (eqb e (note i)) (counts-as b us e) (part-new b ts us note i d e)
+unfoldable pub part_new : Board → (ts us : List ℕ) → (note : ℕ → ℕ) → (i d e : ℕ) → ℕ
+part_new b ts us note zero d e = counts_as b ts e
+part_new b ts us note (suc i) d e = cond (eqb e (note i)) (counts_as b us e) (part_new b ts us note i d e)
 
 module _ (b : Board) (ts us : List ℕ) (note : ℕ → ℕ) where
   data Part (i d e : ℕ) : Type 0 where
-    fresh : part-new b ts us note i d e ≡ counts-as b us e → Part i d e
-    stale : part-new b ts us note i d e ≡ counts-as b ts e → ((j : ℕ) → j < i → note j ≢ e) → Part i d e
+    fresh : part_new b ts us note i d e ≡ counts_as b us e → Part i d e
+    stale : part_new b ts us note i d e ≡ counts_as b ts e → ((j : ℕ) → j < i → note j ≢ e) → Part i d e
 
   part : (i d e : ℕ) → Part i d e
-  unfolding part-new
+  unfolding part_new
   part zero d e = stale refl (λ j l. absurd (omega arith))
   part (suc i) d e = elim (ℕ_discrete e (note i)) [
     | yes q ↦ fresh (rw (eq-eqb e (note i) q))
@@ -68,7 +68,7 @@ module _ (b : Board) (ts us : List ℕ) (note : ℕ → ℕ) where
 module _ {b : Board} (good : Good b) (tw th : ℕ) where
   -- ONE NOTED CELL: its ghost falls to t. Cells that are apart from it keep what they have, the others keep it up to t
   announced : (g g' : ℕ → ℕ → ℕ) (c t : ℕ) (y k : ℕ → ℕ) → t < never → ((d e : ℕ) → e ≢ c → g' d e ≡ g d e)
-      → ((d : ℕ) → min t (g d c) ≡ min t (g' d c)) → Settled (size b) (gives b tw th g) y k → Midway (size b) (gives b tw th g') t (No-ghost b tw th c) y k
+      → ((d : ℕ) → min t (g d c) ≡ min t (g' d c)) → Settled (size b) (gives b tw th g) y k → Midway (size b) (gives b tw th g') t (NoGhost b tw th c) y k
   announced g g' c t y k i same low se = record {
     weak = λ d l. omega (arith, se d l, gives-causal good tw th g g' t d i l (heard y k) (heard y k) (λ e m. refl) (λ e m. agree d e));
     settled = λ d l a. subst (λ u. y d ≤ u) (gives_same good tw th g g' d l (heard y k) (heard y k) (λ e m n. alike d e n a)) (se d l);
@@ -80,13 +80,13 @@ module _ {b : Board} (good : Good b) (tw th : ℕ) where
         | no q ↦ ap (min t) (sym (same d e q))
       ]
 
-      own : (d e : ℕ) → tile-of b tw th d ≡ tile-of b tw th e → ghosted b tw th g (heard y k) d e ≡ ghosted b tw th g' (heard y k) d e
-      own d e q = rw (eq-eqb (tile-of b tw th d) (tile-of b tw th e) q)
+      own : (d e : ℕ) → tile_of b tw th d ≡ tile_of b tw th e → ghosted b tw th g (heard y k) d e ≡ ghosted b tw th g' (heard y k) d e
+      own d e q = rw (eq-eqb (tile_of b tw th d) (tile_of b tw th e) q)
 
-      alike : (d e : ℕ) → Neighbour b d e → No-ghost b tw th c d → ghosted b tw th g (heard y k) d e ≡ ghosted b tw th g' (heard y k) d e
+      alike : (d e : ℕ) → Neighbour b d e → NoGhost b tw th c d → ghosted b tw th g (heard y k) d e ≡ ghosted b tw th g' (heard y k) d e
       alike d e n a = elim (ℕ_discrete e c) [
-        | yes q ↦ own d e (a (subst (λ u. Neighbour b d u) q n) ∙ ap (tile-of b tw th) (sym q))
-        | no q ↦ ap (cond (eqb (tile-of b tw th d) (tile-of b tw th e)) (heard y k e)) (sym (same d e q))
+        | yes q ↦ own d e (a (subst (λ u. Neighbour b d u) q n) ∙ ap (tile_of b tw th) (sym q))
+        | no q ↦ ap (cond (eqb (tile_of b tw th d) (tile_of b tw th e)) (heard y k e)) (sym (same d e q))
       ]
 
   -- ---- all noted cells in turn
@@ -95,55 +95,55 @@ module _ {b : Board} (good : Good b) (tw th : ℕ) where
       (new : (i : ℕ) → i < m → time us (note i) ≤ largest)
       (old : (c : ℕ) → c < size b → ((i : ℕ) → i < m → note i ≢ c) → time us c ≡ time ts c) where
     -- none is earlier than the new one
-    part_falls : (i d e : ℕ) → e < size b → counts-as b us e ≤ part-new b ts us note i d e
+    part_falls : (i d e : ℕ) → e < size b → counts_as b us e ≤ part_new b ts us note i d e
     part_falls i d e l = go (part b ts us note i d e)
       where
-        go : Part b ts us note i d e → counts-as b us e ≤ part-new b ts us note i d e
+        go : Part b ts us note i d e → counts_as b us e ≤ part_new b ts us note i d e
         go (fresh p) = omega arith
-        go (stale p f) = omega (arith, ghost-falls b e (time us e) (time ts e) (falls e l), ghost-is b us e, ghost-is b ts e)
+        go (stale p f) = omega (arith, ghost_falls b e (time us e) (time ts e) (falls e l), ghost-is b us e, ghost-is b ts e)
 
     -- so the rule with all new times gives no later ones
-    pub new_under : (i c : ℕ) → c < size b → (f : ℕ → ℕ) → rule-by b tw th us c f ≤ gives b tw th (part-new b ts us note i) c f
-    new_under i c l f = gives-mono good tw th (λ d e. counts-as b us e) (part-new b ts us note i) c l f f (λ e m. omega arith) (λ e m. part_falls i c e m)
+    pub new_under : (i c : ℕ) → c < size b → (f : ℕ → ℕ) → rule_by b tw th us c f ≤ gives b tw th (part_new b ts us note i) c f
+    new_under i c l f = gives-mono good tw th (λ d e. counts_as b us e) (part_new b ts us note i) c l f f (λ e m. omega arith) (λ e m. part_falls i c e m)
 
     -- the next noted cell is announced
-    pub announce-next : (i : ℕ) → i < m → note i < size b → (y k : ℕ → ℕ) → Settled (size b) (gives b tw th (part-new b ts us note i)) y k
-        → Midway (size b) (gives b tw th (part-new b ts us note (suc i))) (time us (note i)) (No-ghost b tw th (note i)) y k
-    unfolding part-new
-    announce-next i l on y k se =
-        announced (part-new b ts us note i) (part-new b ts us note (suc i)) (note i) (time us (note i)) y k (omega (arith, new i l))
+    pub announce_next : (i : ℕ) → i < m → note i < size b → (y k : ℕ → ℕ) → Settled (size b) (gives b tw th (part_new b ts us note i)) y k
+        → Midway (size b) (gives b tw th (part_new b ts us note (suc i))) (time us (note i)) (NoGhost b tw th (note i)) y k
+    unfolding part_new
+    announce_next i l on y k se =
+        announced (part_new b ts us note i) (part_new b ts us note (suc i)) (note i) (time us (note i)) y k (omega (arith, new i l))
         (λ d e q. rw (ne_eqb e (note i) q)) low se
       where
-        now-new : (d : ℕ) → part-new b ts us note (suc i) d (note i) ≡ counts-as b us (note i)
-        now-new d = rw (eq-eqb (note i) (note i) refl)
+        now_new : (d : ℕ) → part_new b ts us note (suc i) d (note i) ≡ counts_as b us (note i)
+        now_new d = rw (eq-eqb (note i) (note i) refl)
 
-        low : (d : ℕ) → min (time us (note i)) (part-new b ts us note i d (note i)) ≡ min (time us (note i)) (part-new b ts us note (suc i) d (note i))
-        low d = rw (now-new d) (go (part b ts us note i d (note i)))
+        low : (d : ℕ) → min (time us (note i)) (part_new b ts us note i d (note i)) ≡ min (time us (note i)) (part_new b ts us note (suc i) d (note i))
+        low d = rw (now_new d) (go (part b ts us note i d (note i)))
           where
-            go : Part b ts us note i d (note i) → min (time us (note i)) (part-new b ts us note i d (note i)) ≡ min (time us (note i)) (counts-as b us (note i))
+            go : Part b ts us note i d (note i) → min (time us (note i)) (part_new b ts us note i d (note i)) ≡ min (time us (note i)) (counts_as b us (note i))
             go (fresh p) = ap (min (time us (note i))) p
             go (stale p f) =
                 ap (min (time us (note i))) (p ∙ ghost-is b ts (note i))
-                ∙ ghost-agrees b (note i) (time us (note i)) (time ts (note i)) (falls (note i) on) (new i l)
+                ∙ ghost_agrees b (note i) (time us (note i)) (time ts (note i)) (falls (note i) on) (new i l)
                 ∙ ap (min (time us (note i))) (sym (ghost-is b us (note i)))
 
     -- at the end all are
-    pub all_new : (y k : ℕ → ℕ) → Settled (size b) (gives b tw th (part-new b ts us note m)) y k → Settled (size b) (rule-by b tw th us) y k
+    pub all_new : (y k : ℕ → ℕ) → Settled (size b) (gives b tw th (part_new b ts us note m)) y k → Settled (size b) (rule_by b tw th us) y k
     all_new y k se c l =
         subst (λ u. y c ≤ u)
-        (gives_same good tw th (part-new b ts us note m) (λ d e. counts-as b us e) c l (heard y k) (heard y k)
-        (λ e on n. ap (cond (eqb (tile-of b tw th c) (tile-of b tw th e)) (heard y k e)) (same e on (part b ts us note m c e))))
+        (gives_same good tw th (part_new b ts us note m) (λ d e. counts_as b us e) c l (heard y k) (heard y k)
+        (λ e on n. ap (cond (eqb (tile_of b tw th c) (tile_of b tw th e)) (heard y k e)) (same e on (part b ts us note m c e))))
         (se c l)
       where
-        same : (e : ℕ) → e < size b → Part b ts us note m c e → part-new b ts us note m c e ≡ counts-as b us e
+        same : (e : ℕ) → e < size b → Part b ts us note m c e → part_new b ts us note m c e ≡ counts_as b us e
         same e on (fresh p) = p
-        same e on (stale p f) = p ∙ ghost-is b ts e ∙ ap (ghost-of b e) (sym (old e on f)) ∙ sym (ghost-is b us e)
+        same e on (stale p f) = p ∙ ghost-is b ts e ∙ ap (ghost_of b e) (sym (old e on f)) ∙ sym (ghost-is b us e)
 
     -- at the beginning none is
-    pub none-new : (y k : ℕ → ℕ) → Settled (size b) (rule-by b tw th ts) y k → Settled (size b) (gives b tw th (part-new b ts us note 0)) y k
-    unfolding part-new
+    pub none-new : (y k : ℕ → ℕ) → Settled (size b) (rule_by b tw th ts) y k → Settled (size b) (gives b tw th (part_new b ts us note 0)) y k
+    unfolding part_new
     none-new y k se = se
 
-    pub upheld-new : (start y : ℕ → ℕ) → Upheld (size b) (rule-by b tw th ts) start y → Upheld (size b) (rule-by b tw th us) start y
-    unfolding part-new
+    pub upheld-new : (start y : ℕ → ℕ) → Upheld (size b) (rule_by b tw th ts) start y → Upheld (size b) (rule_by b tw th us) start y
+    unfolding part_new
     upheld-new start y up = record { started = up.started; upper = λ c l. omega (arith, up.upper c l, new_under 0 c l y) }

@@ -3,7 +3,7 @@ use Rattle.std.proofs.Common.{◌≡◌, ℕ, zero, suc, ◌-◌, ◌<◌, ◌�
 use native.Mathlib.Decide.{ℕ_discrete}
 use Rattle.eikonal.specs.Board.{never}
 use Rattle.front.specs.Front.{heard, Tied, Drop, total, Taken, Drift, Written}
-use Rattle.front.proofs.Theory.Front.{times-fall}
+use Rattle.front.proofs.Theory.Front.{times_fall}
 
 -- ---- sums that differ at one cell, or nowhere
 pub total-same : (n : ℕ) (f g : ℕ → ℕ) → ((c : ℕ) → c < n → f c ≡ g c) → total n f ≡ total n g
@@ -114,9 +114,9 @@ module _ {n : ℕ} {stored y k : ℕ → ℕ} {t m : ℕ} {note : ℕ → ℕ} (
       | no q ↦ ⊎_elim (λ z. absurd (q z)) (λ z. omega (arith, ti.small e dp.cell)) (ti.tied e dp.cell)
     ]
 
-    pub drift-dropped : Drift n stored y' k' t m note
-    drift-dropped = record {
-      low = λ d j. omega (arith, dr.low d j, times-fall dp d j);
+    pub drift_dropped : Drift n stored y' k' t m note
+    drift_dropped = record {
+      low = λ d j. omega (arith, dr.low d j, times_fall dp d j);
       waits = λ d j h. elim (ℕ_discrete d e) [
         | yes q ↦ subst (λ u. y' u < stored u) (sym q) (omega (arith, dp.time, dp.low, dr.low e dp.cell))
         | no q ↦ omega (arith, dp.times d j q, dr.waits d j (omega (arith, dp.keys d j q)))

@@ -12,17 +12,17 @@ pub record Lawful (n : ℕ) (L : ℕ → (ℕ → ℕ) → ℕ) : Type 0 where
   pub causal : (t c : ℕ) → t < never → c < n → (f g : ℕ → ℕ) → ((e : ℕ) → e < n → min t (f e) ≡ min t (g e)) → min (suc t) (L c f) ≡ min (suc t) (L c g)
 
 -- ---- sums
-total-le : (n : ℕ) (f g : ℕ → ℕ) → ((c : ℕ) → c < n → f c ≤ g c) → total n f ≤ total n g
+total_le : (n : ℕ) (f g : ℕ → ℕ) → ((c : ℕ) → c < n → f c ≤ g c) → total n f ≤ total n g
 unfolding total
-total-le zero f g h = omega arith
-total-le (suc n) f g h = omega (arith, h n (omega arith), total-le n f g (λ c l. h c (omega arith)))
+total_le zero f g h = omega arith
+total_le (suc n) f g h = omega (arith, h n (omega arith), total_le n f g (λ c l. h c (omega arith)))
 
-pub total-lt : (n c : ℕ) (f g : ℕ → ℕ) → c < n → f c < g c → ((d : ℕ) → d < n → f d ≤ g d) → total n f < total n g
+pub total_lt : (n c : ℕ) (f g : ℕ → ℕ) → c < n → f c < g c → ((d : ℕ) → d < n → f d ≤ g d) → total n f < total n g
 unfolding total
-total-lt zero c f g l s h = absurd (omega arith)
-total-lt (suc n) c f g l s h = elim (ℕ_discrete c n) [
-  | yes q ↦ (let r : f n < g n = subst (λ u. f u < g u) q s in omega (arith, total-le n f g (λ d m. h d (omega arith))))
-  | no q ↦ omega (arith, h n (omega arith), total-lt n c f g (omega arith) s (λ d m. h d (omega arith)))
+total_lt zero c f g l s h = absurd (omega arith)
+total_lt (suc n) c f g l s h = elim (ℕ_discrete c n) [
+  | yes q ↦ (let r : f n < g n = subst (λ u. f u < g u) q s in omega (arith, total_le n f g (λ d m. h d (omega arith))))
+  | no q ↦ omega (arith, h n (omega arith), total_lt n c f g (omega arith) s (λ d m. h d (omega arith)))
 ]
 
 -- a pending cell is not heard, and what is heard is no earlier than the time
@@ -30,8 +30,8 @@ heard-most : {n : ℕ} {y k : ℕ → ℕ} → Tied n y k → (e : ℕ) → e < 
 heard-most ti e l = ⊎_elim (λ p. omega (arith, ti.small e l)) (λ p. omega (arith, ti.small e l)) (ti.tied e l)
 
 module _ {n e x : ℕ} {y k y' k' : ℕ → ℕ} where
-  pub times-fall : Drop n e x y k y' k' → (d : ℕ) → d < n → y' d ≤ y d
-  times-fall dr d m = elim (ℕ_discrete d e) [
+  pub times_fall : Drop n e x y k y' k' → (d : ℕ) → d < n → y' d ≤ y d
+  times_fall dr d m = elim (ℕ_discrete d e) [
     | yes q ↦ subst (λ u. y' u ≤ y u) (sym q) (omega arith)
     | no q ↦ omega (arith, dr.times d m q)
   ]
@@ -44,7 +44,7 @@ module _ {n e x : ℕ} {y k y' k' : ℕ → ℕ} where
 
   pub drop-tied : Tied n y k → Drop n e x y k y' k' → Tied n y' k'
   drop-tied ti dr = record {
-    small = λ d m. omega (arith, times-fall dr d m, ti.small d m);
+    small = λ d m. omega (arith, times_fall dr d m, ti.small d m);
     tied = λ d m. elim (ℕ_discrete d e) [
       | yes q ↦ subst (λ u. (k' u ≡ never) ⊎ (k' u ≡ y' u)) (sym q) (inr (dr.key ∙ sym dr.time))
       | no q ↦ rw (dr.times d m q, dr.keys d m q) (ti.tied d m)
@@ -52,7 +52,7 @@ module _ {n e x : ℕ} {y k y' k' : ℕ → ℕ} where
   }
 
   pub drop-weight : Drop n e x y k y' k' → weight n y' k' < weight n y k
-  drop-weight dr = total-lt n e _ _ dr.cell (omega arith) (λ d m. elim (ℕ_discrete d e) [
+  drop-weight dr = total_lt n e _ _ dr.cell (omega arith) (λ d m. elim (ℕ_discrete d e) [
     | yes q ↦ subst (λ u. 2 * y' u + min 1 (never - k' u) ≤ 2 * y u + min 1 (never - k u)) (sym q) (omega arith)
     | no q ↦ omega (arith, dr.times d m q, dr.keys d m q)
   ])
@@ -72,7 +72,7 @@ module _ {n : ℕ} {L : ℕ → (ℕ → ℕ) → ℕ} (law : Lawful n L) where
       → ((d : ℕ) → d < n → Clear d → (f g : ℕ → ℕ) → ((e : ℕ) → e < n → e ≢ c → f e ≡ g e) → L d f ≡ L d g)
       → Midway n L (y c) Clear y k'
   popped {c} {y = y} {k} {k'} ti se l p e o far = record {
-    weak = λ d m. omega (arith, se d m, law.causal (y c) d yc m (heard y k) (heard y k') below-t);
+    weak = λ d m. omega (arith, se d m, law.causal (y c) d yc m (heard y k) (heard y k') below_t);
     settled = λ d m out. subst (λ u. y d ≤ u) (far d m out (heard y k) (heard y k') apart) (se d m);
   }
     where
@@ -85,8 +85,8 @@ module _ {n : ℕ} {L : ℕ → (ℕ → ℕ) → ℕ} (law : Lawful n L) where
       apart : (d : ℕ) → d < n → d ≢ c → heard y k d ≡ heard y k' d
       apart d m q = ap (λ u. y d + (never - u)) (sym (o d m q))
 
-      below-t : (d : ℕ) → d < n → min (y c) (heard y k d) ≡ min (y c) (heard y k' d)
-      below-t d m = elim (ℕ_discrete d c) [
+      below_t : (d : ℕ) → d < n → min (y c) (heard y k d) ≡ min (y c) (heard y k' d)
+      below_t d m = elim (ℕ_discrete d c) [
         | yes q ↦ subst (λ u. min (y c) (heard y k u) ≡ min (y c) (heard y k' u)) (sym q) (omega (arith, kc, e))
         | no q ↦ ap (λ u. min (y c) u) (apart d m q)
       ]
@@ -114,15 +114,15 @@ module _ {n : ℕ} {L : ℕ → (ℕ → ℕ) → ℕ} (law : Lawful n L) where
     -- it is lowered to a time that the rule does not lower
     pub lowered : {x : ℕ} {y k y' k' : ℕ → ℕ} → Tied n y k → Drop n e x y k y' k' → x ≤ L e y → Midway n L t Clear y k → Midway n L t Clear' y' k'
     lowered {x} {y} {k} {y'} {k'} ti dr low mid = record {
-      weak = λ d m. omega (arith, times-fall dr d m, mid.weak d m, law.mono d m (heard y k) (heard y' k') (hears ti dr));
+      weak = λ d m. omega (arith, times_fall dr d m, mid.weak d m, law.mono d m (heard y k) (heard y' k') (hears ti dr));
       settled = λ d m out. elim (ℕ_discrete d e) [
-        | yes q ↦ subst (λ u. y' u ≤ L u (heard y' k')) (sym q) (omega (arith, dr.time, law.mono e dr.cell y (heard y' k') above-y))
+        | yes q ↦ subst (λ u. y' u ≤ L u (heard y' k')) (sym q) (omega (arith, dr.time, law.mono e dr.cell y (heard y' k') above_y))
         | no q ↦ omega (arith, dr.times d m q, mid.settled d m (clears d out q), law.mono d m (heard y k) (heard y' k') (hears ti dr))
       ];
     }
       where
-        above-y : (d : ℕ) → d < n → y d ≤ heard y' k' d
-        above-y d m = omega (arith, hears ti dr d m)
+        above_y : (d : ℕ) → d < n → y d ≤ heard y' k' d
+        above_y d m = omega (arith, hears ti dr d m)
 
   -- what the rule gives a cell later than the one taken is later too, where no key is below that
   pub rises : {t e : ℕ} {Clear : ℕ → Type 0} {y k : ℕ → ℕ} → Tied n y k → Midway n L t Clear y k → t < never → ((d : ℕ) → d < n → t ≤ k d)
@@ -135,10 +135,10 @@ module _ {n : ℕ} {L : ℕ → (ℕ → ℕ) → ℕ} (law : Lawful n L) where
   -- start and rule uphold a time that is lowered to what the rule gives
   pub upheld : {start : ℕ → ℕ} {e : ℕ} {y k y' k' : ℕ → ℕ} → Drop n e (L e y) y k y' k' → Upheld n L start y → Upheld n L start y'
   upheld {start} {e} {y} {y' = y'} dr up = record {
-    started = λ d m. le_trans (times-fall dr d m) (up.started d m);
+    started = λ d m. le_trans (times_fall dr d m) (up.started d m);
     upper = λ d m. elim (ℕ_discrete d e) [
-      | yes q ↦ subst (λ u. min (start u) (L u y') ≤ y' u) (sym q) (omega (arith, dr.time, law.mono e dr.cell y' y (times-fall dr)))
-      | no q ↦ omega (arith, up.upper d m, law.mono d m y' y (times-fall dr), dr.times d m q)
+      | yes q ↦ subst (λ u. min (start u) (L u y') ≤ y' u) (sym q) (omega (arith, dr.time, law.mono e dr.cell y' y (times_fall dr)))
+      | no q ↦ omega (arith, up.upper d m, law.mono d m y' y (times_fall dr), dr.times d m q)
     ];
   }
 

@@ -3,17 +3,17 @@ use Rattle.std.proofs.Common.{◌≡◌, ℕ, zero, suc, ◌+◌, ◌-◌, ◌*�
 use native.Mathlib.Decide.{ℕ_discrete}
 use native.Mathlib.Nat.{mul-mod_right, mod-mod, div-eq_of_lt-le, mod_self, mod-one, zero-mod}
 use Rattle.eikonal.specs.Axes.{place, sight}
-use Rattle.eikonal.specs.Board.{Board, never, largest, size, column-axis, row-axis, storey-axis, slowness, along-row, down-column, time, local-of, arrival}
-use Rattle.eikonal.specs.Tiles.{counts-as}
+use Rattle.eikonal.specs.Board.{Board, never, largest, size, column_axis, row_axis, storey_axis, slowness, along_row, down_column, time, local_of, arrival}
+use Rattle.eikonal.specs.Tiles.{counts_as}
 use Rattle.eikonal.proofs.Levels.{order}
 use Rattle.eikonal.proofs.Local.{earlier-min}
-use Rattle.eikonal.proofs.Grid.{quotient-low, place-low, unit-most, on-cell}
+use Rattle.eikonal.proofs.Grid.{quotient_low, place-low, unit-most, on-cell}
 use Rattle.eikonal.proofs.Rule.{storeys-span}
 use Rattle.front.specs.Front.{ghosted}
-use Rattle.front.specs.Seams.{Cut, cut, seam, seam-back, seam-on, edge, inside, across, mark-under, mark-over}
-use Rattle.front.specs.Board.{land, rule-at, both-seen, Marked, Ground, Measures, Site, Step, Sees}
+use Rattle.front.specs.Seams.{Cut, cut, seam, seam_back, seam_on, edge, inside, across, mark_under, mark_over}
+use Rattle.front.specs.Board.{land, rule_at, both_seen, Marked, Ground, Measures, Site, Step, Sees}
 use Rattle.front.specs.declared.Shape.{Shape}
-use Rattle.front.proofs.Theory.Seams.{seam-edge, seam-inside, seam-round, seam-next, Straight, columns-straight, rows-straight, storeys-straight, sees}
+use Rattle.front.proofs.Theory.Seams.{seam-edge, seam-inside, seam-round, seam-next, Straight, columns_straight, rows_straight, storeys_straight, sees}
 
 -- an entry of a list is the same by any default
 get_d_any : (l : List ℕ) (i d e : ℕ) → i < length l → get_or l i d ≡ get_or l i e
@@ -27,16 +27,16 @@ time-at ts e h = get_d_any ts e never 0 h
 
 -- ---- a stored time as a ghost
 module _ (b : Board) (ts : List ℕ) (e : ℕ) where
-  pub ghost-wall : slowness b e ≡ 0 → counts-as b ts e ≡ never
-  unfolding counts-as
-  ghost-wall w = rw (eq-eqb (slowness b e) 0 w)
+  pub ghost_wall : slowness b e ≡ 0 → counts_as b ts e ≡ never
+  unfolding counts_as
+  ghost_wall w = rw (eq-eqb (slowness b e) 0 w)
 
-  pub ghost-late : slowness b e ≢ 0 → largest < time ts e → counts-as b ts e ≡ never
-  unfolding counts-as
+  pub ghost-late : slowness b e ≢ 0 → largest < time ts e → counts_as b ts e ≡ never
+  unfolding counts_as
   ghost-late w l = rw (ne_eqb (slowness b e) 0 w, lt-ltb largest (time ts e) l)
 
-  pub ghost-kept : slowness b e ≢ 0 → time ts e ≤ largest → counts-as b ts e ≡ time ts e
-  unfolding counts-as
+  pub ghost-kept : slowness b e ≢ 0 → time ts e ≤ largest → counts_as b ts e ≡ time ts e
+  unfolding counts_as
   ghost-kept w l = rw (ne_eqb (slowness b e) 0 w, le-ltb largest (time ts e) l)
 
 -- ---- what is seen across a seam
@@ -61,8 +61,8 @@ module _ {n s many i : ℕ} {js : List ℕ} (la : Marked n s many js) (l : i < n
     | no z ↦ omega arith
   ]
 
-  pub place-ahead : get_or js (i + 1) 0 ≢ edge → i + 1 < n * many
-  place-ahead q = elim (ℕ_discrete (i + 1) (n * many)) [
+  pub place_ahead : get_or js (i + 1) 0 ≢ edge → i + 1 < n * many
+  place_ahead q = elim (ℕ_discrete (i + 1) (n * many)) [
     | yes z ↦ absurd (q (la.at (i + 1) (omega arith) ∙ seam-edge n s (i + 1) (ap (λ (u : ℕ). u % n) z ∙ mul-mod_right n many)))
     | no z ↦ omega arith
   ]
@@ -70,10 +70,10 @@ module _ {n s many i : ℕ} {js : List ℕ} (la : Marked n s many js) (l : i < n
 -- the seams laid around a cell that is at the i-th place
 module _ (x : Cut) (c : ℕ) {many i : ℕ} {js : List ℕ} (la : Marked x.axis.count x.side many js) (at : place x.axis c ≡ i % x.axis.count)
     (l : i < x.axis.count * many) where
-  pub marked-back : get_or js i 0 ≡ seam-back x c
+  pub marked-back : get_or js i 0 ≡ seam_back x c
   marked-back = la.at i (omega arith) ∙ seam-round x.axis.count x.side i ∙ ap (seam x.axis.count x.side) (sym at)
 
-  pub marked-on : get_or js (i + 1) 0 ≡ seam-on x c
+  pub marked-on : get_or js (i + 1) 0 ≡ seam_on x c
   marked-on =
       la.at (i + 1) (omega arith) ∙ ap (seam x.axis.count x.side) (add-one i) ∙ seam-next x.axis.count x.side i
       ∙ ap (λ (u : ℕ). seam x.axis.count x.side (suc u)) (sym at)
@@ -89,12 +89,12 @@ module _ {n w c row col : ℕ} (si : Site n w c row col) where
   pub row_is : c / w ≡ row
   row_is = div-eq_of_lt-le w (omega (arith, si.cell)) (omega (arith, si.cell, si.column))
 
-  pub col-is : c % w ≡ col
-  col-is = omega (arith, si.cell, div-add-mod' c w, ap (λ (u : ℕ). u * w) row_is)
+  pub col_is : c % w ≡ col
+  col_is = omega (arith, si.cell, div-add-mod' c w, ap (λ (u : ℕ). u * w) row_is)
 
   -- where a storey has h rows, one that has a storey under it is past them
-  pub past-storey : (h : ℕ) → h * w ≤ c → h ≤ row
-  past-storey h l = go (order row h)
+  pub past_storey : (h : ℕ) → h * w ≤ c → h ≤ row
+  past_storey h l = go (order row h)
     where
       go : (row < h) ⊎ (h ≤ row) → h ≤ row
       go (inl i) = absurd (omega (arith, si.cell, si.column, mul-le-mul_right w i))
@@ -134,11 +134,11 @@ module _ {s : Shape} {slow ts cols rows : List ℕ} (gr : Ground s slow ts cols 
   cells-most = omega (arith, cells-size, gr.good.few)
 
   pub slow-long : length slow ≡ s.cells
-  slow-long = gr.good.slow-length ∙ sym cells-size
+  slow-long = gr.good.slow_length ∙ sym cells-size
 
   -- rows are numbered through all storeys
   pub lines-most : s.height * s.storeys ≤ 2048
-  lines-most = mul-le-mul gr.good.high-high gr.good.storeys-high
+  lines-most = mul-le-mul gr.good.high_high gr.good.storeys_high
 
   pub rows_whole : s.height * s.storeys * s.width ≡ s.cells
   rows_whole = turned ∙ sym gr.cells
@@ -151,7 +151,7 @@ module _ {s : Shape} {slow ts cols rows : List ℕ} (gr : Ground s slow ts cols 
   house e = omega (arith, ltb-true 1 (get_or rows 2050 0) e, gr.lines.over)
 
   pub flat : ltb 1 (get_or rows 2050 0) ≡ false → s.storeys ≡ 1
-  flat e = omega (arith, ltb-false 1 (get_or rows 2050 0) e, gr.lines.over, gr.good.storeys-low)
+  flat e = omega (arith, ltb-false 1 (get_or rows 2050 0) e, gr.lines.over, gr.good.storeys_low)
 
   module _ {n w : ℕ} (me : Measures s n w) where
     pub width_low : 1 ≤ w
@@ -163,18 +163,18 @@ module _ {s : Shape} {slow ts cols rows : List ℕ} (gr : Ground s slow ts cols 
     whole : n ≡ s.height * s.storeys * w
     whole = me.cells ∙ sym rows_whole ∙ ap (λ (u : ℕ). s.height * s.storeys * u) (sym me.width)
 
-    pub storey-is : {h : ℕ} → h ≡ get_or rows 2049 0 + 1 → w * h ≡ s.width * s.height
-    storey-is e = ap₂ ◌*◌ me.width (e ∙ gr.lines.last)
+    pub storey_is : {h : ℕ} → h ≡ get_or rows 2049 0 + 1 → w * h ≡ s.width * s.height
+    storey_is e = ap₂ ◌*◌ me.width (e ∙ gr.lines.last)
 
-    pub storey-most : s.width * s.height ≤ n
-    storey-most = omega (arith, me.cells, gr.cells, mul-le-mul_left (s.width * s.height) gr.good.storeys-low)
+    pub storey_most : s.width * s.height ≤ n
+    storey_most = omega (arith, me.cells, gr.cells, mul-le-mul_left (s.width * s.height) gr.good.storeys_low)
 
     module _ {c row col : ℕ} (si : Site n w c row col) where
       on : c < size (land s slow)
       on = omega (arith, me.cells, cells-size, si.on)
 
       pub line : row < s.height * s.storeys
-      line = omega (arith, row_is si, quotient-low c w (s.height * s.storeys) (omega (arith, si.on, whole)))
+      line = omega (arith, row_is si, quotient_low c w (s.height * s.storeys) (omega (arith, si.on, whole)))
 
       pub column : col < s.width * 1
       column = omega (arith, me.width, si.column)
@@ -184,13 +184,13 @@ module _ {s : Shape} {slow ts cols rows : List ℕ} (gr : Ground s slow ts cols 
       left-some q = omega (arith, si.cell, place-behind gr.columns column q)
 
       pub right-some : get_or cols (col + 1) 0 ≢ edge → c + 1 < n
-      right-some q = omega (arith, si.cell, me.width, place-ahead gr.columns column q, whole, mul-le-mul_right w line)
+      right-some q = omega (arith, si.cell, me.width, place_ahead gr.columns column q, whole, mul-le-mul_right w line)
 
       pub above-some : get_or rows row 0 ≢ edge → w ≤ c
       above-some q = omega (arith, si.cell, mul-le-mul_right w (place-behind gr.lines line q))
 
       pub below-some : get_or rows (row + 1) 0 ≢ edge → c + w < n
-      below-some q = omega (arith, si.cell, si.column, whole, mul-le-mul_right w (place-ahead gr.lines line q))
+      below-some q = omega (arith, si.cell, si.column, whole, mul-le-mul_right w (place_ahead gr.lines line q))
 
       module _ {work : List ℕ} (room : 4 * n ≤ length work) (u : ℕ) {mark : ℕ} where
         fits : (less more : ℕ) → (mark ≢ edge → (more ≤ n) × (less ≤ c + more) × (c + more - less < n)) → Sees n slow ts work c less more mark
@@ -226,83 +226,83 @@ module _ {s : Shape} {slow ts cols rows : List ℕ} (gr : Ground s slow ts cols 
       abbrev board : Board
       board = land s slow
 
-      pub column-at : place (column-axis board) c ≡ col % s.width
+      pub column-at : place (column_axis board) c ≡ col % s.width
       unfolding place
-      column-at = ap (λ (u : ℕ). u % s.width) (div-one c) ∙ ap (λ (k : ℕ). c % k) (sym me.width) ∙ col-is si
+      column-at = ap (λ (u : ℕ). u % s.width) (div-one c) ∙ ap (λ (k : ℕ). c % k) (sym me.width) ∙ col_is si
           ∙ sym (mod-eq_of_lt (omega (arith, column)))
 
-      pub line_at : place (row-axis board) c ≡ row % s.height
+      pub line_at : place (row_axis board) c ≡ row % s.height
       unfolding place
       line_at = ap (λ (k : ℕ). c / k % s.height) (sym me.width) ∙ ap (λ (u : ℕ). u % s.height) (row_is si)
 
       abbrev stack : Cut
-      stack = cut (storey-axis board) s.storeys
+      stack = cut (storey_axis board) s.storeys
 
       stack-whole : n ≡ s.storeys * (s.width * s.height)
       stack-whole = me.cells ∙ gr.cells ∙ mul_comm (s.width * s.height) s.storeys
 
       module _ {area : ℕ} (storey : area ≡ s.width * s.height) where
         -- a cell has one under it just if it is past the first storey, and one over it just if it is before the last
-        lowest : c < area → place (storey-axis board) c ≡ 0
-        lowest l = elim (ℕ_discrete (place (storey-axis board) c) 0) [
+        lowest : c < area → place (storey_axis board) c ≡ 0
+        lowest l = elim (ℕ_discrete (place (storey_axis board) c) 0) [
           | yes q ↦ q
           | no q ↦ absurd (omega (arith, storey, unit-most (storeys-span gr.good) c q))
         ]
 
-        not-lowest : area ≤ c → place (storey-axis board) c ≢ 0
+        not_lowest : area ≤ c → place (storey_axis board) c ≢ 0
         unfolding place
-        not-lowest l z =
+        not_lowest l z =
             let k = s.width * s.height in
-            let low : c / k < s.storeys = quotient-low c k s.storeys (omega (arith, si.on, stack-whole)) in
+            let low : c / k < s.storeys = quotient_low c k s.storeys (omega (arith, si.on, stack-whole)) in
             let none : c / k ≡ 0 = sym (mod-eq_of_lt low) ∙ z in
-            omega (arith, storey, div-add-mod' c k, mod-lt c (mul-le-mul gr.good.wide_low gr.good.high-low), ap (λ (u : ℕ). u * k) none)
+            omega (arith, storey, div-add-mod' c k, mod-lt c (mul-le-mul gr.good.wide_low gr.good.high_low), ap (λ (u : ℕ). u * k) none)
 
-        highest : n ≤ c + area → suc (place (storey-axis board) c) ≡ s.storeys
-        highest l = elim (ℕ_discrete (suc (place (storey-axis board) c)) s.storeys) [
+        highest : n ≤ c + area → suc (place (storey_axis board) c) ≡ s.storeys
+        highest l = elim (ℕ_discrete (suc (place (storey_axis board) c)) s.storeys) [
           | yes q ↦ q
           | no q ↦ absurd (omega (arith, storey, me.cells, cells-size, on-cell (storeys-span gr.good) c on q))
         ]
 
-        not-highest : c + area < n → suc (place (storey-axis board) c) ≢ s.storeys
+        not_highest : c + area < n → suc (place (storey_axis board) c) ≢ s.storeys
         unfolding place
-        not-highest l z =
+        not_highest l z =
             let k = s.width * s.height in
-            let low : c / k < s.storeys = quotient-low c k s.storeys (omega (arith, si.on, stack-whole)) in
+            let low : c / k < s.storeys = quotient_low c k s.storeys (omega (arith, si.on, stack-whole)) in
             let last : suc (c / k) ≡ s.storeys = ap suc (sym (mod-eq_of_lt low)) ∙ z in
             omega (arith, storey, stack-whole, div-add-mod' c k, ap (λ (u : ℕ). u * k) last)
 
-        pub under-mark : mark-under area c ≡ seam-back stack c
-        under-mark = go (order c area)
+        pub under_mark : mark_under area c ≡ seam_back stack c
+        under_mark = go (order c area)
           where
-            go : (c < area) ⊎ (area ≤ c) → mark-under area c ≡ seam-back stack c
+            go : (c < area) ⊎ (area ≤ c) → mark_under area c ≡ seam_back stack c
             go (inl l) = rw (lt-ltb c area l) (sym (seam-edge s.storeys s.storeys _ (ap (λ (u : ℕ). u % s.storeys) (lowest l) ∙ zero-mod s.storeys)))
             go (inr l) =
                 let p = mod-eq_of_lt (place-low (storeys-span gr.good) c) in
                 rw (le-ltb c area l)
-                (sym (seam-inside s.storeys s.storeys _ (λ z. not-lowest l (sym p ∙ z))
-                (λ z. not-lowest l (sym p ∙ sym (mod-mod (place (storey-axis board) c) s.storeys) ∙ z))))
+                (sym (seam-inside s.storeys s.storeys _ (λ z. not_lowest l (sym p ∙ z))
+                (λ z. not_lowest l (sym p ∙ sym (mod-mod (place (storey_axis board) c) s.storeys) ∙ z))))
 
-        pub over-mark : mark-over n area c ≡ seam-on stack c
-        over-mark = go (order (c + area) n)
+        pub over_mark : mark_over n area c ≡ seam_on stack c
+        over_mark = go (order (c + area) n)
           where
-            go : (c + area < n) ⊎ (n ≤ c + area) → mark-over n area c ≡ seam-on stack c
+            go : (c + area < n) ⊎ (n ≤ c + area) → mark_over n area c ≡ seam_on stack c
             go (inl l) =
-                let i = suc (place (storey-axis board) c) in
-                let p : i % s.storeys ≡ i = mod-eq_of_lt (omega (arith, place-low (storeys-span gr.good) c, not-highest l)) in
+                let i = suc (place (storey_axis board) c) in
+                let p : i % s.storeys ≡ i = mod-eq_of_lt (omega (arith, place-low (storeys-span gr.good) c, not_highest l)) in
                 rw (lt-ltb (c + area) n l)
                 (sym (seam-inside s.storeys s.storeys i (λ z. omega (arith, p)) (λ z. omega (arith, p, mod-mod i s.storeys))))
             go (inr l) =
                 rw (le-ltb (c + area) n l)
                 (sym (seam-edge s.storeys s.storeys _ (ap (λ (u : ℕ). u % s.storeys) (highest l) ∙ mod_self s.storeys)))
 
-        pub under_some : mark-under area c ≢ edge → area ≤ c
+        pub under_some : mark_under area c ≢ edge → area ≤ c
         under_some q = go (order c area)
           where
             go : (c < area) ⊎ (area ≤ c) → area ≤ c
             go (inl l) = absurd (q (rw (lt-ltb c area l)))
             go (inr l) = l
 
-        pub over-some : mark-over n area c ≢ edge → c + area < n
+        pub over-some : mark_over n area c ≢ edge → c + area < n
         over-some q = go (order (c + area) n)
           where
             go : (c + area < n) ⊎ (n ≤ c + area) → c + area < n
@@ -320,7 +320,7 @@ module _ {s : Shape} {slow ts cols rows : List ℕ} (gr : Ground s slow ts cols 
           span = omega arith;
           short = omega arith;
           back = λ b. (omega arith, place-behind gr.columns column (not-edge _ b));
-          on = λ b. (right-some (not-edge _ b), omega (arith, me.width, place-ahead gr.columns column (not-edge _ b)));
+          on = λ b. (right-some (not-edge _ b), omega (arith, me.width, place_ahead gr.columns column (not-edge _ b)));
         }
 
         pub rows_step : Step n w c row col w 1 0 (eqb (get_or rows row 0) k) (eqb (get_or rows (row + 1) 0) k)
@@ -333,59 +333,59 @@ module _ {s : Shape} {slow ts cols rows : List ℕ} (gr : Ground s slow ts cols 
         }
 
       pub stack-step : {h area : ℕ} → area ≡ w * h → area ≡ s.width * s.height
-          → Step n w c row col area h 0 (eqb (mark-under area c) inside) (eqb (mark-over n area c) inside)
+          → Step n w c row col area h 0 (eqb (mark_under area c) inside) (eqb (mark_over n area c) inside)
       stack-step {h} {area} q storey = record {
         site = si;
         span = omega (arith, q, mul_comm w h);
-        short = omega (arith, storey, storey-most, me.cells, cells-most);
-        back = λ b. (past-storey si h (omega (arith, q, mul_comm w h, under_some storey (not-edge inside (λ z. omega arith) _ b))), omega arith);
+        short = omega (arith, storey, storey_most, me.cells, cells-most);
+        back = λ b. (past_storey si h (omega (arith, q, mul_comm w h, under_some storey (not-edge inside (λ z. omega arith) _ b))), omega arith);
         on = λ b. (over-some storey (not-edge inside (λ z. omega arith) _ b), omega (arith, si.column));
       }
 
       -- ---- what code reads across the seams of an axis is what the rule sees there
       abbrev ghost : (d e : ℕ) → ℕ
-      ghost d e = counts-as board ts e
+      ghost d e = counts_as board ts e
 
       abbrev seen : (f : ℕ → ℕ) → (e : ℕ) → ℕ
       seen f e = ghosted board s.across s.down ghost f c e
 
-      read : {x : Cut} → Straight board s.across s.down x → {m k z : ℕ} → m ≡ seam-back x c → k ≡ seam-on x c → (f : ℕ → ℕ)
-          → z ≡ both-seen board ts f c x.axis.unit m k → z ≡ sight x.axis c (seen f)
+      read : {x : Cut} → Straight board s.across s.down x → {m k z : ℕ} → m ≡ seam_back x c → k ≡ seam_on x c → (f : ℕ → ℕ)
+          → z ≡ both_seen board ts f c x.axis.unit m k → z ≡ sight x.axis c (seen f)
       read {x} st mb mo f e =
           let here : c + 0 ≡ c = omega arith in
           let there : c + x.axis.unit - 0 ≡ c + x.axis.unit = omega arith in
           e ∙ sees st c ghost f (rw (here, mb)) (rw (there, mo))
 
-      pub columns-read : (f : ℕ → ℕ) {z : ℕ} → z ≡ both-seen board ts f c 1 (get_or cols col 0) (get_or cols (col + 1) 0)
-          → z ≡ sight (column-axis board) c (seen f)
+      pub columns-read : (f : ℕ → ℕ) {z : ℕ} → z ≡ both_seen board ts f c 1 (get_or cols col 0) (get_or cols (col + 1) 0)
+          → z ≡ sight (column_axis board) c (seen f)
       columns-read f =
-          read (columns-straight gr.good s.across s.down gr.across gr.down)
-          (marked-back (cut (column-axis board) s.across) c gr.columns column-at column)
-          (marked-on (cut (column-axis board) s.across) c gr.columns column-at column) f
+          read (columns_straight gr.good s.across s.down gr.across gr.down)
+          (marked-back (cut (column_axis board) s.across) c gr.columns column-at column)
+          (marked-on (cut (column_axis board) s.across) c gr.columns column-at column) f
 
-      pub rows-read : (f : ℕ → ℕ) {z : ℕ} → z ≡ both-seen board ts f c w (get_or rows row 0) (get_or rows (row + 1) 0)
-          → z ≡ sight (row-axis board) c (seen f)
+      pub rows-read : (f : ℕ → ℕ) {z : ℕ} → z ≡ both_seen board ts f c w (get_or rows row 0) (get_or rows (row + 1) 0)
+          → z ≡ sight (row_axis board) c (seen f)
       rows-read f e =
-          read (rows-straight gr.good s.across s.down gr.across gr.down)
-          (marked-back (cut (row-axis board) s.down) c gr.lines line_at line) (marked-on (cut (row-axis board) s.down) c gr.lines line_at line) f
-          (e ∙ ap (λ (k : ℕ). both-seen board ts f c k (get_or rows row 0) (get_or rows (row + 1) 0)) me.width)
+          read (rows_straight gr.good s.across s.down gr.across gr.down)
+          (marked-back (cut (row_axis board) s.down) c gr.lines line_at line) (marked-on (cut (row_axis board) s.down) c gr.lines line_at line) f
+          (e ∙ ap (λ (k : ℕ). both_seen board ts f c k (get_or rows row 0) (get_or rows (row + 1) 0)) me.width)
 
-      pub stack-read : (f : ℕ → ℕ) {area z : ℕ} → area ≡ s.width * s.height → z ≡ both-seen board ts f c area (mark-under area c) (mark-over n area c)
-          → z ≡ sight (storey-axis board) c (seen f)
+      pub stack-read : (f : ℕ → ℕ) {area z : ℕ} → area ≡ s.width * s.height → z ≡ both_seen board ts f c area (mark_under area c) (mark_over n area c)
+          → z ≡ sight (storey_axis board) c (seen f)
       stack-read f {area} q e =
-          read (storeys-straight gr.good s.across s.down gr.across gr.down) (under-mark q) (over-mark q) f
-          (e ∙ ap (λ (k : ℕ). both-seen board ts f c k (mark-under area c) (mark-over n area c)) q)
+          read (storeys_straight gr.good s.across s.down gr.across gr.down) (under_mark q) (over_mark q) f
+          (e ∙ ap (λ (k : ℕ). both_seen board ts f c k (mark_under area c) (mark_over n area c)) q)
 
       -- on a flat board nothing
-      pub flat-read : (f : ℕ → ℕ) → s.storeys ≡ 1 → never ≡ sight (storey-axis board) c (seen f)
+      pub flat-read : (f : ℕ → ℕ) → s.storeys ≡ 1 → never ≡ sight (storey_axis board) c (seen f)
       unfolding sight place
       flat-read f e =
           let first : c / (s.width * s.height) % s.storeys ≡ 0 = ap (λ (u : ℕ). c / (s.width * s.height) % u) e ∙ mod-one (c / (s.width * s.height)) in
           sym (rw (eq-eqb _ 0 first, eq-eqb _ _ (ap suc first ∙ sym e)) (earlier-min never never))
 
       -- THE RULE from what code reads along the axes
-      pub rule-read : (f : ℕ → ℕ) {x y z : ℕ} → x ≡ sight (column-axis board) c (seen f) → y ≡ sight (row-axis board) c (seen f)
-          → z ≡ sight (storey-axis board) c (seen f)
-          → min never (local-of (along-row (get_or slow c 0)) (down-column (get_or slow c 0)) x y z) ≡ rule-at s slow ts c f
+      pub rule-read : (f : ℕ → ℕ) {x y z : ℕ} → x ≡ sight (column_axis board) c (seen f) → y ≡ sight (row_axis board) c (seen f)
+          → z ≡ sight (storey_axis board) c (seen f)
+          → min never (local_of (along_row (get_or slow c 0)) (down_column (get_or slow c 0)) x y z) ≡ rule_at s slow ts c f
       unfolding arrival slowness
       rule-read f ex ey ez = rw (ex, ey, ez) refl

@@ -2,36 +2,36 @@
 use Rattle.std.proofs.Common.{◌≡◌, ℕ, ◌+◌, ◌-◌, ◌*◌, ◌%◌, ◌<◌, ◌≤◌, Bool, true, false, eqb, ◌≢◌, ◌⊎◌, List, [], ◌∷◌, ◌++◌, length, get_or, set, sym, refl, ap, ◌∙◌, subst, inr, ⊎_elim, arith, length-set, get_or-set_other, get_or-set_same, eq-eqb, ne_eqb}
 use native.Mathlib.Decide.{ℕ_discrete}
 use native.Mathlib.Nat.{mod-mod, mod-one}
-use Rattle.eikonal.specs.Board.{Board, never, size, column-axis, row-axis, slowness}
-use Rattle.eikonal.specs.Tiles.{counts-as}
+use Rattle.eikonal.specs.Board.{Board, never, size, column_axis, row_axis, slowness}
+use Rattle.eikonal.specs.Tiles.{counts_as}
 use Rattle.queue.specs.Heap as queue
 use Rattle.queue.specs.Heap.{Heap, Put}
-use Rattle.queue.proofs.Heap.{heap-past, keys-past}
+use Rattle.queue.proofs.Heap.{heap-past, keys_past}
 use Rattle.front.specs.Front.{Drop, Out}
 use Rattle.front.specs.Seams.{
-  least-seam,
+  least_seam,
   Cut,
   cut,
-  stack-cut,
+  stack_cut,
   cuts,
   seam,
-  seam-back,
-  seam-on,
+  seam_back,
+  seam_on,
   near_on,
   edge,
   border,
   inside,
-  mark-under,
-  mark-over,
+  mark_under,
+  mark_over,
   hearer,
   near,
 }
-use Rattle.front.specs.Board.{land, rule-at, tentative, Work, at, keys, Ground, Measures, Site}
+use Rattle.front.specs.Board.{land, rule_at, tentative, Work, at, keys, Ground, Measures, Site}
 use Rattle.front.specs.State.{Held, Touched, stays, drops, Told, all, next}
 use Rattle.front.specs.declared.Shape.{Shape}
-use Rattle.front.proofs.Theory.Sight.{gives-wall}
+use Rattle.front.proofs.Theory.Sight.{gives_wall}
 use Rattle.front.proofs.Theory.Seams.{seam-edge, seam-inside}
-use Rattle.front.proofs.Theory.Reading.{cells-size, marked-back, marked-on, column, line, column-at, line_at, under-mark, over-mark}
+use Rattle.front.proofs.Theory.Reading.{cells-size, marked-back, marked-on, column, line, column-at, line_at, under_mark, over_mark}
 
 -- a time is stored for the cell e, and the queue takes it up
 module _ {n : ℕ} {v : Work} (he : Held n v) {e : ℕ} (x : ℕ) (l : e < n) where
@@ -43,7 +43,7 @@ module _ {n : ℕ} {v : Work} (he : Held n v) {e : ℕ} (x : ℕ) (l : e < n) wh
   stored-heap = heap-past v.list v.size n (2 * n + e) x (omega arith) he.heap
 
   stored-keys : (d : ℕ) → queue.keys stored v.size d ≡ keys v d
-  stored-keys = keys-past v.list v.size n (2 * n + e) x (omega arith) he.heap
+  stored-keys = keys_past v.list v.size n (2 * n + e) x (omega arith) he.heap
 
   pub stored-room : 2 * n ≤ length stored
   stored-room = rw length-set (omega (arith, he.room))
@@ -78,11 +78,11 @@ module _ {n : ℕ} {v : Work} (he : Held n v) {e : ℕ} (x : ℕ) (l : e < n) wh
     })
 
 -- a wall stays
-pub stays-wall : {s : Shape} {slow ts cols rows : List ℕ} → Ground s slow ts cols rows → {n t e : ℕ} {v : Work} → Held n v → get_or slow e 0 ≡ 0
-    → Touched n (rule-at s slow ts) t e v v
+pub stays_wall : {s : Shape} {slow ts cols rows : List ℕ} → Ground s slow ts cols rows → {n t e : ℕ} {v : Work} → Held n v → get_or slow e 0 ≡ 0
+    → Touched n (rule_at s slow ts) t e v v
 unfolding slowness
-stays-wall {s} {slow} {ts} gr {n} {e = e} {v} he w =
-    let wall = gives-wall gr.good s.across s.down (λ d e. counts-as (land s slow) ts e) e (tentative v.list n) w in
+stays_wall {s} {slow} {ts} gr {n} {e = e} {v} he w =
+    let wall = gives_wall gr.good s.across s.down (λ d e. counts_as (land s slow) ts e) e (tentative v.list n) w in
     stays refl (λ l. inr (omega (arith, wall, he.tied.small e l)))
 
 -- ---- who hears, if there is one
@@ -92,13 +92,13 @@ hearer-same n true h = h refl
 hearer-same n false h = refl
 
 module _ {n : ℕ} {L : ℕ → (ℕ → ℕ) → ℕ} {t : ℕ} (e : ℕ) {v : Work} {there : Bool} where
-  pub touched-nobody : there ≡ false → Touched n L t (hearer n there e) v v
+  pub touched_nobody : there ≡ false → Touched n L t (hearer n there e) v v
   unfolding hearer
-  touched-nobody b = stays refl (rw b (λ l. absurd (omega arith)))
+  touched_nobody b = stays refl (rw b (λ l. absurd (omega arith)))
 
-  pub touched-there : {u : Work} → there ≡ true → Touched n L t e v u → Touched n L t (hearer n there e) v u
+  pub touched_there : {u : Work} → there ≡ true → Touched n L t e v u → Touched n L t (hearer n there e) v u
   unfolding hearer
-  touched-there b h = rw b h
+  touched_there b h = rw b h
 
 -- ---- neighbours across a seam of a kind
 pub hearer-some : (n k s e : ℕ) → s ≡ k → hearer n (eqb s k) e ≡ e
@@ -110,18 +110,18 @@ unfolding hearer
 hearer-none n k s e q = rw (ne_eqb s k q)
 
 -- those along an axis hear of a cell, by the seams as laid
-pub along-told : (x : Cut) (k c : ℕ) {n t m o step : ℕ} {L : ℕ → (ℕ → ℕ) → ℕ} {v u : Work} → m ≡ seam-back x c → o ≡ seam-on x c → step ≡ x.axis.unit
+pub along_told : (x : Cut) (k c : ℕ) {n t m o step : ℕ} {L : ℕ → (ℕ → ℕ) → ℕ} {v u : Work} → m ≡ seam_back x c → o ≡ seam_on x c → step ≡ x.axis.unit
     → Told n L t (hearer n (eqb m k) (c - step) ∷ hearer n (eqb o k) (c + step) ∷ []) v u → Told n L t (near_on (x ∷ []) n k c) v u
-along-told x k c mb mo q ts = rw (mb, mo, q) at ts
+along_told x k c mb mo q ts = rw (mb, mo, q) at ts
 
 -- and where no seam there is of the kind, nobody
-pub quiet : (x : Cut) (k c : ℕ) {n t : ℕ} {L : ℕ → (ℕ → ℕ) → ℕ} (v : Work) → seam-back x c ≢ k → seam-on x c ≢ k → Told n L t (near_on (x ∷ []) n k c) v v
-quiet x k c v p q = next _ _ v v v (touched-nobody _ (ne_eqb _ k p)) (next _ _ v v v (touched-nobody _ (ne_eqb _ k q)) (all v))
+pub quiet : (x : Cut) (k c : ℕ) {n t : ℕ} {L : ℕ → (ℕ → ℕ) → ℕ} (v : Work) → seam_back x c ≢ k → seam_on x c ≢ k → Told n L t (near_on (x ∷ []) n k c) v v
+quiet x k c v p q = next _ _ v v v (touched_nobody _ (ne_eqb _ k p)) (next _ _ v v v (touched_nobody _ (ne_eqb _ k q)) (all v))
 
 -- several, and then others
-pub told-both : {n t : ℕ} {L : ℕ → (ℕ → ℕ) → ℕ} {es fs : List ℕ} {v u w : Work} → Told n L t es v u → Told n L t fs u w → Told n L t (es ++ fs) v w
-told-both (all v) ts = ts
-told-both {w = w} (next e es v u v' k ks) ts = next e _ v u w k (told-both ks ts)
+pub told_both : {n t : ℕ} {L : ℕ → (ℕ → ℕ) → ℕ} {es fs : List ℕ} {v u w : Work} → Told n L t es v u → Told n L t fs u w → Told n L t (es ++ fs) v w
+told_both (all v) ts = ts
+told_both {w = w} (next e es v u v' k ks) ts = next e _ v u w k (told_both ks ts)
 
 module _ {s : Shape} {slow ts cols rows : List ℕ} (gr : Ground s slow ts cols rows) {n w : ℕ} (me : Measures s n w)
     {c row col : ℕ} (si : Site n w c row col) where
@@ -129,87 +129,87 @@ module _ {s : Shape} {slow ts cols rows : List ℕ} (gr : Ground s slow ts cols 
   board = land s slow
 
   abbrev columns : Cut
-  columns = cut (column-axis board) s.across
+  columns = cut (column_axis board) s.across
 
   abbrev lines : Cut
-  lines = cut (row-axis board) s.down
+  lines = cut (row_axis board) s.down
 
   -- the seams around the cell, as laid
-  left-mark : get_or cols col 0 ≡ seam-back columns c
-  left-mark = marked-back columns c gr.columns (column-at gr me si) (column gr me si)
+  left_mark : get_or cols col 0 ≡ seam_back columns c
+  left_mark = marked-back columns c gr.columns (column-at gr me si) (column gr me si)
 
-  right-mark : get_or cols (col + 1) 0 ≡ seam-on columns c
-  right-mark = marked-on columns c gr.columns (column-at gr me si) (column gr me si)
+  right_mark : get_or cols (col + 1) 0 ≡ seam_on columns c
+  right_mark = marked-on columns c gr.columns (column-at gr me si) (column gr me si)
 
-  above-mark : get_or rows row 0 ≡ seam-back lines c
-  above-mark = marked-back lines c gr.lines (line_at gr me si) (line gr me si)
+  above_mark : get_or rows row 0 ≡ seam_back lines c
+  above_mark = marked-back lines c gr.lines (line_at gr me si) (line gr me si)
 
-  below-mark : get_or rows (row + 1) 0 ≡ seam-on lines c
-  below-mark = marked-on lines c gr.lines (line_at gr me si) (line gr me si)
+  below_mark : get_or rows (row + 1) 0 ≡ seam_on lines c
+  below_mark = marked-on lines c gr.lines (line_at gr me si) (line gr me si)
 
   -- along each axis
   module _ {L : ℕ → (ℕ → ℕ) → ℕ} {t : ℕ} (k : ℕ) {v u : Work} where
     pub columns-told : Told n L t (hearer n (eqb (get_or cols col 0) k) (c - 1) ∷ hearer n (eqb (get_or cols (col + 1) 0) k) (c + 1) ∷ []) v u
         → Told n L t (near_on (columns ∷ []) n k c) v u
-    columns-told = along-told columns k c left-mark right-mark refl
+    columns-told = along_told columns k c left_mark right_mark refl
 
     pub rows_told : Told n L t (hearer n (eqb (get_or rows row 0) k) (c - w) ∷ hearer n (eqb (get_or rows (row + 1) 0) k) (c + w) ∷ []) v u
         → Told n L t (near_on (lines ∷ []) n k c) v u
-    rows_told = along-told lines k c above-mark below-mark me.width
+    rows_told = along_told lines k c above_mark below_mark me.width
 
     pub stack-told : {area : ℕ} → area ≡ s.width * s.height
-        → Told n L t (hearer n (eqb (mark-under area c) k) (c - area) ∷ hearer n (eqb (mark-over n area c) k) (c + area) ∷ []) v u
-        → Told n L t (near_on (stack-cut board ∷ []) n k c) v u
-    stack-told q = along-told (stack-cut board) k c (under-mark gr me si q) (over-mark gr me si q) q
+        → Told n L t (hearer n (eqb (mark_under area c) k) (c - area) ∷ hearer n (eqb (mark_over n area c) k) (c + area) ∷ []) v u
+        → Told n L t (near_on (stack_cut board ∷ []) n k c) v u
+    stack-told q = along_told (stack_cut board) k c (under_mark gr me si q) (over_mark gr me si q) q
 
   -- all of them
   pub near-told : {L : ℕ → (ℕ → ℕ) → ℕ} {t : ℕ} (k : ℕ) {v u w z : Work} → Told n L t (near_on (columns ∷ []) n k c) v u
-      → Told n L t (near_on (lines ∷ []) n k c) u w → Told n L t (near_on (stack-cut board ∷ []) n k c) w z
+      → Told n L t (near_on (lines ∷ []) n k c) u w → Told n L t (near_on (stack_cut board ∷ []) n k c) w z
       → Told n L t (near board s.across s.down k c) v z
   unfolding near
   near-told {L} {t} k {v} {z = z} p q r =
-      subst (λ m. Told n L t (near_on (cuts board s.across s.down) m k c) v z) (me.cells ∙ cells-size gr) (told-both p (told-both q r))
+      subst (λ m. Told n L t (near_on (cuts board s.across s.down) m k c) v z) (me.cells ∙ cells-size gr) (told_both p (told_both q r))
 
   -- on a flat board nobody is under or over it: both seams are the edge
-  pub flat-told : {L : ℕ → (ℕ → ℕ) → ℕ} {t : ℕ} (v : Work) → s.storeys ≡ 1 → Told n L t (near_on (stack-cut board ∷ []) n inside c) v v
-  flat-told v e = quiet (stack-cut board) inside c v (λ z. omega (arith, sym z ∙ edges _)) (λ z. omega (arith, sym z ∙ edges _))
+  pub flat-told : {L : ℕ → (ℕ → ℕ) → ℕ} {t : ℕ} (v : Work) → s.storeys ≡ 1 → Told n L t (near_on (stack_cut board ∷ []) n inside c) v v
+  flat-told v e = quiet (stack_cut board) inside c v (λ z. omega (arith, sym z ∙ edges _)) (λ z. omega (arith, sym z ∙ edges _))
     where
       edges : (i : ℕ) → seam s.storeys s.storeys i ≡ edge
       edges i = seam-edge s.storeys s.storeys i (ap (λ (u : ℕ). i % u) e ∙ mod-one i)
 
   -- neither is ever a border
-  no-border : (i : ℕ) → seam s.storeys s.storeys i ≢ border
-  no-border i z = elim (ℕ_discrete (i % s.storeys) 0) [
+  no_border : (i : ℕ) → seam s.storeys s.storeys i ≢ border
+  no_border i z = elim (ℕ_discrete (i % s.storeys) 0) [
     | yes q ↦ omega (arith, sym (seam-edge s.storeys s.storeys i q) ∙ z)
     | no q ↦ omega (arith, sym (seam-inside s.storeys s.storeys i q (λ r. q (sym (mod-mod i s.storeys) ∙ r))) ∙ z)
   ]
 
-  pub border-told : {L : ℕ → (ℕ → ℕ) → ℕ} {t : ℕ} (v : Work) → Told n L t (near_on (stack-cut board ∷ []) n border c) v v
-  border-told v = quiet (stack-cut board) border c v (no-border _) (no-border _)
+  pub border-told : {L : ℕ → (ℕ → ℕ) → ℕ} {t : ℕ} (v : Work) → Told n L t (near_on (stack_cut board ∷ []) n border c) v v
+  border-told v = quiet (stack_cut board) border c v (no_border _) (no_border _)
 
   -- where all seams of the storey are inside, nobody in another tile is to be told
-  module _ (q : least-seam cols rows row col ≡ inside) where
+  module _ (q : least_seam cols rows row col ≡ inside) where
     pub near_none : {L : ℕ → (ℕ → ℕ) → ℕ} {t : ℕ} (v : Work) → Told n L t (near board s.across s.down border c) v v
     near_none v =
         near-told border
-        (quiet columns border c v (λ z. omega (arith, left-mark)) (λ z. omega (arith, right-mark)))
-        (quiet lines border c v (λ z. omega (arith, above-mark)) (λ z. omega (arith, below-mark)))
+        (quiet columns border c v (λ z. omega (arith, left_mark)) (λ z. omega (arith, right_mark)))
+        (quiet lines border c v (λ z. omega (arith, above_mark)) (λ z. omega (arith, below_mark)))
         (border-told v)
 
     -- none of them is a cell
     pub near-out : (e : ℕ) → e < size board → Out e (near board s.across s.down border c)
     unfolding near
     near-out e l = (
-      none (seam-back columns c) _ (λ z. omega (arith, left-mark)),
+      none (seam_back columns c) _ (λ z. omega (arith, left_mark)),
       (
-        none (seam-on columns c) _ (λ z. omega (arith, right-mark)),
+        none (seam_on columns c) _ (λ z. omega (arith, right_mark)),
         (
-          none (seam-back lines c) _ (λ z. omega (arith, above-mark)),
+          none (seam_back lines c) _ (λ z. omega (arith, above_mark)),
           (
-            none (seam-on lines c) _ (λ z. omega (arith, below-mark)),
+            none (seam_on lines c) _ (λ z. omega (arith, below_mark)),
             (
-              none (seam-back (stack-cut board) c) _ (no-border _),
-              (none (seam-on (stack-cut board) c) _ (no-border _), tt),
+              none (seam_back (stack_cut board) c) _ (no_border _),
+              (none (seam_on (stack_cut board) c) _ (no_border _), tt),
             ),
           ),
         ),

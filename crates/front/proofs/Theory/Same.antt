@@ -9,8 +9,8 @@ module _ {n : ℕ} {L : ℕ → (ℕ → ℕ) → ℕ} (law : Lawful n L) where
   rule-same c l f g h = le_antisymm (law.mono c l f g (λ e m. omega (arith, h e m))) (law.mono c l g f (λ e m. omega (arith, h e m)))
 
   module _ {y y' : ℕ → ℕ} (times : (d : ℕ) → d < n → y' d ≡ y d) where
-    pub midway-same : {t : ℕ} {Clear : ℕ → Type 0} {k : ℕ → ℕ} → Midway n L t Clear y k → Midway n L t Clear y' k
-    midway-same {k = k} mid = record {
+    pub midway_same : {t : ℕ} {Clear : ℕ → Type 0} {k : ℕ → ℕ} → Midway n L t Clear y k → Midway n L t Clear y' k
+    midway_same {k = k} mid = record {
       weak = λ c l. rw (times c l, rule c l) (mid.weak c l);
       settled = λ c l o. rw (times c l, rule c l) (mid.settled c l o);
     }

@@ -3,16 +3,16 @@ use Rattle.std.proofs.Common.{◌≡◌, ℕ, suc, ◌+◌, ◌-◌, ◌*◌, �
 use native.Mathlib.Decide.{ℕ_discrete}
 use native.Mathlib.Nat.{suc-mod, mod-mod, mod_self, zero-mod, add-mod_right, add-mul-div_left, add-mul-mod_self_left, div-eq_of_lt-le}
 use Rattle.eikonal.specs.Axes.{place, sight, Spans, Next, Near}
-use Rattle.eikonal.specs.Board.{Board, never, size, column-axis, row-axis, storey-axis, earlier}
-use Rattle.eikonal.specs.Tiles.{tile-of, up}
+use Rattle.eikonal.specs.Board.{Board, never, size, column_axis, row_axis, storey_axis, earlier}
+use Rattle.eikonal.specs.Tiles.{tile_of, up}
 use Rattle.eikonal.specs.Promise.{Neighbour}
 use Rattle.eikonal.specs.Inner.Good.{Good}
 use Rattle.eikonal.proofs.Up.{up-some}
 use Rattle.eikonal.proofs.Local.{earlier-min}
-use Rattle.eikonal.proofs.Grid.{place-low, place-on, place-back, back_on, not_last, next-first, next-back, near-which, none-near}
+use Rattle.eikonal.proofs.Grid.{place-low, place-on, place-back, back_on, not_last, next-first, next-back, near_which, none-near}
 use Rattle.eikonal.proofs.Rule.{columns-span, rows-span, storeys-span}
 use Rattle.front.specs.Front.{Out, ghosted}
-use Rattle.front.specs.Seams.{Cut, cut, cuts, seam-back, seam-on, edge, border, inside, seam, across, hearer, near_on, near}
+use Rattle.front.specs.Seams.{Cut, cut, cuts, seam_back, seam_on, edge, border, inside, seam, across, hearer, near_on, near}
 
 -- ---- quotients one step on
 next-same : (s x : ℕ) → 1 ≤ s → suc x % s ≢ 0 → suc x / s ≡ x / s
@@ -57,9 +57,9 @@ module _ (n s i : ℕ) where
 pub record Straight (b : Board) (tw th : ℕ) (x : Cut) : Type 0 where
   pub spans : Spans (size b) x.axis
   pub own : (c : ℕ) → suc (place x.axis c) ≢ x.axis.count → suc (place x.axis c) % x.side ≢ 0
-      → tile-of b tw th (c + x.axis.unit) ≡ tile-of b tw th c
+      → tile_of b tw th (c + x.axis.unit) ≡ tile_of b tw th c
   pub apart : (c : ℕ) → suc (place x.axis c) ≢ x.axis.count → suc (place x.axis c) % x.side ≡ 0
-      → tile-of b tw th (c + x.axis.unit) ≢ tile-of b tw th c
+      → tile_of b tw th (c + x.axis.unit) ≢ tile_of b tw th c
 
 pub data All-straight (b : Board) (tw th : ℕ) : List Cut → Type 0 where
   none : All-straight b tw th []
@@ -67,7 +67,7 @@ pub data All-straight (b : Board) (tw th : ℕ) : List Cut → Type 0 where
 
 module _ {b : Board} (good : Good b) (tw th : ℕ) (tw1 : 1 ≤ tw) (th1 : 1 ≤ th) where
   -- a step along a row keeps the row, a step down the column keeps the column
-  row_kept : (c : ℕ) → suc (place (column-axis b) c) ≢ b.wide → place (row-axis b) (c + 1) ≡ place (row-axis b) c
+  row_kept : (c : ℕ) → suc (place (column_axis b) c) ≢ b.wide → place (row_axis b) (c + 1) ≡ place (row_axis b) c
   unfolding place
   row_kept c q = ap (λ (u : ℕ). u % b.high) same
     where
@@ -76,44 +76,44 @@ module _ {b : Board} (good : Good b) (tw th : ℕ) (tw1 : 1 ≤ tw) (th1 : 1 ≤
           let short : suc (c % b.wide) ≢ b.wide = λ z. q (ap (λ (u : ℕ). suc (u % b.wide)) (div-one c) ∙ z) in
           div-eq_of_lt-le b.wide (omega (arith, div-add-mod' c b.wide)) (omega (arith, div-add-mod' c b.wide, mod-lt c good.wide_low, short))
 
-  column-kept : (c : ℕ) → place (column-axis b) (c + b.wide) ≡ place (column-axis b) c
+  column-kept : (c : ℕ) → place (column_axis b) (c + b.wide) ≡ place (column_axis b) c
   unfolding place
   column-kept c = ap (λ (u : ℕ). u % b.wide) (div-one (c + b.wide)) ∙ add-mod_right c b.wide ∙ ap (λ (u : ℕ). u % b.wide) (sym (div-one c))
 
-  pub columns-straight : Straight b tw th (cut (column-axis b) tw)
-  unfolding tile-of
-  columns-straight = record {
+  pub columns_straight : Straight b tw th (cut (column_axis b) tw)
+  unfolding tile_of
+  columns_straight = record {
     spans = columns-span good;
-    own = λ c q e. tile c q ∙ ap (λ (u : ℕ). place (row-axis b) c / th * up b.wide tw + u) (next-same tw (place (column-axis b) c) tw1 e);
-    apart = λ c q e z. omega (arith, sym (tile c q) ∙ z, next-other tw (place (column-axis b) c) tw1 e);
+    own = λ c q e. tile c q ∙ ap (λ (u : ℕ). place (row_axis b) c / th * up b.wide tw + u) (next-same tw (place (column_axis b) c) tw1 e);
+    apart = λ c q e z. omega (arith, sym (tile c q) ∙ z, next-other tw (place (column_axis b) c) tw1 e);
   }
     where
-      tile : (c : ℕ) → suc (place (column-axis b) c) ≢ b.wide
-          → tile-of b tw th (c + 1) ≡ place (row-axis b) c / th * up b.wide tw + suc (place (column-axis b) c) / tw
+      tile : (c : ℕ) → suc (place (column_axis b) c) ≢ b.wide
+          → tile_of b tw th (c + 1) ≡ place (row_axis b) c / th * up b.wide tw + suc (place (column_axis b) c) / tw
       tile c q = rw (row_kept c q, place-on (columns-span good) c q)
 
-  pub rows-straight : Straight b tw th (cut (row-axis b) th)
-  unfolding tile-of
-  rows-straight = record {
+  pub rows_straight : Straight b tw th (cut (row_axis b) th)
+  unfolding tile_of
+  rows_straight = record {
     spans = rows-span good;
-    own = λ c q e. tile c q ∙ ap (λ (u : ℕ). u * up b.wide tw + place (column-axis b) c / tw) (next-same th (place (row-axis b) c) th1 e);
+    own = λ c q e. tile c q ∙ ap (λ (u : ℕ). u * up b.wide tw + place (column_axis b) c / tw) (next-same th (place (row_axis b) c) th1 e);
     apart = λ c q e z.
         omega (
           arith,
           up-some b.wide tw tw1 good.wide_low,
           sym (tile c q) ∙ z,
-          ap (λ (u : ℕ). u * up b.wide tw) (next-other th (place (row-axis b) c) th1 e),
+          ap (λ (u : ℕ). u * up b.wide tw) (next-other th (place (row_axis b) c) th1 e),
         );
   }
     where
-      tile : (c : ℕ) → suc (place (row-axis b) c) ≢ b.high
-          → tile-of b tw th (c + b.wide) ≡ suc (place (row-axis b) c) / th * up b.wide tw + place (column-axis b) c / tw
+      tile : (c : ℕ) → suc (place (row_axis b) c) ≢ b.high
+          → tile_of b tw th (c + b.wide) ≡ suc (place (row_axis b) c) / th * up b.wide tw + place (column_axis b) c / tw
       tile c q = rw (place-on (rows-span good) c q, column-kept c)
 
   -- a step over to the next storey keeps both
-  storey-kept : (c : ℕ) → tile-of b tw th (c + b.wide * b.high) ≡ tile-of b tw th c
-  unfolding tile-of place
-  storey-kept c = ap₂ (λ (x y : ℕ). x / th * up b.wide tw + y / tw) row column
+  storey_kept : (c : ℕ) → tile_of b tw th (c + b.wide * b.high) ≡ tile_of b tw th c
+  unfolding tile_of place
+  storey_kept c = ap₂ (λ (x y : ℕ). x / th * up b.wide tw + y / tw) row column
     where
       rows : (k : ℕ) → (c + b.wide * k) / b.wide ≡ c / b.wide + k
       rows k = add-mul-div_left c k good.wide_low
@@ -126,31 +126,31 @@ module _ {b : Board} (good : Good b) (tw th : ℕ) (tw1 : 1 ≤ tw) (th1 : 1 ≤
           ap (λ (u : ℕ). u % b.wide) (div-one (c + b.wide * b.high)) ∙ add-mul-mod_self_left c b.wide b.high
           ∙ ap (λ (u : ℕ). u % b.wide) (sym (div-one c))
 
-  pub storeys-straight : Straight b tw th (cut (storey-axis b) b.storeys)
-  storeys-straight = record {
+  pub storeys_straight : Straight b tw th (cut (storey_axis b) b.storeys)
+  storeys_straight = record {
     spans = storeys-span good;
-    own = λ c q e. storey-kept c;
+    own = λ c q e. storey_kept c;
     apart = λ c q e z. q (whole c q e);
   }
     where
       -- a tile begins at the first storey alone
-      whole : (c : ℕ) → suc (place (storey-axis b) c) ≢ b.storeys → suc (place (storey-axis b) c) % b.storeys ≡ 0
-          → suc (place (storey-axis b) c) ≡ b.storeys
+      whole : (c : ℕ) → suc (place (storey_axis b) c) ≢ b.storeys → suc (place (storey_axis b) c) % b.storeys ≡ 0
+          → suc (place (storey_axis b) c) ≡ b.storeys
       whole c q e =
-          let low : suc (place (storey-axis b) c) < b.storeys = omega (arith, place-low (storeys-span good) c, q) in
-          absurd (omega (arith, e, mod-eq_of_lt {n = suc (place (storey-axis b) c)} {m = b.storeys} low))
+          let low : suc (place (storey_axis b) c) < b.storeys = omega (arith, place-low (storeys-span good) c, q) in
+          absurd (omega (arith, e, mod-eq_of_lt {n = suc (place (storey_axis b) c)} {m = b.storeys} low))
 
-  pub all-straight : All-straight b tw th (cuts b tw th)
-  all-straight = also columns-straight (also rows-straight (also storeys-straight none))
+  pub all_straight : All-straight b tw th (cuts b tw th)
+  all_straight = also columns_straight (also rows_straight (also storeys_straight none))
 
 -- ---- what lies between a cell and a neighbour
 data Kind (b : Board) (tw th : ℕ) (s c e : ℕ) : Type 0 where
-  own : s ≡ inside → tile-of b tw th c ≡ tile-of b tw th e → Kind b tw th s c e
-  apart : s ≡ border → tile-of b tw th c ≢ tile-of b tw th e → Kind b tw th s c e
+  own : s ≡ inside → tile_of b tw th c ≡ tile_of b tw th e → Kind b tw th s c e
+  apart : s ≡ border → tile_of b tw th c ≢ tile_of b tw th e → Kind b tw th s c e
 
 module _ {b : Board} {tw th : ℕ} {x : Cut} (st : Straight b tw th x) (c : ℕ) where
-  on-kind : suc (place x.axis c) ≢ x.axis.count → Kind b tw th (seam-on x c) c (c + x.axis.unit)
-  on-kind q =
+  on_kind : suc (place x.axis c) ≢ x.axis.count → Kind b tw th (seam_on x c) c (c + x.axis.unit)
+  on_kind q =
       let i = suc (place x.axis c) in
       let low : i % x.axis.count ≡ i = mod-eq_of_lt (omega (arith, place-low st.spans c, q)) in
       elim (ℕ_discrete (i % x.side) 0) [
@@ -168,45 +168,45 @@ module _ {b : Board} {tw th : ℕ} {x : Cut} (st : Straight b tw th x) (c : ℕ)
   turned (apart p q) = apart p (λ r. q (sym r))
 
   -- the cell is its neighbour's next one
-  back-kind : place x.axis c ≢ 0 → Kind b tw th (seam-back x c) c (c - x.axis.unit)
-  back-kind q =
+  back_kind : place x.axis c ≢ 0 → Kind b tw th (seam_back x c) c (c - x.axis.unit)
+  back_kind q =
       let d = c - x.axis.unit in
       turned
-      (subst (λ u. Kind b tw th (seam-back x c) d u) (back_on st.spans c q)
+      (subst (λ u. Kind b tw th (seam_back x c) d u) (back_on st.spans c q)
       (subst (λ u. Kind b tw th (seam x.axis.count x.side u) d (d + x.axis.unit)) (place-back st.spans c q)
-      (on-kind st d (not_last st.spans c q))))
+      (on_kind st d (not_last st.spans c q))))
 
   -- ---- WHAT IS SEEN across a cell's seams is what the rule sees there
   module _ (g : ℕ → ℕ → ℕ) (f : ℕ → ℕ) where
-    across-kind : (s e : ℕ) → Kind b tw th s c e → across s (f e) (g c e) ≡ ghosted b tw th g f c e
+    across_kind : (s e : ℕ) → Kind b tw th s c e → across s (f e) (g c e) ≡ ghosted b tw th g f c e
     unfolding across
-    across-kind s e (own p q) = rw (p, eq-eqb (tile-of b tw th c) (tile-of b tw th e) q)
-    across-kind s e (apart p q) = rw (p, ne_eqb (tile-of b tw th c) (tile-of b tw th e) q)
+    across_kind s e (own p q) = rw (p, eq-eqb (tile_of b tw th c) (tile_of b tw th e) q)
+    across_kind s e (apart p q) = rw (p, ne_eqb (tile_of b tw th c) (tile_of b tw th e) q)
 
     across-edge : (s e : ℕ) → s ≡ edge → across s (f e) (g c e) ≡ never
     unfolding across
     across-edge s e p = rw p
 
-    pub sees_back : across (seam-back x c) (f (c - x.axis.unit)) (g c (c - x.axis.unit))
+    pub sees_back : across (seam_back x c) (f (c - x.axis.unit)) (g c (c - x.axis.unit))
         ≡ cond (eqb (place x.axis c) 0) never (ghosted b tw th g f c (c - x.axis.unit))
     sees_back = elim (ℕ_discrete (place x.axis c) 0) [
       | yes q ↦ rw (eq-eqb (place x.axis c) 0 q)
           (across-edge _ (c - x.axis.unit)
           (seam-edge x.axis.count x.side (place x.axis c) (ap (λ (u : ℕ). u % x.axis.count) q ∙ zero-mod x.axis.count)))
-      | no q ↦ rw (ne_eqb (place x.axis c) 0 q) (across-kind _ (c - x.axis.unit) (back-kind q))
+      | no q ↦ rw (ne_eqb (place x.axis c) 0 q) (across_kind _ (c - x.axis.unit) (back_kind q))
     ]
 
-    pub sees-on : across (seam-on x c) (f (c + x.axis.unit)) (g c (c + x.axis.unit))
+    pub sees-on : across (seam_on x c) (f (c + x.axis.unit)) (g c (c + x.axis.unit))
         ≡ cond (eqb (suc (place x.axis c)) x.axis.count) never (ghosted b tw th g f c (c + x.axis.unit))
     sees-on = elim (ℕ_discrete (suc (place x.axis c)) x.axis.count) [
       | yes q ↦ rw (eq-eqb (suc (place x.axis c)) x.axis.count q)
           (across-edge _ (c + x.axis.unit)
           (seam-edge x.axis.count x.side (suc (place x.axis c)) (ap (λ (u : ℕ). u % x.axis.count) q ∙ mod_self x.axis.count)))
-      | no q ↦ rw (ne_eqb (suc (place x.axis c)) x.axis.count q) (across-kind _ (c + x.axis.unit) (on-kind st c q))
+      | no q ↦ rw (ne_eqb (suc (place x.axis c)) x.axis.count q) (across_kind _ (c + x.axis.unit) (on_kind st c q))
     ]
 
-    pub sees : {l r : ℕ} → l ≡ across (seam-back x c) (f (c - x.axis.unit)) (g c (c - x.axis.unit))
-        → r ≡ across (seam-on x c) (f (c + x.axis.unit)) (g c (c + x.axis.unit)) → min l r ≡ sight x.axis c (ghosted b tw th g f c)
+    pub sees : {l r : ℕ} → l ≡ across (seam_back x c) (f (c - x.axis.unit)) (g c (c - x.axis.unit))
+        → r ≡ across (seam_on x c) (f (c + x.axis.unit)) (g c (c + x.axis.unit)) → min l r ≡ sight x.axis c (ghosted b tw th g f c)
     unfolding sight
     sees p q = sym (earlier-min _ _) ∙ ap₂ earlier (p ∙ sees_back) (q ∙ sees-on)
 
@@ -219,16 +219,16 @@ unfolding hearer
 hit n k s d e o q z = o (sym q ∙ sym (rw (eq-eqb s k z)))
 
 module _ {b : Board} {tw th : ℕ} (k c d : ℕ) where
-  unlike : {x : Cut} → Straight b tw th x → Next x.axis d c ⊎ Next x.axis c d → d ≢ hearer (size b) (eqb (seam-back x c) k) (c - x.axis.unit)
-      → d ≢ hearer (size b) (eqb (seam-on x c) k) (c + x.axis.unit) → Unlike b tw th k c d
+  unlike : {x : Cut} → Straight b tw th x → Next x.axis d c ⊎ Next x.axis c d → d ≢ hearer (size b) (eqb (seam_back x c) k) (c - x.axis.unit)
+      → d ≢ hearer (size b) (eqb (seam_on x c) k) (c + x.axis.unit) → Unlike b tw th k c d
   unlike {x} st (inl n) o p =
       let e = next-back st.spans n in
-      by (subst (λ u. Kind b tw th (seam-back x c) c u) e (back-kind st c (next-first st.spans n))) (hit (size b) k _ d _ o e)
-  unlike {x} st (inr n) o p = by (subst (λ u. Kind b tw th (seam-on x c) c u) n.step (on-kind st c n.inner)) (hit (size b) k _ d _ p n.step)
+      by (subst (λ u. Kind b tw th (seam_back x c) c u) e (back_kind st c (next-first st.spans n))) (hit (size b) k _ d _ o e)
+  unlike {x} st (inr n) o p = by (subst (λ u. Kind b tw th (seam_on x c) c u) n.step (on_kind st c n.inner)) (hit (size b) k _ d _ p n.step)
 
   untold : (xs : List Cut) → All-straight b tw th xs → Near (map (λ x. x.axis) xs) d c → Out d (near_on xs (size b) k c) → Unlike b tw th k c d
   untold [] none n o = absurd (none-near [] refl n)
-  untold (x ∷ xs) (also st ss) n o = go (near-which n) (untold xs ss)
+  untold (x ∷ xs) (also st ss) n o = go (near_which n) (untold xs ss)
     where
       go : (Next x.axis d c ⊎ Next x.axis c d) ⊎ Near (map (λ x. x.axis) xs) d c
           → (Near (map (λ x. x.axis) xs) d c → Out d (near_on xs (size b) k c) → Unlike b tw th k c d) → Unlike b tw th k c d
@@ -237,19 +237,19 @@ module _ {b : Board} {tw th : ℕ} (k c d : ℕ) where
 
 module _ {b : Board} (good : Good b) (tw th : ℕ) (tw1 : 1 ≤ tw) (th1 : 1 ≤ th) (c d : ℕ) where
   -- a neighbour that is not told within the tile is of another tile
-  pub untold-inside : Neighbour b d c → Out d (near b tw th inside c) → tile-of b tw th d ≢ tile-of b tw th c
+  pub untold_inside : Neighbour b d c → Out d (near b tw th inside c) → tile_of b tw th d ≢ tile_of b tw th c
   unfolding near
-  untold-inside n o = go (untold inside c d _ (all-straight good tw th tw1 th1) n o)
+  untold_inside n o = go (untold inside c d _ (all_straight good tw th tw1 th1) n o)
     where
-      go : Unlike b tw th inside c d → tile-of b tw th d ≢ tile-of b tw th c
+      go : Unlike b tw th inside c d → tile_of b tw th d ≢ tile_of b tw th c
       go (by (own p q) z) = absurd (z p)
       go (by (apart p q) z) = λ r. q (sym r)
 
   -- and one that is not told across a border is of the same tile
-  pub untold-border : Neighbour b d c → Out d (near b tw th border c) → tile-of b tw th d ≡ tile-of b tw th c
+  pub untold_border : Neighbour b d c → Out d (near b tw th border c) → tile_of b tw th d ≡ tile_of b tw th c
   unfolding near
-  untold-border n o = go (untold border c d _ (all-straight good tw th tw1 th1) n o)
+  untold_border n o = go (untold border c d _ (all_straight good tw th tw1 th1) n o)
     where
-      go : Unlike b tw th border c d → tile-of b tw th d ≡ tile-of b tw th c
+      go : Unlike b tw th border c d → tile_of b tw th d ≡ tile_of b tw th c
       go (by (own p q) z) = sym q
       go (by (apart p q) z) = absurd (z p)

@@ -1,15 +1,15 @@
 -- The beginning of a round: the work list emptied, starts placed in it one after the other or part by part, and then gathered in the queue.
 use Rattle.std.proofs.Common.{◌≡◌, ℕ, zero, suc, ◌+◌, ◌*◌, ◌<◌, ◌≤◌, min, Bool, true, false, cond, ◌&&◌, eqb, ltb, leb, ◌≢◌, List, [], ◌∷◌, ◌++◌, length, get_or, take, set, sym, refl, ◌∙◌, subst, inr, arith, length-set, length-take, get_or-set_other, take-suc, get_or-set_same, ltb-false, ltb-true, eq-eqb, ne_eqb, eqb-true, leb-true}
 use native.Mathlib.Decide.{ℕ_discrete}
-use Rattle.eikonal.specs.Board.{never, start-time}
+use Rattle.eikonal.specs.Board.{never, start_time}
 use Rattle.eikonal.specs.declared.Start.{Start}
-use Rattle.eikonal.specs.Refusals.{late, starts-of}
-use Rattle.eikonal.specs.Inner.Good.{starts-rise}
+use Rattle.eikonal.specs.Refusals.{late, starts_of}
+use Rattle.eikonal.specs.Inner.Good.{starts_rise}
 use Rattle.eikonal.proofs.Good.{and-true, or-false}
-use Rattle.eikonal.proofs.StartLists.{starts-of-append, starts-of-take}
+use Rattle.eikonal.proofs.StartLists.{starts_of-append, starts_of-take}
 use Rattle.queue.specs.Lists.{Filled}
 use Rattle.queue.specs.Heap.{Put}
-use Rattle.queue.proofs.Heap.{heap-empty, keys-empty}
+use Rattle.queue.proofs.Heap.{heap_empty, keys_empty}
 use Rattle.front.specs.Board.{tentative, Work, at}
 use Rattle.front.specs.State.{soonest, Placed, Seeded, Empty, Gathered}
 
@@ -25,57 +25,57 @@ soonest-append c [] ys = omega (arith, soonest-small c ys)
 soonest-append c (x ∷ xs) ys = omega (arith, soonest-append c xs ys)
 
 -- none of the starts is at a cell below their first
-none_below : (n l : ℕ) (xs : List Start) → starts-rise n l xs ≡ true → (c : ℕ) → c < l → soonest c xs ≡ never
-unfolding soonest starts-rise
+none_below : (n l : ℕ) (xs : List Start) → starts_rise n l xs ≡ true → (c : ℕ) → c < l → soonest c xs ≡ never
+unfolding soonest starts_rise
 none_below n l [] e c h = refl
 none_below n l (x ∷ xs) e c h =
-    let r = and-true (leb l x.cell && ltb x.cell n) (starts-rise n (suc x.cell) xs) e in
+    let r = and-true (leb l x.cell && ltb x.cell n) (starts_rise n (suc x.cell) xs) e in
     let low = leb-true l x.cell (and-true (leb l x.cell) (ltb x.cell n) r.0).0 in
     rw (ne_eqb x.cell c (omega arith), none_below n (suc x.cell) xs r.1 c (omega arith)) (omega arith)
 
 -- of accepted starts, whose cells rise, a cell has one at most
-pub soonest-is : (n l : ℕ) (xs : List Start) → starts-rise n l xs ≡ true → late xs ≡ false → (c : ℕ) → soonest c xs ≡ start-time c xs
-unfolding soonest starts-rise late start-time
+pub soonest-is : (n l : ℕ) (xs : List Start) → starts_rise n l xs ≡ true → late xs ≡ false → (c : ℕ) → soonest c xs ≡ start_time c xs
+unfolding soonest starts_rise late start_time
 soonest-is n l [] e f c = refl
 soonest-is n l (x ∷ xs) e f c =
-    let r = and-true (leb l x.cell && ltb x.cell n) (starts-rise n (suc x.cell) xs) e in
+    let r = and-true (leb l x.cell && ltb x.cell n) (starts_rise n (suc x.cell) xs) e in
     let g = or-false (ltb 1000000 x.time) (late xs) f in
     go (eqb x.cell c) refl (ltb-false 1000000 x.time g.0) (none_below n (suc x.cell) xs r.1 c) (soonest-is n (suc x.cell) xs r.1 g.1 c)
   where
-    go : (p : Bool) → eqb x.cell c ≡ p → x.time ≤ 1000000 → (c < suc x.cell → soonest c xs ≡ never) → soonest c xs ≡ start-time c xs
-        → min (cond p x.time never) (soonest c xs) ≡ cond p x.time (start-time c xs)
+    go : (p : Bool) → eqb x.cell c ≡ p → x.time ≤ 1000000 → (c < suc x.cell → soonest c xs ≡ never) → soonest c xs ≡ start_time c xs
+        → min (cond p x.time never) (soonest c xs) ≡ cond p x.time (start_time c xs)
     go true q h a k = rw (a (omega (arith, eqb-true x.cell c q))) (omega arith)
     go false q h a k = rw k (omega (arith, k, soonest-small c xs))
 
 -- the cells of accepted starts are on the board
-pub starts-on : (n l : ℕ) (cs ts : List ℕ) → length cs ≡ length ts → starts-rise n l (starts-of cs ts) ≡ true → (i : ℕ) → i < length cs → get_or cs i 0 < n
-unfolding starts-of starts-rise
+pub starts-on : (n l : ℕ) (cs ts : List ℕ) → length cs ≡ length ts → starts_rise n l (starts_of cs ts) ≡ true → (i : ℕ) → i < length cs → get_or cs i 0 < n
+unfolding starts_of starts_rise
 starts-on n l [] ts q e i h = absurd (omega arith)
 starts-on n l (c ∷ cs) [] q e i h = absurd (omega arith)
 starts-on n l (c ∷ cs) (t ∷ ts) q e zero h =
-    let r = and-true (leb l c && ltb c n) (starts-rise n (suc c) (starts-of cs ts)) e in
+    let r = and-true (leb l c && ltb c n) (starts_rise n (suc c) (starts_of cs ts)) e in
     ltb-true c n (and-true (leb l c) (ltb c n) r.0).1
 starts-on n l (c ∷ cs) (t ∷ ts) q e (suc i) h =
-    let r = and-true (leb l c && ltb c n) (starts-rise n (suc c) (starts-of cs ts)) e in
+    let r = and-true (leb l c && ltb c n) (starts_rise n (suc c) (starts_of cs ts)) e in
     starts-on n (suc c) cs ts (omega arith) r.1 i (omega arith)
 
 -- ---- the work list emptied
 pub emptied : {n : ℕ} {v v' : List ℕ} → 4 * n ≤ length v → Filled (2 * n) (3 * n) never v v' → Empty n v v'
 emptied {n} {v} {v'} h b = record {
-  placed = record { room = omega (arith, b.long); small = λ c l. omega (arith, never-now c l) };
+  placed = record { room = omega (arith, b.long); small = λ c l. omega (arith, never_now c l) };
   long = b.long;
   rest = λ j l. b.outside j (inr l);
-  times = never-now;
+  times = never_now;
 }
   where
-    never-now : (c : ℕ) → c < n → tentative v' n c ≡ never
-    never-now c l = b.inside (2 * n + c) (omega arith) (omega arith)
+    never_now : (c : ℕ) → c < n → tentative v' n c ≡ never
+    never_now c l = b.inside (2 * n + c) (omega arith) (omega arith)
 
 -- ---- one start placed
 module _ {n : ℕ} {v : List ℕ} (pl : Placed n v) {e x : ℕ} (l : e < n) where
   -- an earlier start is placed
-  pub placed-earlier : x < tentative v n e → Seeded n (starts-of (e ∷ []) (x ∷ [])) v (set v (2 * n + e) x)
-  unfolding soonest starts-of
+  pub placed-earlier : x < tentative v n e → Seeded n (starts_of (e ∷ []) (x ∷ [])) v (set v (2 * n + e) x)
+  unfolding soonest starts_of
   placed-earlier low = record {
     placed = record { room = rw length-set pl.room; small = λ d m. omega (arith, now d m, pl.small d m) };
     long = length-set v (2 * n + e) x;
@@ -96,9 +96,9 @@ module _ {n : ℕ} {v : List ℕ} (pl : Placed n v) {e x : ℕ} (l : e < n) wher
       ]
 
   -- one that is no earlier leaves all as it is
-  pub placed-later : tentative v n e ≤ x → Seeded n (starts-of (e ∷ []) (x ∷ [])) v v
-  unfolding soonest starts-of
-  placed-later high = record { placed = pl; long = refl; rest = λ j m. refl; times = now }
+  pub placed_later : tentative v n e ≤ x → Seeded n (starts_of (e ∷ []) (x ∷ [])) v v
+  unfolding soonest starts_of
+  placed_later high = record { placed = pl; long = refl; rest = λ j m. refl; times = now }
     where
       now : (d : ℕ) → d < n → tentative v n d ≡ min (tentative v n d) (min (cond (eqb e d) x never) never)
       now d m = elim (ℕ_discrete d e) [
@@ -107,13 +107,13 @@ module _ {n : ℕ} {v : List ℕ} (pl : Placed n v) {e x : ℕ} (l : e < n) wher
       ]
 
 -- ---- several starts placed
-pub seeded-none : {n : ℕ} {v : List ℕ} → Placed n v → Seeded n [] v v
+pub seeded_none : {n : ℕ} {v : List ℕ} → Placed n v → Seeded n [] v v
 unfolding soonest
-seeded-none pl = record { placed = pl; long = refl; rest = λ j l. refl; times = λ c l. omega (arith, pl.small c l) }
+seeded_none pl = record { placed = pl; long = refl; rest = λ j l. refl; times = λ c l. omega (arith, pl.small c l) }
 
 -- a part after a part
-pub seeded-parts : {n : ℕ} {xs ys : List Start} {v u v' : List ℕ} → Seeded n xs v u → Seeded n ys u v' → Seeded n (xs ++ ys) v v'
-seeded-parts {n} {xs} {ys} {v} {u} {v'} a b = record {
+pub seeded_parts : {n : ℕ} {xs ys : List Start} {v u v' : List ℕ} → Seeded n xs v u → Seeded n ys u v' → Seeded n (xs ++ ys) v v'
+seeded_parts {n} {xs} {ys} {v} {u} {v'} a b = record {
   placed = b.placed;
   long = b.long ∙ a.long;
   rest = λ j l. b.rest j l ∙ a.rest j l;
@@ -121,37 +121,37 @@ seeded-parts {n} {xs} {ys} {v} {u} {v'} a b = record {
 }
 
 -- the next entry of both lists, after the first i
-pub seeded-next : {n : ℕ} {v u v' : List ℕ} (cs ts : List ℕ) (i : ℕ) → i < length cs → i < length ts
-    → Seeded n (starts-of (take i cs) (take i ts)) v u → Seeded n (starts-of (get_or cs i 0 ∷ []) (get_or ts i 0 ∷ [])) u v'
-    → Seeded n (starts-of (take (suc i) cs) (take (suc i) ts)) v v'
-seeded-next {n} {v} {u} {v'} cs ts i h k a b =
+pub seeded_next : {n : ℕ} {v u v' : List ℕ} (cs ts : List ℕ) (i : ℕ) → i < length cs → i < length ts
+    → Seeded n (starts_of (take i cs) (take i ts)) v u → Seeded n (starts_of (get_or cs i 0 ∷ []) (get_or ts i 0 ∷ [])) u v'
+    → Seeded n (starts_of (take (suc i) cs) (take (suc i) ts)) v v'
+seeded_next {n} {v} {u} {v'} cs ts i h k a b =
     let level : length (take i cs) ≡ length (take i ts) = simp length-take (omega arith) in
-    rw (take-suc cs i 0, take-suc ts i 0, starts-of-append (take i cs) (take i ts) (get_or cs i 0 ∷ []) (get_or ts i 0 ∷ []) level) (seeded-parts a b)
+    rw (take-suc cs i 0, take-suc ts i 0, starts_of-append (take i cs) (take i ts) (get_or cs i 0 ∷ []) (get_or ts i 0 ∷ []) level) (seeded_parts a b)
 
 -- and in the end all of them
-pub seeded-all : {n : ℕ} {v v' : List ℕ} (cs ts : List ℕ) (i : ℕ) → length cs ≤ i → Seeded n (starts-of (take i cs) (take i ts)) v v'
-    → Seeded n (starts-of cs ts) v v'
-seeded-all {n} {v} {v'} cs ts i h a = subst (λ xs. Seeded n xs v v') (starts-of-take i cs ts (omega arith)) a
+pub seeded_all : {n : ℕ} {v v' : List ℕ} (cs ts : List ℕ) (i : ℕ) → length cs ≤ i → Seeded n (starts_of (take i cs) (take i ts)) v v'
+    → Seeded n (starts_of cs ts) v v'
+seeded_all {n} {v} {v'} cs ts i h a = subst (λ xs. Seeded n xs v v') (starts_of-take i cs ts (omega arith)) a
 
 -- FROM NOTHING a cell's tentative time is its soonest start
-pub seeded-soonest : {n : ℕ} {xs : List Start} {w v v' : List ℕ} → Empty n w v → Seeded n xs v v' → (c : ℕ) → c < n → tentative v' n c ≡ soonest c xs
-seeded-soonest {n} {xs} a b c l = omega (arith, b.times c l, a.times c l, soonest-small c xs)
+pub seeded_soonest : {n : ℕ} {xs : List Start} {w v v' : List ℕ} → Empty n w v → Seeded n xs v v' → (c : ℕ) → c < n → tentative v' n c ≡ soonest c xs
+seeded_soonest {n} {xs} a b c l = omega (arith, b.times c l, a.times c l, soonest-small c xs)
 
 -- ---- STARTS ARE GATHERED in the queue: those of the cells from lo on and below c, and no other cell is pending
 module _ {n : ℕ} (lo : ℕ) {v : List ℕ} where
-  pub gather-begins : n ≤ 65536 → Gathered n lo lo v (at v 0)
-  gather-begins few = record {
+  pub gather_begins : n ≤ 65536 → Gathered n lo lo v (at v 0)
+  gather_begins few = record {
     long = refl;
-    heap = heap-empty v n few;
+    heap = heap_empty v n few;
     even = λ d i. absurd (omega arith);
-    others = λ d o. keys-empty v d;
+    others = λ d o. keys_empty v d;
     rest = λ j l. refl;
   }
 
   module _ {c : ℕ} {v' : Work} (ga : Gathered n lo c v v') where
     -- a cell with a time becomes pending
-    pub gather-goes-on : {t r : ℕ} {u : List ℕ} → t ≡ tentative v n c → Put v'.list v'.size n c t u r → lo ≤ c → Gathered n lo (suc c) v (at u r)
-    gather-goes-on q put k = record {
+    pub gather_goes_on : {t r : ℕ} {u : List ℕ} → t ≡ tentative v n c → Put v'.list v'.size n c t u r → lo ≤ c → Gathered n lo (suc c) v (at u r)
+    gather_goes_on q put k = record {
       long = put.long ∙ ga.long;
       heap = put.heap;
       even = λ d i. elim (ℕ_discrete d c) [
@@ -163,8 +163,8 @@ module _ {n : ℕ} (lo : ℕ) {v : List ℕ} where
     }
 
     -- one without a time does not
-    pub gather-passes : tentative v n c ≡ never → Gathered n lo (suc c) v v'
-    gather-passes q = record {
+    pub gather_passes : tentative v n c ≡ never → Gathered n lo (suc c) v v'
+    gather_passes q = record {
       long = ga.long;
       heap = ga.heap;
       even = λ d i. elim (ℕ_discrete d c) [

@@ -3,25 +3,25 @@ use Rattle.std.proofs.Common.{◌≡◌, ℕ, suc, ◌+◌, ◌*◌, ◌/◌, �
 use native.Mathlib.Decide.{ℕ_discrete}
 use native.Mathlib.Nat.{mod_self, mod-one, zero-mod, add-mod_right}
 use Rattle.eikonal.specs.Axes.{place}
-use Rattle.eikonal.specs.Board.{never, size, column-axis, row-axis}
-use Rattle.eikonal.specs.Tiles.{tile-of, counts-as}
+use Rattle.eikonal.specs.Board.{never, size, column_axis, row_axis}
+use Rattle.eikonal.specs.Tiles.{tile_of, counts_as}
 use Rattle.eikonal.specs.Promise.{Neighbour}
 use Rattle.eikonal.specs.Inner.Clip.{clip}
 use Rattle.eikonal.proofs.Levels.{order}
 use Rattle.one_tile.proofs.March.{same-tile}
 use Rattle.front.specs.Front.{Among, among, ghosted, heard, Out, Midway, Upheld}
-use Rattle.front.specs.Seams.{Cut, cut, stack-cut, seam, seam-back, seam-on, inside, hearer, near}
-use Rattle.front.specs.Board.{land, rule-at, tentative, Work, keys, Ground}
+use Rattle.front.specs.Seams.{Cut, cut, stack_cut, seam, seam_back, seam_on, inside, hearer, near}
+use Rattle.front.specs.Board.{land, rule_at, tentative, Work, keys, Ground}
 use Rattle.front.specs.State.{Held, Told, all, Placed, Gathered, Ready, Apart, Ready-among, Drained, Inner, Woken, Parted, Strip, Worked}
 use Rattle.front.specs.declared.Shape.{Shape}
 use Rattle.front.proofs.Theory.Front.{Lawful, ended}
-use Rattle.front.proofs.Theory.Among.{which, among_in, among-out, among-lawful, told-among, told-within}
+use Rattle.front.proofs.Theory.Among.{which, among_in, among-out, among_lawful, told-among, told-within}
 use Rattle.front.proofs.Theory.Sight.{gives_same, gives-late}
-use Rattle.front.proofs.Theory.Seams.{untold-inside, seam-edge, seam-border, seam-inside}
+use Rattle.front.proofs.Theory.Seams.{untold_inside, seam-edge, seam-border, seam-inside}
 use Rattle.front.proofs.Theory.Reading.{cells-size, rows_whole}
 use Rattle.front.proofs.Theory.Relaxing.{hearer-some, hearer-none}
-use Rattle.front.proofs.Theory.Telling.{told-held, told-long, told-rest, told-upheld, told-midway}
-use Rattle.front.proofs.Theory.Beginning.{gathered-held, gathered-silent, gathered-within, gathered-upheld, times-small, arrival-quiet}
+use Rattle.front.proofs.Theory.Telling.{told-held, told-long, told-rest, told-upheld, told_midway}
+use Rattle.front.proofs.Theory.Beginning.{gathered_held, gathered_silent, gathered_within, gathered_upheld, times-small, arrival_quiet}
 use Rattle.front.proofs.Theory.Waking.{swapped}
 use Rattle.front.proofs.Theory.Draining.{lawful}
 
@@ -30,13 +30,13 @@ module _ {s : Shape} {slow ts cols rows : List ℕ} (gr : Ground s slow ts cols 
   n = s.cells
 
   abbrev L : ℕ → (ℕ → ℕ) → ℕ
-  L = rule-at s slow ts
+  L = rule_at s slow ts
 
   abbrev tile : ℕ → ℕ
-  tile = tile-of (land s slow) s.across s.down
+  tile = tile_of (land s slow) s.across s.down
 
   abbrev ghost : (d e : ℕ) → ℕ
-  ghost d e = counts-as (land s slow) ts e
+  ghost d e = counts_as (land s slow) ts e
 
   -- ---- of cells that are apart
   module _ {lo hi : ℕ} (apart : Apart s slow lo hi) (fits : hi ≤ n) where
@@ -44,20 +44,20 @@ module _ {s : Shape} {slow ts cols rows : List ℕ} (gr : Ground s slow ts cols 
     on c i = omega (arith, i, fits, cells-size gr)
 
     -- a neighbour in the same tile is one of them
-    same-tile-in : (c e : ℕ) → Among lo hi c → e < size (land s slow) → Neighbour (land s slow) c e → tile c ≡ tile e → Among lo hi e
-    same-tile-in c e i l nb q = ⊎_elim (λ j. j)
-        (λ o. absurd (untold-inside gr.good s.across s.down gr.across gr.down c e (swapped (land s slow) c e nb)
+    same-tile_in : (c e : ℕ) → Among lo hi c → e < size (land s slow) → Neighbour (land s slow) c e → tile c ≡ tile e → Among lo hi e
+    same-tile_in c e i l nb q = ⊎_elim (λ j. j)
+        (λ o. absurd (untold_inside gr.good s.across s.down gr.across gr.down c e (swapped (land s slow) c e nb)
         (apart c e i (omega (arith, cells-size gr)) o) (sym q)))
         (which lo hi e)
 
     -- so the rule goes by their times alone
-    by-them : (c : ℕ) → Among lo hi c → (f g : ℕ → ℕ) → ((e : ℕ) → Among lo hi e → f e ≡ g e) → L c f ≡ L c g
-    by-them c i f g same = gives_same gr.good s.across s.down ghost ghost c (on c i) f g alike
+    by_them : (c : ℕ) → Among lo hi c → (f g : ℕ → ℕ) → ((e : ℕ) → Among lo hi e → f e ≡ g e) → L c f ≡ L c g
+    by_them c i f g same = gives_same gr.good s.across s.down ghost ghost c (on c i) f g alike
       where
         alike : (e : ℕ) → e < size (land s slow) → Neighbour (land s slow) c e
             → ghosted (land s slow) s.across s.down ghost f c e ≡ ghosted (land s slow) s.across s.down ghost g c e
         alike e l nb = elim (ℕ_discrete (tile c) (tile e)) [
-          | yes q ↦ rw (same e (same-tile-in c e i l nb q))
+          | yes q ↦ rw (same e (same-tile_in c e i l nb q))
           | no q ↦ rw (ne_eqb (tile c) (tile e) q)
         ]
 
@@ -68,17 +68,17 @@ module _ {s : Shape} {slow ts cols rows : List ℕ} (gr : Ground s slow ts cols 
       at_first = heard (tentative g.list n) (keys g)
 
       law : Lawful n (among lo hi L)
-      law = among-lawful lo hi L (lawful gr)
+      law = among_lawful lo hi L (lawful gr)
 
       -- an inner cell is given no time
       quiet : (c : ℕ) → Among lo hi c → Inner (land s slow) s.across s.down c → L c at_first ≡ never
-      quiet c i own = rw (arrival-quiet gr.good c (on c i) (ghosted (land s slow) s.across s.down ghost at_first c) seen)
+      quiet c i own = rw (arrival_quiet gr.good c (on c i) (ghosted (land s slow) s.across s.down ghost at_first c) seen)
         where
           seen : (e : ℕ) → e < size (land s slow) → Neighbour (land s slow) c e
               → ghosted (land s slow) s.across s.down ghost at_first c e ≡ never
           seen e l nb =
               rw (eq-eqb (tile c) (tile e) (own e l nb))
-              (gathered-silent pl ga e (omega (arith, cells-size gr)) (same-tile-in c e i l nb (own e l nb)))
+              (gathered_silent pl ga e (omega (arith, cells-size gr)) (same-tile_in c e i l nb (own e l nb)))
 
       late : Midway n (among lo hi L) 0 (λ d. Out d wo.cells × Unit {0}) (tentative g.list n) (keys g)
       late = record {
@@ -96,27 +96,27 @@ module _ {s : Shape} {slow ts cols rows : List ℕ} (gr : Ground s slow ts cols 
       told = told-among lo hi L (λ d l o. wo.within d o) wo.told
 
       held : Held n w
-      held = told-held (gathered-held pl ga) told
+      held = told-held (gathered_held pl ga) told
 
-      pub strip-ready : Ready-among s slow ts lo hi w
-      strip-ready = record {
+      pub strip_ready : Ready-among s slow ts lo hi w
+      strip_ready = record {
         ready = record {
           held = held;
-          settled = λ c l. (told-midway law (λ e k f. omega arith) (λ d. Unit {0}) (gathered-held pl ga) told late).settled c l tt;
+          settled = λ c l. (told_midway law (λ e k f. omega arith) (λ d. Unit {0}) (gathered_held pl ga) told late).settled c l tt;
         };
         within = λ c l h. ⊎_elim (λ i. i)
-            (λ o. gathered-within pl ga c (omega (arith, h, told-within lo hi L wo.told c l (wo.within c o))))
+            (λ o. gathered_within pl ga c (omega (arith, h, told-within lo hi L wo.told c l (wo.within c o))))
             (which lo hi c);
         apart = apart;
       }
 
-      pub strip-done : {bound m : ℕ} {u : Work} → bound < never → Drained n bound m (among lo hi L) w u → Worked n L bound lo hi v u.list
-      strip-done {bound} {m} {u} b dr = record {
+      pub strip_done : {bound m : ℕ} {u : Work} → bound < never → Drained n bound m (among lo hi L) w u → Worked n L bound lo hi v u.list
+      strip_done {bound} {m} {u} b dr = record {
         placed = record { room = dr.held.room; small = dr.held.tied.small };
         long = dr.long ∙ told-long told ∙ ga.long;
         past = λ j l. dr.past j l ∙ told-rest told j (omega arith) ∙ ga.rest j (omega arith);
         meets = λ c i.
-            ended law dr.held.tied dr.settled up b dr.keys-past c (omega (arith, fits))
+            ended law dr.held.tied dr.settled up b dr.keys_past c (omega (arith, fits))
             ∙ ap (λ x. clip bound (min (tentative v n c) x)) (among_in lo hi L c i (λ e. clip bound (tentative u.list n e)));
         others = λ c l o.
             let none = among-out lo hi L c o (tentative u.list n) in
@@ -124,7 +124,7 @@ module _ {s : Shape} {slow ts cols rows : List ℕ} (gr : Ground s slow ts cols 
       }
         where
           up : Upheld n (among lo hi L) (tentative v n) (tentative u.list n)
-          up = dr.upheld (tentative v n) (told-upheld law (tentative v n) told (gathered-upheld pl ga (among lo hi L)))
+          up = dr.upheld (tentative v n) (told-upheld law (tentative v n) told (gathered_upheld pl ga (among lo hi L)))
 
   -- ---- STRIP AFTER STRIP, from the top
   pub none-worked : {bound : ℕ} {v : List ℕ} → Placed n v → Worked n L bound 0 0 v v
@@ -136,9 +136,9 @@ module _ {s : Shape} {slow ts cols rows : List ℕ} (gr : Ground s slow ts cols 
     others = λ c l o. refl;
   }
 
-  pub strips-more : {bound k m : ℕ} {v u w : List ℕ} → Apart s slow 0 k → k ≤ m → m ≤ n → Worked n L bound 0 k v u → Worked n L bound k m u w
+  pub strips_more : {bound k m : ℕ} {v u w : List ℕ} → Apart s slow 0 k → k ≤ m → m ≤ n → Worked n L bound 0 k v u → Worked n L bound k m u w
       → Worked n L bound 0 m v w
-  strips-more {bound} {k} {m} {v} {u} {w} apart up fits a b = record {
+  strips_more {bound} {k} {m} {v} {u} {w} apart up fits a b = record {
     placed = b.placed;
     long = b.long ∙ a.long;
     past = λ j l. b.past j l ∙ a.past j l;
@@ -153,7 +153,7 @@ module _ {s : Shape} {slow ts cols rows : List ℕ} (gr : Ground s slow ts cols 
       old c l =
           ap (clip bound) (kept c l) ∙ a.meets c (omega arith, l)
           ∙ ap (λ x. clip bound (min (tentative v n c) x))
-          (by-them apart (omega arith) c (omega arith, l) _ _ (λ e i. ap (clip bound) (sym (kept e i.1))))
+          (by_them apart (omega arith) c (omega arith, l) _ _ (λ e i. ap (clip bound) (sym (kept e i.1))))
 
       new : (c : ℕ) → k ≤ c → c < m → clip bound (tentative w n c) ≡ clip bound (min (tentative v n c) (L c (λ e. clip bound (tentative w n e))))
       new c l z =
@@ -187,24 +187,24 @@ module _ {s : Shape} {slow ts cols rows : List ℕ} (gr : Ground s slow ts cols 
     inner_back n k i q z = omega (arith, sym q ∙ seam-edge n k i z)
 
     abbrev columns : Cut
-    columns = cut (column-axis (land s slow)) s.across
+    columns = cut (column_axis (land s slow)) s.across
 
     abbrev lines : Cut
-    lines = cut (row-axis (land s slow)) s.down
+    lines = cut (row_axis (land s slow)) s.down
 
-    pub parted-apart : Apart s slow (from * w) (end * w)
+    pub parted_apart : Apart s slow (from * w) (end * w)
     unfolding place near
-    parted-apart c d i l o = (
-      out (seam-back columns c) _ (λ q. let p = inner_back w s.across _ q in (omega (arith, row, left p), omega arith)),
+    parted_apart c d i l o = (
+      out (seam_back columns c) _ (λ q. let p = inner_back w s.across _ q in (omega (arith, row, left p), omega arith)),
       (
-        out (seam-on columns c) _ (λ q. let p = inner_back w s.across _ q in (omega arith, omega (arith, row, right p, low_end))),
+        out (seam_on columns c) _ (λ q. let p = inner_back w s.across _ q in (omega arith, omega (arith, row, right p, low_end))),
         (
-          out (seam-back lines c) _ (λ q. (omega (arith, parts, mul-le-mul_right w (above q)), omega arith)),
+          out (seam_back lines c) _ (λ q. (omega (arith, parts, mul-le-mul_right w (above q)), omega arith)),
           (
-            out (seam-on lines c) _ (λ q. (omega arith, omega (arith, parts, mod-lt c gr.good.wide_low, mul-le-mul_right w (below q)))),
+            out (seam_on lines c) _ (λ q. (omega arith, omega (arith, parts, mod-lt c gr.good.wide_low, mul-le-mul_right w (below q)))),
             (
-              out (seam-back (stack-cut (land s slow)) c) _ (λ q. absurd (flat _ q)),
-              (out (seam-on (stack-cut (land s slow)) c) _ (λ q. absurd (flat _ q)), tt),
+              out (seam_back (stack_cut (land s slow)) c) _ (λ q. absurd (flat _ q)),
+              (out (seam_on (stack_cut (land s slow)) c) _ (λ q. absurd (flat _ q)), tt),
             ),
           ),
         ),
@@ -228,33 +228,33 @@ module _ {s : Shape} {slow ts cols rows : List ℕ} (gr : Ground s slow ts cols 
         flat i q = omega (arith, sym q ∙ seam-edge s.storeys s.storeys i (ap (λ (u : ℕ). i % u) pa.flat ∙ mod-one i))
 
         -- the cell's places are its column and its row
-        column-is : place (column-axis (land s slow)) c ≡ c % w
+        column-is : place (column_axis (land s slow)) c ≡ c % w
         column-is = ap (λ (u : ℕ). u % w) (div-one c)
 
-        line-is : place (row-axis (land s slow)) c ≡ c / w
-        line-is = mod-eq_of_lt (omega (arith, at, pa.fits))
+        line_is : place (row_axis (land s slow)) c ≡ c / w
+        line_is = mod-eq_of_lt (omega (arith, at, pa.fits))
 
-        left : place (column-axis (land s slow)) c % w ≢ 0 → 1 ≤ c % w
+        left : place (column_axis (land s slow)) c % w ≢ 0 → 1 ≤ c % w
         left p = elim (ℕ_discrete (c % w) 0) [
           | yes z ↦ absurd (p (ap (λ (u : ℕ). u % w) (column-is ∙ z) ∙ zero-mod w))
           | no z ↦ omega arith
         ]
 
-        right : suc (place (column-axis (land s slow)) c) % w ≢ 0 → suc (c % w) < w
+        right : suc (place (column_axis (land s slow)) c) % w ≢ 0 → suc (c % w) < w
         right p = elim (ℕ_discrete (suc (c % w)) w) [
           | yes z ↦ absurd (p (ap (λ (u : ℕ). suc u % w) column-is ∙ ap (λ (u : ℕ). u % w) z ∙ mod_self w))
           | no z ↦ omega (arith, mod-lt c gr.good.wide_low)
         ]
 
-        above : seam-back lines c ≡ inside → suc from ≤ c / w
+        above : seam_back lines c ≡ inside → suc from ≤ c / w
         above q = elim (ℕ_discrete (c / w) from) [
-          | yes z ↦ absurd (pa.before (ap (λ (u : ℕ). seam s.height s.down u) (sym z ∙ sym line-is) ∙ q))
+          | yes z ↦ absurd (pa.before (ap (λ (u : ℕ). seam s.height s.down u) (sym z ∙ sym line_is) ∙ q))
           | no z ↦ omega (arith, at)
         ]
 
-        below : seam-on lines c ≡ inside → suc (suc (c / w)) ≤ end
+        below : seam_on lines c ≡ inside → suc (suc (c / w)) ≤ end
         below q = elim (ℕ_discrete (suc (c / w)) end) [
-          | yes z ↦ absurd (pa.behind (ap (λ (u : ℕ). seam s.height s.down u) (sym z ∙ ap suc (sym line-is)) ∙ q))
+          | yes z ↦ absurd (pa.behind (ap (λ (u : ℕ). seam s.height s.down u) (sym z ∙ ap suc (sym line_is)) ∙ q))
           | no z ↦ omega (arith, at)
         ]
 
@@ -264,24 +264,24 @@ module _ {s : Shape} {slow ts cols rows : List ℕ} (gr : Ground s slow ts cols 
           | no q ↦ omega (arith, l, z, hearer-none (size (land s slow)) inside mark e q, cells-size gr)
         ]
 
-    pub parted-strip : Strip s slow from end
-    parted-strip = record { up = pa.up; fits = omega (arith, pa.fits, pa.flat, flat-lines pa.flat); apart = parted-apart }
+    pub parted_strip : Strip s slow from end
+    parted_strip = record { up = pa.up; fits = omega (arith, pa.fits, pa.flat, flat-lines pa.flat); apart = parted_apart }
 
   -- all rows of a house
-  pub all-strip : Strip s slow 0 (s.height * s.storeys)
-  all-strip = record {
+  pub all_strip : Strip s slow 0 (s.height * s.storeys)
+  all_strip = record {
     up = omega arith;
     fits = omega arith;
     apart = λ c d i l o. absurd (o (omega arith, omega (arith, l, rows_whole gr)));
   }
 
   -- rows have all of their cells on the board
-  pub strip-fits : {from end : ℕ} → Strip s slow from end → (from * s.width ≤ end * s.width) × (end * s.width ≤ n)
-  strip-fits st = (mul-le-mul_right s.width st.up, omega (arith, mul-le-mul_right s.width st.fits, rows_whole gr))
+  pub strip_fits : {from end : ℕ} → Strip s slow from end → (from * s.width ≤ end * s.width) × (end * s.width ≤ n)
+  strip_fits st = (mul-le-mul_right s.width st.up, omega (arith, mul-le-mul_right s.width st.fits, rows_whole gr))
 
   -- ---- rows of tiles, from the top
-  pub top-parted : seam s.height s.down 0 ≢ inside
-  top-parted q = omega (arith, sym q ∙ seam-edge s.height s.down 0 (zero-mod s.height))
+  pub top_parted : seam s.height s.down 0 ≢ inside
+  top_parted q = omega (arith, sym q ∙ seam-edge s.height s.down 0 (zero-mod s.height))
 
   -- the next of them
   module _ {row : ℕ} (flat : s.storeys ≡ 1) (l : row < s.height) (first : seam s.height s.down row ≢ inside) where
@@ -298,8 +298,8 @@ module _ {s : Shape} {slow ts cols rows : List ℕ} (gr : Ground s slow ts cols 
         low : row % s.height ≡ row
         low = mod-eq_of_lt l
 
-    pub next-parted : Parted s row end
-    next-parted = record {
+    pub next_parted : Parted s row end
+    next_parted = record {
       flat = flat;
       up = omega arith;
       fits = omega arith;
@@ -319,8 +319,8 @@ module _ {s : Shape} {slow ts cols rows : List ℕ} (gr : Ground s slow ts cols 
             omega (arith, sym q ∙ seam-edge s.height s.down end (ap (λ (u : ℕ). u % s.height) last ∙ mod_self s.height))
 
     -- and the rows before it
-    pub first-parted : Parted s 0 row
-    first-parted = record { flat = flat; up = omega arith; fits = omega arith; before = top-parted; behind = first }
+    pub first_parted : Parted s 0 row
+    first_parted = record { flat = flat; up = omega arith; fits = omega arith; before = top_parted; behind = first }
 
   -- ---- one tile covers the board: all cells are inner, and need not hear
   pub unwoken : s.width ≤ s.across → s.height ≤ s.down → (g : Work) → Woken s slow ts 0 n g g
@@ -345,13 +345,13 @@ module _ {s : Shape} {slow ts cols rows : List ℕ} (gr : Ground s slow ts cols 
     apart = all_apart;
   }
 
-  pub all-drained : {bound m : ℕ} {v v' : Work} → Drained n bound m (among 0 n L) v v' → Drained n bound m L v v'
-  all-drained {v = v} {v'} dr = record {
+  pub all_drained : {bound m : ℕ} {v v' : Work} → Drained n bound m (among 0 n L) v v' → Drained n bound m L v v'
+  all_drained {v = v} {v'} dr = record {
     held = dr.held;
     long = dr.long;
     past = dr.past;
     settled = λ c l. rw (← among_in 0 n L c (omega arith, l) (heard (tentative v'.list n) (keys v'))) (dr.settled c l);
-    keys-past = dr.keys-past;
+    keys_past = dr.keys_past;
     upheld = λ start up.
         let few = dr.upheld start (record {
           started = up.started;

@@ -4,11 +4,11 @@ use native.Mathlib.Decide.{ℕ_discrete}
 use Rattle.eikonal.specs.Board.{Board}
 use Rattle.eikonal.specs.Promise.{Neighbour}
 use Rattle.front.specs.Front.{Out}
-use Rattle.front.specs.Seams.{inside, least-seam}
-use Rattle.front.specs.Board.{land, rule-at, Work, Ground, Measures, Site}
+use Rattle.front.specs.Seams.{inside, least_seam}
+use Rattle.front.specs.Board.{land, rule_at, Work, Ground, Measures, Site}
 use Rattle.front.specs.State.{Touched, Told, all, next, Inner, Woken}
 use Rattle.front.specs.declared.Shape.{Shape}
-use Rattle.front.proofs.Theory.Seams.{untold-border}
+use Rattle.front.proofs.Theory.Seams.{untold_border}
 use Rattle.front.proofs.Theory.Reading.{rows_whole}
 use Rattle.front.proofs.Theory.Relaxing.{near-out}
 
@@ -36,17 +36,17 @@ swapped b c e (inr p) = inl p
 
 module _ {s : Shape} {slow ts cols rows : List ℕ} (gr : Ground s slow ts cols rows) where
   -- where all seams are inside, all neighbours are of the same tile
-  pub seams-inside : {n w : ℕ} (me : Measures s n w) {c row col : ℕ} (si : Site n w c row col)
-      → least-seam cols rows row col ≡ inside
+  pub seams_inside : {n w : ℕ} (me : Measures s n w) {c row col : ℕ} (si : Site n w c row col)
+      → least_seam cols rows row col ≡ inside
       → Inner (land s slow) s.across s.down c
-  seams-inside me {c} si q e l nb =
-      sym (untold-border gr.good s.across s.down gr.across gr.down c e
+  seams_inside me {c} si q e l nb =
+      sym (untold_border gr.good s.across s.down gr.across gr.down c e
       (swapped (land s slow) c e nb) (near-out gr me si q e l))
 
   -- ---- all but inner cells from lo on and below k have heard, and then the cell k is seen to
   module _ {lo k m : ℕ} {v u : Work} (q : m ≡ suc k) (low : lo ≤ k) (wo : Woken s slow ts lo k v u) where
-    pub woken-touched : {w : Work} → Touched s.cells (rule-at s slow ts) 0 k u w → Woken s slow ts lo m v w
-    woken-touched h = record {
+    pub woken_touched : {w : Work} → Touched s.cells (rule_at s slow ts) 0 k u w → Woken s slow ts lo m v w
+    woken_touched h = record {
       cells = wo.cells ++ (k ∷ []);
       told = told-then wo.told h;
       within = λ c o. out_both c wo.cells (k ∷ []) (wo.within c (λ i. o (i.0, omega arith))) ((λ z. o (omega arith, omega arith)), tt);
@@ -56,8 +56,8 @@ module _ {s : Shape} {slow ts cols rows : List ℕ} (gr : Ground s slow ts cols 
       ];
     }
 
-    pub woken-inner : Inner (land s slow) s.across s.down k → Woken s slow ts lo m v u
-    woken-inner h = record {
+    pub woken_inner : Inner (land s slow) s.across s.down k → Woken s slow ts lo m v u
+    woken_inner h = record {
       cells = wo.cells;
       told = wo.told;
       within = λ c o. wo.within c (λ i. o (i.0, omega arith));
@@ -68,8 +68,8 @@ module _ {s : Shape} {slow ts cols rows : List ℕ} (gr : Ground s slow ts cols 
     }
 
   -- before the first
-  pub woken-none : (lo : ℕ) (v : Work) → Woken s slow ts lo lo v v
-  woken-none lo v = record { cells = []; told = all v; within = λ c o. tt; inner = λ c i o. absurd (omega arith) }
+  pub woken_none : (lo : ℕ) (v : Work) → Woken s slow ts lo lo v v
+  woken_none lo v = record { cells = []; told = all v; within = λ c o. tt; inner = λ c i o. absurd (omega arith) }
 
   -- ---- the cells of a row are on the board, with all rows before it
   pub rows_fit : {row : ℕ} → row < s.height * s.storeys → suc row * s.width ≤ s.cells

@@ -8,7 +8,7 @@ returns : tie.Need-returns
 returns c =
     let p = c.before.before.before.before.before.before in
     let j = p.before.before.before.before.before in
-    is-job _ _ j.before.nothing-own.ensures _ _ j.march-job.ensures _ _ _ _ _ _ p.play.ensures
+    is-job _ _ j.before.nothing_own.ensures _ _ j.march-job.ensures _ _ _ _ _ _ p.play.ensures
 
 pub murgolab-march-plain-spec : {M : Type 1} → statement M
 murgolab-march-plain-spec =

@@ -8,7 +8,7 @@ returns : tie.Need-returns
 returns c =
     let p = c.before.before.before.before.before.before in
     let j = p.before.before.before.before in
-    is-job _ _ j.before.nothing-own.ensures _ _ j.round-job.ensures _ _ _ _ _ _ p.play.ensures
+    is-job _ _ j.before.nothing_own.ensures _ _ j.round-job.ensures _ _ _ _ _ _ p.play.ensures
 
 pub murgolab-one-round-plain-spec : {M : Type 1} → statement M
 murgolab-one-round-plain-spec =

@@ -7,12 +7,12 @@ use Rattle.records.proofs.Walk.{◌≡◌, refl, sym, ap, ◌∙◌, subst, [], 
 use Rattle.records.proofs.Walk.{emp, Lft, Share, Memory, Routine, WpFn, Tables, Fun, tables, tables_of, ◌$◌, !, by, move, keep}
 use Rattle.records.proofs.Walk.{toss, look, of_opd, no_more, returns, params1, pass0, free0, u8, u32, RefT, now, slice-vals, Room, nothing, heard, Meets}
 use Rattle.records.proofs.Walk.{triple_of, Triple, entered, cited, walk_of}
-use Rattle.records.proofs.Parameters.{Param, shared, given-up, stays, go, spells, tell}
-use Rattle.records.proofs.Calling.{◌&◌, contract-of, number, asked, copies, shares, calls, no_last, last_of, named-so, entered_at, Walk, begins, ends, meets}
-use Rattle.records.proofs.Locals.{reads, and-reads, length-of, pointer-of, slice_of, sets, lands-value, lands-number-again, lands-unit, takes, frees-at}
+use Rattle.records.proofs.Parameters.{Param, shared, given_up, stays, go, spells, tell}
+use Rattle.records.proofs.Calling.{◌&◌, contract_of, number, asked, copies, shares, calls, no_last, last_of, named_so, entered_at, Walk, begins, ends, meets}
+use Rattle.records.proofs.Locals.{reads, and_reads, length_of, pointer_of, slice_of, sets, lands_value, lands_number_again, lands_unit, takes, frees_at}
 use Rattle.eikonal.specs.declared.Start.{Start}
-use Rattle.record_files.proofs.Reading.{to_read, reads-records}
-use Rattle.scenario.specs.File.{start-count, starts-in, file-refusal}
+use Rattle.record_files.proofs.Reading.{to_read, reads_records}
+use Rattle.scenario.specs.File.{start_count, starts_in, file_refusal}
 use Rattle.eikonal.specs.contracts.Start as Start-type
 use Rattle.scenario.specs.contracts.Scenario as Scenario-type
 use Rattle.scenario.proofs.Scenario.TheLaws as Scenario-laws
@@ -31,12 +31,12 @@ use Rattle.murgolab.proofs.murgolab_read_scenario.Statement as stated
 use Rattle.murgolab.proofs.murgolab_read_scenario.Code as code
 
 abbrev params : List (Param 3)
-params = shared u8 0 tt ∷ given-up u32 1 tt ∷ given-up Start-type.the_row 2 tt ∷ []
+params = shared u8 0 tt ∷ given_up u32 1 tt ∷ given_up Start-type.the_row 2 tt ∷ []
 
 module _ {M : Type 1} {𝓤 : Ura M} (𝓛 : Logic 𝓤) (mem : Memory → SProp 𝓤) (run : Routine → Fun 𝓤) (𝓣 : Tables 𝓤 𝓛.H)
-    (known-rg : Triple 𝓤 (𝓣.C rg-def.name) (contract-of 𝓛 rg.ended (rg.clauses 𝓛 mem run)))
-    (known-co : Triple 𝓤 (𝓣.C co-def.name) (contract-of 𝓛 co.ended (co.clauses 𝓛 mem run)))
-    (known-rr : Triple 𝓤 (𝓣.C rr-def.name) (contract-of 𝓛 rr.ended (rr.clauses 𝓛 mem run))) where
+    (known-rg : Triple 𝓤 (𝓣.C rg-def.name) (contract_of 𝓛 rg.ended (rg.clauses 𝓛 mem run)))
+    (known-co : Triple 𝓤 (𝓣.C co-def.name) (contract_of 𝓛 co.ended (co.clauses 𝓛 mem run)))
+    (known-rr : Triple 𝓤 (𝓣.C rr-def.name) (contract_of 𝓛 rr.ended (rr.clauses 𝓛 mem run))) where
   open 𝓛 use {H}
 
   module _ (κ0 κ1 κ2 : Lft) (q0 q1 q2 : Share) (r-file : MutBor (List ℕ)) (r-slow : MutBor (List ℕ)) (r-starts : MutBor (List Start))
@@ -59,37 +59,37 @@ module _ {M : Type 1} {𝓤 : Ura M} (𝓛 : Logic 𝓤) (mem : Memory → SProp
         begins 𝓛 f.ended (stays params) (f.clauses 𝓛 mem run) 𝓣 code.function point
         (λ l0 l1 l2 l3 l4 l5 l6 l7 l8 l9 l10. params1 ! $ takes ! 18 refl (tt, (tt, (record { fits = g-file.0 }, tt))) $
         takes ! 16 refl (tt, (tt, (record { fits = g-slow.0 }, tt))) $ takes ! 14 refl (tt, (tt, (record { fits = g-starts.0 }, tt))) $ pass0 ! $
-        sets ! (pointer-of ! 16 refl refl) 10 refl (tt, tt) $
+        sets ! (pointer_of ! 16 refl refl) 10 refl (tt, tt) $
         sets ! (slice_of ! 10 refl 16 refl refl) 8 refl (tt, (tt, (record { fits = g-slow.0 }, tt))) $
-        sets ! (of_opd ! (length-of ! 14 refl refl)) 6 refl (tt, record { fits = g-starts.0 }) $
+        sets ! (of_opd ! (length_of ! 14 refl refl)) 6 refl (tt, record { fits = g-starts.0 }) $
         shares 𝓛 u8 κ0 r-file 25 refl $ number 𝓛 w64 (length starts) (vint w64 (length starts)) (refl, g-starts.0) $
         move ! (24 ∷ 25 ∷ 1 ∷ 28 ∷ 0 ∷ []) $
-        calls 𝓛 𝓣 rg.ended (rg.clauses 𝓛 mem run) (κ0 & κ1 & tt) (q0 & q1 & tt) tt (r-file & named-so r-slow r-slow.name slow & (length starts) & tt)
-        (mut_slice_vals r-file & mut_slice_vals r-slow & (vint w64 (length starts)) ∷ [] & tt) tt ! known-rg (id⊢ 𝓤 (emp 𝓤)) (and-reads ! 19 refl
-        (and-reads ! 9 refl (and-reads ! 7 refl (no_more !)))) (λ u-r r z-rg.
-        heard ! _ (λ e-r. lands-value ! Scenario-type.the_row (structs.lawful Scenario-type.the_type Scenario-laws.the_laws 𝓛) r refl 15 refl (λ g-r.
+        calls 𝓛 𝓣 rg.ended (rg.clauses 𝓛 mem run) (κ0 & κ1 & tt) (q0 & q1 & tt) tt (r-file & named_so r-slow r-slow.name slow & (length starts) & tt)
+        (mut_slice_vals r-file & mut_slice_vals r-slow & (vint w64 (length starts)) ∷ [] & tt) tt ! known-rg (id⊢ 𝓤 (emp 𝓤)) (and_reads ! 19 refl
+        (and_reads ! 9 refl (and_reads ! 7 refl (no_more !)))) (λ u-r r z-rg.
+        heard ! _ (λ e-r. lands_value ! Scenario-type.the_row (structs.lawful Scenario-type.the_type Scenario-laws.the_laws 𝓛) r refl 15 refl (λ g-r.
         move ! (1 ∷ []) $ no_last ! $ last_of ! (λ l-slow'. toss ! $
         copies 𝓛 Scenario-type.the_row (structs.copy Scenario-type.the_type Scenario-laws.the_copy 𝓛) r (u-r ∷ []) 1 refl $
-        calls 𝓛 𝓣 co.ended (co.clauses 𝓛 mem run) tt tt tt (r & tt) (u-r ∷ [] & tt) tt ! known-co (id⊢ 𝓤 (emp 𝓤)) (and-reads ! 17 refl (no_more !)) (λ u-k k
+        calls 𝓛 𝓣 co.ended (co.clauses 𝓛 mem run) tt tt tt (r & tt) (u-r ∷ [] & tt) tt ! known-co (id⊢ 𝓤 (emp 𝓤)) (and_reads ! 17 refl (no_more !)) (λ u-k k
         _.
-        heard ! _ (λ e-k. lands-number-again ! w64 k refl 11 refl (λ g-k. toss ! $
-        sets ! (pointer-of ! 18 refl refl) 6 refl (tt, tt) $
+        heard ! _ (λ e-k. lands_number_again ! w64 k refl 11 refl (λ g-k. toss ! $
+        sets ! (pointer_of ! 18 refl refl) 6 refl (tt, tt) $
         sets ! (slice_of ! 6 refl 18 refl refl) 4 refl (tt, (tt, (record { fits = g-starts.0 }, tt))) $
         shares 𝓛 u8 κ0 r-file 27 refl $ number 𝓛 w64 k (vint w64 k) (refl, g-k) $
         move ! (4 ∷ 28 ∷ 1 ∷ 0 ∷ 30 ∷ []) $
-        calls 𝓛 𝓣 rr.ended (rr.clauses 𝓛 mem run) (κ0 & κ2 & tt) (q0 & q2 & tt) tt (r-file & k & named-so r-starts r-starts.name starts & tt) (mut_slice_vals
-        r-file & (vint w64 k) ∷ [] & mut_slice_vals r-starts & tt) tt ! known-rr (asked 𝓤 (subst (λ (i : ℕ). (0 < i → ((file-refusal file).number ≡ 0) ×
-        (i ≡ start-count file)) × (i ≤ length starts)) (sym e-k) (to_read file (length slow) (length starts) r e-r.0))) (and-reads ! 22 refl
-        (and-reads ! 10 refl (and-reads ! 4 refl (no_more !)))) (λ u-rr _ z-rr.
-        heard ! _ (λ e-rr. lands-unit ! refl 10 refl $ no_last ! $ no_last ! $ last_of ! (λ l-starts'. toss ! $
+        calls 𝓛 𝓣 rr.ended (rr.clauses 𝓛 mem run) (κ0 & κ2 & tt) (q0 & q2 & tt) tt (r-file & k & named_so r-starts r-starts.name starts & tt) (mut_slice_vals
+        r-file & (vint w64 k) ∷ [] & mut_slice_vals r-starts & tt) tt ! known-rr (asked 𝓤 (subst (λ (i : ℕ). (0 < i → ((file_refusal file).number ≡ 0) ×
+        (i ≡ start_count file)) × (i ≤ length starts)) (sym e-k) (to_read file (length slow) (length starts) r e-r.0))) (and_reads ! 22 refl
+        (and_reads ! 10 refl (and_reads ! 4 refl (no_more !)))) (λ u-rr _ z-rr.
+        heard ! _ (λ e-rr. lands_unit ! refl 10 refl $ no_last ! $ no_last ! $ last_of ! (λ l-starts'. toss ! $
         sets ! (of_opd ! (reads ! 18 refl)) 26 refl ((structs.lawful Scenario-type.the_type Scenario-laws.the_laws 𝓛).typed r _ g-r).0 $
-        returns ! (look ! 26 refl) $ frees-at ! 26 refl refl $ frees-at ! 24 refl refl $ frees-at ! 22 refl refl $ frees-at ! 20 refl refl $
-        frees-at ! 18 refl refl $ frees-at ! 16 refl refl $ frees-at ! 14 refl refl $ frees-at ! 12 refl refl $ frees-at ! 10 refl refl $
-        frees-at ! 8 refl refl $ frees-at ! 6 refl refl $ free0 ! $ nothing ! $
+        returns ! (look ! 26 refl) $ frees_at ! 26 refl refl $ frees_at ! 24 refl refl $ frees_at ! 22 refl refl $ frees_at ! 20 refl refl $
+        frees_at ! 18 refl refl $ frees_at ! 16 refl refl $ frees_at ! 14 refl refl $ frees_at ! 12 refl refl $ frees_at ! 10 refl refl $
+        frees_at ! 8 refl refl $ frees_at ! 6 refl refl $ free0 ! $ nothing ! $
         keep ! (5 ∷ 2 ∷ 6 ∷ 3 ∷ 0 ∷ 4 ∷ 1 ∷ []) $
         by ! (ends 𝓛 f.ended (stays params) (f.clauses 𝓛 mem run) point u-r r (tt & z-rg.1.0 & z-rr.1.1.0 & tt)
-        (tt & l-slow' & l-starts' & tt) (asked 𝓤 (reads-records file slow z-rg.1.0 starts z-rr.1.1.0 r e-r.0 e-r.1 (e-rr ∙ ap
-        (λ (i : ℕ). take i (starts-in file) ++ drop i starts) e-k)))))))))))))))
+        (tt & l-slow' & l-starts' & tt) (asked 𝓤 (reads_records file slow z-rg.1.0 starts z-rr.1.1.0 r e-r.0 e-r.1 (e-rr ∙ ap
+        (λ (i : ℕ). take i (starts_in file) ++ drop i starts) e-k)))))))))))))))
 
   holds : Meets 𝓛 f.signature (WpFn 𝓤 H 𝓣.C 𝓣.Λ code.function) (f.spec 𝓛 mem run)
   holds = meets 𝓛 f.ended (stays params) (f.clauses 𝓛 mem run) 𝓣 code.function (go 𝓛 params) (spells params) (tell params)

@@ -7,7 +7,7 @@ use native.Mathlib.Omega.{arith}
 use borrow.Author.Rules.{rules}
 use lib.ListN.{get_or}
 use Rattle.queue.specs.Heap.{key}
-use Rattle.queue.proofs.Children.{Lesser, by-keys, by-sum, of-halves}
+use Rattle.queue.proofs.Children.{Lesser, by-keys, by_sum, of_halves}
 use Rattle.queue.proofs.least_of_row.Statement.{statement}
 use Rattle.queue.proofs.least_of_row.Tie as tie
 
@@ -30,10 +30,10 @@ returns c =
     let y = c.before.before.before.before.lesser2 in
     let l = c.before.before.before.less in
     let k = c.before.before.less2 in
-    let left : Lesser w f (f + 1) (f + l.result) x.result = by-sum l.ensures (omega arith) (omega (arith, further w f 1)) x.ensures refl in
+    let left : Lesser w f (f + 1) (f + l.result) x.result = by_sum l.ensures (omega arith) (omega (arith, further w f 1)) x.ensures refl in
     let right : Lesser w (f + 2) (f + 3) (f + 2 + k.result) y.result =
-    by-sum k.ensures (omega (arith, further w f 2)) (omega (arith, further w f 3)) y.ensures (omega arith) in
-    of-halves left right (by-keys c.before.better.ensures (sym left.at) (sym right.at) c.lesser3.ensures (omega arith))
+    by_sum k.ensures (omega (arith, further w f 2)) (omega (arith, further w f 3)) y.ensures (omega arith) in
+    of_halves left right (by-keys c.before.better.ensures (sym left.at) (sym right.at) c.lesser3.ensures (omega arith))
     (omega arith) (omega arith) (omega arith)
 
 pub least-of-row-spec : {M : Type 1} → statement M

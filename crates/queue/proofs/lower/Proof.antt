@@ -1,7 +1,7 @@
 -- `queue::lower` meets its contract: the cell's slot is given up, or there is one more.
 use mathlib.Core.Path.{refl}
 use borrow.Author.Rules.{rules}
-use Rattle.queue.proofs.Putting.{Opened, opened, put-opened}
+use Rattle.queue.proofs.Putting.{Opened, opened, put_opened}
 use Rattle.queue.proofs.lower.Statement.{statement}
 use Rattle.queue.proofs.lower.Tie as tie
 
@@ -19,7 +19,7 @@ returns : tie.Need-returns
 returns c =
     let s = c.before.before.before.before.before.before.before.before.before.before.before.before in
     let o = open_at c.before.before.before.before.before.before.before.before in
-    put-opened s.requires.2 c.before.before.before.before.before.before.rise.ensures c.before.before.seat.ensures s.requires.0 o.low refl o
+    put_opened s.requires.2 c.before.before.before.before.before.before.rise.ensures c.before.before.seat.ensures s.requires.0 o.low refl o
 
 pub lower_spec : {M : Type 1} → statement M
 lower_spec =

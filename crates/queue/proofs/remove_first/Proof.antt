@@ -4,8 +4,8 @@ use Prim.Native.Nat.{◌-◌, ◌<◌}
 use native.Mathlib.Omega.{arith}
 use borrow.Author.Rules.{rules}
 use Rattle.queue.specs.Heap.{cell}
-use Rattle.queue.proofs.Mending.{rested-on}
-use Rattle.queue.proofs.Putting.{first-hole, put-remove, put-none}
+use Rattle.queue.proofs.Mending.{rested_on}
+use Rattle.queue.proofs.Putting.{first-hole, put_remove, put_none}
 use Rattle.queue.proofs.remove_first.Statement.{statement}
 use Rattle.queue.proofs.remove_first.Tie as tie
 
@@ -38,11 +38,11 @@ returns c =
     let k = c.before.before.before.before.before.before.before.before.before.before in
     let e = last-cell k.before.before.before in
     let s = k.before.before.before.before.before.before.before in
-    put-remove s.requires.2 (rested-on k.sink.ensures.0 r) c.before.before.seat.ensures e.1 (s.requires.2.due (s.args.size - 1) (omega arith))
+    put_remove s.requires.2 (rested_on k.sink.ensures.0 r) c.before.before.seat.ensures e.1 (s.requires.2.due (s.args.size - 1) (omega arith))
     (omega arith) (omega arith) (omega arith) refl e.0 (omega arith)
 
 returns-2 : tie.Need-returns-2
-returns-2 c = put-none c.before.before.requires.2 (omega arith) (omega arith)
+returns-2 c = put_none c.before.before.requires.2 (omega arith) (omega arith)
 
 pub remove-first-spec : {M : Type 1} → statement M
 remove-first-spec =

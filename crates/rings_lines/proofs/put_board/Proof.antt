@@ -6,7 +6,7 @@ use lib.ListN.{length, take}
 use lib.Seq.{length-take-le}
 use borrow.Author.Rules.{rules}
 use Rattle.eikonal.specs.Board.{size}
-use Rattle.eikonal.specs.Refusals.{sides-good}
+use Rattle.eikonal.specs.Refusals.{sides_good}
 use Rattle.scenario.specs.File.{held}
 use Rattle.scenario.proofs.Reading.{cells-read, sides-read}
 use Rattle.tablet.specs.Small.{Tiled}
@@ -20,7 +20,7 @@ few c = small c.args.file.now c.requires.1
 
 -- tiles of 8 by 8, stride 65,536
 eights : Tiled 65536 8 8
-unfolding sides-good
+unfolding sides_good
 eights = record { least = omega arith; most = omega arith; sides = refl }
 
 head-of-requires : tie.Need-head-of-requires

@@ -6,8 +6,8 @@ use native.Mathlib.Omega.{arith}
 use lib.ListN.{length, get_or, drop}
 use borrow.Author.Rules.{rules}
 use Rattle.rings_lines.specs.Put.{Put}
-use Rattle.rings_lines.specs.Rings.{turn-text, rows}
-use Rattle.rings_lines.proofs.Stores.{put-more, put_is}
+use Rattle.rings_lines.specs.Rings.{turn_text, rows}
+use Rattle.rings_lines.proofs.Stores.{put_more, put_is}
 use Rattle.rings_lines.proofs.Rows.{rows_none, rows_more}
 use Rattle.rings_lines.proofs.put_rows.Statement.{statement}
 use Rattle.rings_lines.proofs.put_rows.Tie as tie
@@ -41,13 +41,13 @@ loop-again c =
     let h = t.before.before.before.before in
     let l = h.before.loop in
     let a = h.before.before.before.before.args in
-    let text = turn-text a.ticks (get_or a.times.now l.i 0) in
+    let text = turn_text a.ticks (get_or a.times.now l.i 0) in
     let field = put_is p.ensures.0 (ap (λ u. text ++ (u ∷ [])) t.before.behind.ensures) in
     let more = sym (rows_more a.width a.ticks l.i a.times.now h.loop-test.true) in (
       omega arith,
       omega (arith, p.auto.0, l.invariant.1),
       omega (arith, p.ensures.1, l.invariant.2, h.loop-test.true),
-      λ now next q. l.invariant.3 now next (put_is (put-more field q) more),
+      λ now next q. l.invariant.3 now next (put_is (put_more field q) more),
     )
 
 returns : tie.Need-returns invariant-loop decreases-loop

@@ -2,7 +2,7 @@
 use mathlib.Core.Path.{◌≡◌, sym, ap, ◌∙◌}
 use native.Mathlib.Omega.{arith}
 use borrow.Author.Rules.{rules}
-use Rattle.rings_lines.specs.Rings.{rings-refusal}
+use Rattle.rings_lines.specs.Rings.{rings_refusal}
 use Rattle.rings_lines.proofs.Answers.{small-file, lines-board, lines-refused, says-short, says-lines}
 use Rattle.rings_lines.proofs.rings_lines.Statement.{statement}
 use Rattle.rings_lines.proofs.rings_lines.Tie as tie
@@ -14,13 +14,13 @@ returns-2 : tie.Need-returns-2
 returns-2 c =
     let r = c.before.before.Put-refused in
     let i = c.before.before.before.before in
-    let k = i.before.before.rings-refusal in
+    let k = i.before.before.rings_refusal in
     let h = i.before.before.before.if1.false in
     says-lines _ h (lines-refused _ k.result k.ensures i.if2.true) r.ensures.0 (omega (arith, r.ensures.1, h))
 
 -- nothing refuses the file
-fine : (c : tie.Else2) → (rings-refusal c.before.before.before.before.before.before.args.file.now).number ≡ 0
-fine c = ap (λ u. u.number) (sym c.before.before.rings-refusal.ensures) ∙ c.if2.false
+fine : (c : tie.Else2) → (rings_refusal c.before.before.before.before.before.before.args.file.now).number ≡ 0
+fine c = ap (λ u. u.number) (sym c.before.before.rings_refusal.ensures) ∙ c.if2.false
 
 put-board-requires : tie.Need-put-board-requires
 put-board-requires c κs = (c.before.before.before.before.if1.false, small-file _ (fine c.before))

@@ -15,7 +15,7 @@ use Rattle.eikonal.proofs.Altered.{altered-none}
 use Rattle.eikonal.proofs.Levels.{order}
 use Rattle.rows.specs.Rows.{Entered, Everywhere}
 use Rattle.queue.proofs.Filling.{Stored, here, elsewhere, after_store}
-use Rattle.queue.proofs.Parts.{put-before, put-within, put-after}
+use Rattle.queue.proofs.Parts.{put_before, put_within, put_after}
 
 -- ---- two entries, as bare numbers
 abbrev pub differ : (x y : ℕ) → ℕ
@@ -31,9 +31,9 @@ differ-most x y = elim (ℕ_discrete x y) [
 ]
 
 -- of two steps one changes nothing
-differ-chain : (x y z : ℕ) → (y ≡ x) ⊎ (z ≡ y) → differ x z ≡ differ x y + differ y z
-differ-chain x y z (inl e) = rw e (omega (arith, differ-none x))
-differ-chain x y z (inr e) = rw e (omega (arith, differ-none y))
+differ_chain : (x y z : ℕ) → (y ≡ x) ⊎ (z ≡ y) → differ x z ≡ differ x y + differ y z
+differ_chain x y z (inl e) = rw e (omega (arith, differ-none x))
+differ_chain x y z (inr e) = rw e (omega (arith, differ-none y))
 
 -- ---- lists
 pub altered-most : (xs ys : List ℕ) → altered xs ys ≤ length xs
@@ -55,15 +55,15 @@ altered-append [] ys (u ∷ us) vs e = absurd (omega arith)
 altered-append (x ∷ xs) ys [] vs e = absurd (omega arith)
 altered-append (x ∷ xs) ys (u ∷ us) vs e = omega (arith, altered-append xs ys us vs (omega arith))
 
-altered-chain : (xs ys zs : List ℕ) → length ys ≡ length xs → length zs ≡ length xs
+altered_chain : (xs ys zs : List ℕ) → length ys ≡ length xs → length zs ≡ length xs
     → ((c : ℕ) → c < length xs → (get_or ys c 0 ≡ get_or xs c 0) ⊎ (get_or zs c 0 ≡ get_or ys c 0)) → altered xs zs ≡ altered xs ys + altered ys zs
 unfolding altered
-altered-chain [] [] zs l m h = refl
-altered-chain [] (y ∷ ys) zs l m h = absurd (omega arith)
-altered-chain (x ∷ xs) [] zs l m h = absurd (omega arith)
-altered-chain (x ∷ xs) (y ∷ ys) [] l m h = absurd (omega arith)
-altered-chain (x ∷ xs) (y ∷ ys) (z ∷ zs) l m h =
-    omega (arith, differ-chain x y z (h 0 (omega arith)), altered-chain xs ys zs (omega arith) (omega arith) (λ c k. h (suc c) (omega arith)))
+altered_chain [] [] zs l m h = refl
+altered_chain [] (y ∷ ys) zs l m h = absurd (omega arith)
+altered_chain (x ∷ xs) [] zs l m h = absurd (omega arith)
+altered_chain (x ∷ xs) (y ∷ ys) [] l m h = absurd (omega arith)
+altered_chain (x ∷ xs) (y ∷ ys) (z ∷ zs) l m h =
+    omega (arith, differ_chain x y z (h 0 (omega arith)), altered_chain xs ys zs (omega arith) (omega arith) (λ c k. h (suc c) (omega arith)))
 
 -- ---- a list whose entries become final
 pub entered-none : (Asked : ℕ → Type 0) (f : ℕ → ℕ) (xs : List ℕ) → ((c : ℕ) → c < length xs → Asked c → ⊥) → Entered Asked f xs xs 0
@@ -75,8 +75,8 @@ entered-none Asked f xs none = record {
 }
 
 -- one store
-entered-store : (f : ℕ → ℕ) (xs : List ℕ) (i x : ℕ) → i < length xs → x ≡ f i → Entered (λ c. c ≡ i) f xs (set xs i x) (differ (get_or xs i 0) x)
-entered-store f xs i x l e = record {
+entered_store : (f : ℕ → ℕ) (xs : List ℕ) (i x : ℕ) → i < length xs → x ≡ f i → Entered (λ c. c ≡ i) f xs (set xs i x) (differ (get_or xs i 0) x)
+entered_store f xs i x l e = record {
   long = length-set xs i x;
   each = λ c h. go c (after_store xs i x c l);
   done = λ c h p. at c p (after_store xs i x c l);
@@ -124,13 +124,13 @@ module _ {D E : ℕ → Type 0} {f : ℕ → ℕ} {xs ys zs : List ℕ} {m k : �
     long = b.long ∙ a.long;
     each = then-each;
     done = λ c l s. then-done c l (split c l s);
-    counted = omega (arith, a.counted, b.counted, altered-chain xs ys zs a.long (b.long ∙ a.long) one-still);
+    counted = omega (arith, a.counted, b.counted, altered_chain xs ys zs a.long (b.long ∙ a.long) one-still);
   }
 
 -- one store more, from the front
 pub entered-next : {f : ℕ → ℕ} {xs ys : List ℕ} {m : ℕ} (i x : ℕ) → i < length ys → x ≡ f i → Entered (λ c. c < i) f xs ys m
     → Entered (λ c. c < i + 1) f xs (set ys i x) (m + differ (get_or ys i 0) x)
-entered-next {f} {xs} {ys} i x l e a = entered-then a (entered-store f ys i x l e) (λ c. c < i + 1) (λ c h k. last c k (order c i))
+entered-next {f} {xs} {ys} i x l e a = entered-then a (entered_store f ys i x l e) (λ c. c < i + 1) (λ c h k. last c k (order c i))
   where
     last : (c : ℕ) → c < i + 1 → (c < i) ⊎ (i ≤ c) → (c < i) ⊎ (c ≡ i)
     last c k (inl h) = inl h
@@ -146,8 +146,8 @@ entered-most {D} {f} {xs} {ys} a = omega (arith, a.counted, altered-most xs ys)
 
 -- ---- A PART that was lent from a up to e, and comes back
 module _ (xs ys : List ℕ) (a e : ℕ) (h : a ≤ e) (k : e ≤ length xs) (long : length ys ≡ length (mid_of a (e - a) xs)) where
-  put-altered : altered xs (put_mid a (e - a) xs ys) ≡ altered (mid_of a (e - a) xs) ys
-  put-altered =
+  put_altered : altered xs (put_mid a (e - a) xs ys) ≡ altered (mid_of a (e - a) xs) ys
+  put_altered =
       omega (
         arith,
         ap (λ (u : List ℕ). altered u (put_mid a (e - a) xs ys)) (put_same a (e - a) xs),
@@ -163,7 +163,7 @@ entered-part {f} xs ys a e h k same p = record {
   long = same_len_mid a (e - a) xs ys p.long;
   each = λ c l. go c (order c a) (order c e);
   done = λ c l s. within c s.0 s.1;
-  counted = p.counted ∙ sym (put-altered xs ys a e h k p.long);
+  counted = p.counted ∙ sym (put_altered xs ys a e h k p.long);
 }
   where
     within : (c : ℕ) → a ≤ c → c < e → get_or (put_mid a (e - a) xs ys) c 0 ≡ f c
@@ -171,12 +171,12 @@ entered-part {f} xs ys a e h k same p = record {
         let j : c - a < e - a = omega arith in
         let s : a + (c - a) ≡ c = omega arith in
         ap (λ (u : ℕ). get_or (put_mid a (e - a) xs ys) u 0) (sym s)
-        ∙ put-within xs ys a e h k p.long (c - a) j
+        ∙ put_within xs ys a e h k p.long (c - a) j
         ∙ p.done (c - a) (omega (arith, mid_len a e xs k)) tt
         ∙ same (c - a) j
         ∙ ap f s
 
     go : (c : ℕ) → (c < a) ⊎ (a ≤ c) → (c < e) ⊎ (e ≤ c) → (get_or (put_mid a (e - a) xs ys) c 0 ≡ get_or xs c 0) ⊎ (get_or (put_mid a (e - a) xs ys) c 0 ≡ f c)
-    go c (inl l) r = inl (put-before xs ys a e h k p.long c l)
+    go c (inl l) r = inl (put_before xs ys a e h k p.long c l)
     go c (inr l) (inl r) = inr (within c l r)
-    go c (inr l) (inr r) = inl (put-after xs ys a e h k p.long c r)
+    go c (inr l) (inr r) = inl (put_after xs ys a e h k p.long c r)

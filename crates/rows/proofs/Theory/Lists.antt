@@ -76,17 +76,17 @@ pub record Finishing (bound n : ℕ) (work times : List ℕ) (count c : ℕ) : T
   pub each : (d : ℕ) → d < c → get_or times d 0 ≡ due bound work n d
   pub counted : count ≡ reached bound (take c times)
 
-pub finishing-none : (bound : ℕ) {n : ℕ} (work : List ℕ) {times : List ℕ} → length times ≡ n → Finishing bound n work times 0 0
+pub finishing_none : (bound : ℕ) {n : ℕ} (work : List ℕ) {times : List ℕ} → length times ≡ n → Finishing bound n work times 0 0
 unfolding reached
-finishing-none bound work e = record { long = e; upto = omega arith; each = λ d l. absurd (omega arith); counted = refl }
+finishing_none bound work e = record { long = e; upto = omega arith; each = λ d l. absurd (omega arith); counted = refl }
 
 module _ {bound n : ℕ} {work times : List ℕ} {count c : ℕ} (f : Finishing bound n work times count c) where
-  pub finishing-most : count ≤ c
-  finishing-most = omega (arith, f.counted, reached-most bound (take c times), length-take c times)
+  pub finishing_most : count ≤ c
+  finishing_most = omega (arith, f.counted, reached-most bound (take c times), length-take c times)
 
-  pub finishing-more : {x k t : ℕ} → c < n → bound < never → t ≡ get_or work (2 * n + c) 0 → x ≡ clip bound t → k ≡ tick t bound
+  pub finishing_more : {x k t : ℕ} → c < n → bound < never → t ≡ get_or work (2 * n + c) 0 → x ≡ clip bound t → k ≡ tick t bound
       → Finishing bound n work (set times c x) (count + k) (c + 1)
-  finishing-more {x} {k} {t} l b et ex ek = record {
+  finishing_more {x} {k} {t} l b et ex ek = record {
     long = length-set times c x ∙ f.long;
     upto = omega arith;
     each = λ d m. at d m (after_store times c x d (omega (arith, f.long)));

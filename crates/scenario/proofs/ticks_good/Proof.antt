@@ -1,10 +1,10 @@
 -- `scenario::ticks_good` meets its contract.
-use Rattle.scenario.specs.File.{ticks-good}
+use Rattle.scenario.specs.File.{ticks_good}
 use Rattle.scenario.proofs.ticks_good.Statement.{statement}
 use Rattle.scenario.proofs.ticks_good.Tie as tie
 
 returns : tie.Need-returns
-unfolding ticks-good
+unfolding ticks_good
 returns c = c.within.ensures
 
 pub ticks-good-spec : {M : Type 1} → statement M

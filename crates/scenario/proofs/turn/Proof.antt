@@ -3,24 +3,24 @@ use mathlib.Core.Path.{◌≡◌}
 use mathlib.Core.Bool.{true}
 use Prim.Native.Nat.{◌≤◌}
 use native.Mathlib.Omega.{arith}
-use Rattle.eikonal.proofs.Up.{multiple-covers, multiple-below}
-use Rattle.scenario.specs.File.{ticks-good}
+use Rattle.eikonal.proofs.Up.{multiple_covers, multiple_below}
+use Rattle.scenario.specs.File.{ticks_good}
 use Rattle.scenario.proofs.Causes.{holds, fails, some-ticks}
-use Rattle.scenario.proofs.Turns.{says-refused, says_never, says-turn}
+use Rattle.scenario.proofs.Turns.{says_refused, says_never, says-turn}
 use Rattle.scenario.proofs.turn.Statement.{statement}
 use Rattle.scenario.proofs.turn.Tie as tie
 
 returns : tie.Need-returns
-returns c = says-refused _ _ _ c.turn-reply.ensures (fails c.before.before.ticks-good.ensures c.before.if1.true)
+returns c = says_refused _ _ _ c.turn_reply.ensures (fails c.before.before.ticks_good.ensures c.before.if1.true)
 
 returns-2 : tie.Need-returns-2
 returns-2 c =
-    let passed = holds c.before.before.before.ticks-good.ensures c.before.before.if1.false in
+    let passed = holds c.before.before.before.ticks_good.ensures c.before.before.if1.false in
     says_never _ _ _ _ _ c.turn-reply2.ensures passed (omega arith) (omega arith) (omega arith)
 
 -- the ticks, behind both tests
-good : (c : tie.Else2) → ticks-good c.before.before.before.args.ticks ≡ true
-good c = holds c.before.before.ticks-good.ensures c.before.if1.false
+good : (c : tie.Else2) → ticks_good c.before.before.before.args.ticks ≡ true
+good c = holds c.before.before.ticks_good.ensures c.before.if1.false
 
 some : (c : tie.Else2) → (1 ≤ c.before.before.before.args.ticks) × (c.before.before.before.args.ticks ≤ 65535)
 some c = some-ticks _ (good c)
@@ -35,10 +35,10 @@ div-turn : tie.Need-nonzero-div-turn
 div-turn c = (some c).0
 
 mul-turn-reply : tie.Need-overflow-mul-turn-reply
-mul-turn-reply c = record { fits = multiple-below _ _ _ (omega (arith, (some c).1)) }
+mul-turn-reply c = record { fits = multiple_below _ _ _ (omega (arith, (some c).1)) }
 
 sub-turn-reply : tie.Need-overflow-sub-turn-reply
-sub-turn-reply c = multiple-covers _ _ _ (some c).0 (omega (arith, (some c).0))
+sub-turn-reply c = multiple_covers _ _ _ (some c).0 (omega (arith, (some c).0))
 
 returns-3 : tie.Need-returns-3
 returns-3 c =

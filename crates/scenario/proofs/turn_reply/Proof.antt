@@ -1,11 +1,11 @@
 -- `scenario::turn_reply` meets its contract.
 use mathlib.Core.Path.{refl}
-use Rattle.scenario.specs.Turns.{turn-reply}
+use Rattle.scenario.specs.Turns.{turn_reply}
 use Rattle.scenario.proofs.turn_reply.Statement.{statement}
 use Rattle.scenario.proofs.turn_reply.Tie as tie
 
 returns : tie.Need-returns
-unfolding turn-reply
+unfolding turn_reply
 returns c = refl
 
 pub turn-reply-spec : {M : Type 1} → statement M

@@ -5,29 +5,29 @@ use Rattle.scenario.specs.declared.Head.{Head}
 use Rattle.scenario.specs.declared.Run.{Run}
 use Rattle.scenario.specs.Bytes.{records}
 use Rattle.scenario.specs.Runs.{end}
-use Rattle.scenario.specs.File.{head-size, run-size, start-size, runs-end, file-size, head_in, run_in, start-in}
+use Rattle.scenario.specs.File.{head_size, run_size, start_size, runs_end, file_size, head_in, run_in, start_in}
 
 -- a file as long as its head says, with sides that a board may have
 pub record Fits (x : Head) (f : List ℕ) : Type 0 where
   pub head : x ≡ head_in f
-  pub long : length f ≡ file-size x.runs x.starts
+  pub long : length f ≡ file_size x.runs x.starts
   pub wide : x.width ≤ 256
   pub high : x.height ≤ 256
 
 -- the runs and the starts behind it
 abbrev pub runs_by : Head → List ℕ → List Run
-runs_by x f = records run-size run_in x.runs (drop head-size f)
+runs_by x f = records run_size run_in x.runs (drop head_size f)
 
 abbrev pub starts_by : Head → List ℕ → List Start
-starts_by x f = records start-size start-in x.starts (drop (runs-end x.runs) f)
+starts_by x f = records start_size start_in x.starts (drop (runs_end x.runs) f)
 
 -- the runs of a file from the i-th on, of n
-abbrev pub runs-onward : List ℕ → (n i : ℕ) → List Run
-runs-onward f n i = records run-size run_in (n - i) (drop (runs-end i) f)
+abbrev pub runs_onward : List ℕ → (n i : ℕ) → List Run
+runs_onward f n i = records run_size run_in (n - i) (drop (runs_end i) f)
 
 -- the starts of a file from the i-th on, of n that begin at a base
-abbrev pub starts-onward : List ℕ → (base n i : ℕ) → List Start
-starts-onward f a n i = records start-size start-in (n - i) (drop (a + start-size * i) f)
+abbrev pub starts_onward : List ℕ → (base n i : ℕ) → List Start
+starts_onward f a n i = records start_size start_in (n - i) (drop (a + start_size * i) f)
 
 -- without the runs in front that end at a cell or before it
 unfoldable pub past : (cell : ℕ) → List Run → List Run
@@ -39,6 +39,6 @@ unfoldable pub near : (ground cell : ℕ) → List Run → ℕ
 near g c [] = g
 near g c (x ∷ xs) = cond (leb x.offset c) x.slow g
 
-unfoldable pub wall-among : (ground : ℕ) → List Run → List Start → Bool
-wall-among g xs [] = false
-wall-among g xs (s ∷ ss) = eqb (near g s.cell (past s.cell xs)) 0 || wall-among g xs ss
+unfoldable pub wall_among : (ground : ℕ) → List Run → List Start → Bool
+wall_among g xs [] = false
+wall_among g xs (s ∷ ss) = eqb (near g s.cell (past s.cell xs)) 0 || wall_among g xs ss

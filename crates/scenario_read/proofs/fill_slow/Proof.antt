@@ -6,10 +6,10 @@ use lib.Seq.{length-take-le}
 use borrow.Author.Rules.{rules}
 use Rattle.eikonal.specs.Board.{size}
 use Rattle.scenario.specs.Runs.{painted}
-use Rattle.scenario.specs.File.{runs-in, held}
+use Rattle.scenario.specs.File.{runs_in, held}
 use Rattle.scenario.proofs.Causes.{accepted}
 use Rattle.scenario.proofs.Answers.{part-entered}
-use Rattle.scenario.proofs.Reading.{slow-length, file-long, sides-read, cells-read}
+use Rattle.scenario.proofs.Reading.{slow_length, file_long, sides-read, cells-read}
 use Rattle.scenario_read.proofs.fill_slow.Statement.{statement}
 use Rattle.scenario_read.proofs.fill_slow.Tie as tie
 
@@ -37,7 +37,7 @@ read-slow-requires c κs =
     let b = c.before in
     let h = b.before.head_of.ensures in
     let g = accepted _ b.before.before.before.before.requires.0 in
-    ((h, omega (arith, file-long _ _ h g.front)), rw (h, long b ∙ cells b) g.runs)
+    ((h, omega (arith, file_long _ _ h g.front)), rw (h, long b ∙ cells b) g.runs)
 
 returns : tie.Need-returns
 unfolding held size
@@ -48,8 +48,8 @@ returns c =
     let f = s.args.file.now in
     let e = long b ∙ cells b in
     part-entered b.board-size.result _ (held f).slow s.args.slow.now
-    (r.read-slow.ensures ∙ (λ i. painted (b.before.head_of.ensures i).ground 0 (e i) (runs-in f)))
-    (slow-length f (accepted f s.requires.0) ∙ sym (cells b))
+    (r.read-slow.ensures ∙ (λ i. painted (b.before.head_of.ensures i).ground 0 (e i) (runs_in f)))
+    (slow_length f (accepted f s.requires.0) ∙ sym (cells b))
 
 pub fill-slow-spec : {M : Type 1} → statement M
 fill-slow-spec =

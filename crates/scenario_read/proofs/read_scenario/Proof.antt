@@ -2,14 +2,14 @@
 use native.Mathlib.Omega.{arith}
 use lib.ListN.{length}
 use borrow.Author.Rules.{rules}
-use Rattle.scenario.proofs.Reading.{room, reads-refused, reads-done}
+use Rattle.scenario.proofs.Reading.{room, reads_refused, reads_done}
 use Rattle.scenario_read.proofs.read_scenario.Statement.{statement}
 use Rattle.scenario_read.proofs.read_scenario.Tie as tie
 
 returns : tie.Need-returns
 returns c =
     let g = c.before.before.before.before in
-    reads-refused _ _ _ _ _ _ _ g.before.shorter.ensures g.read-ground.ensures.0 g.read-ground.ensures.1 c.if1.true
+    reads_refused _ _ _ _ _ _ _ g.before.shorter.ensures g.read-ground.ensures.0 g.read-ground.ensures.1 c.if1.true
 
 fill-starts-requires : tie.Need-fill-starts-requires
 fill-starts-requires c κs =
@@ -26,7 +26,7 @@ returns-2 c =
     let g = i.before.before.before.before in
     let r = g.read-ground.ensures in
     let e = s.fill-starts.ensures in
-    reads-done _ _ _ _ _ _ _ g.before.shorter.ensures r.0 r.1 _ _ i.if1.false e.0 e.1
+    reads_done _ _ _ _ _ _ _ g.before.shorter.ensures r.0 r.1 _ _ i.if1.false e.0 e.1
 
 pub read-scenario-spec : {M : Type 1} → statement M
 read-scenario-spec =

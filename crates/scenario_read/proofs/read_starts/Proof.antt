@@ -5,8 +5,8 @@ use Prim.Native.Nat.{◌-◌, ◌≤◌, ◌<◌}
 use native.Mathlib.Omega.{arith}
 use lib.ListN.{length, take, length-set}
 use borrow.Author.Rules.{rules}
-use Rattle.eikonal.specs.Refusals.{cells_of, begins-of}
-use Rattle.scenario.specs.Inner.Walk.{starts-onward}
+use Rattle.eikonal.specs.Refusals.{cells_of, begins_of}
+use Rattle.scenario.specs.Inner.Walk.{starts_onward}
 use Rattle.scenario.proofs.Filling.{full}
 use Rattle.scenario_read.proofs.StartWalk.{starts-all, none, start-entered}
 use Rattle.scenario_read.proofs.read_starts.Statement.{statement}
@@ -15,8 +15,8 @@ use Rattle.scenario_read.proofs.read_starts.Tie as tie
 abbrev invariant-loop : tie.invariant-loop
 invariant-loop file base cells₀ begins₀ i₀ cells begins i =
     (i ≤ length cells₀) × (length cells ≡ length cells₀) × (length begins ≡ length cells₀)
-    × (take i cells ++ cells_of (starts-onward file base (length cells₀) i) ≡ cells_of (starts-onward file base (length cells₀) 0))
-    × (take i begins ++ begins-of (starts-onward file base (length cells₀) i) ≡ begins-of (starts-onward file base (length cells₀) 0))
+    × (take i cells ++ cells_of (starts_onward file base (length cells₀) i) ≡ cells_of (starts_onward file base (length cells₀) 0))
+    × (take i begins ++ begins_of (starts_onward file base (length cells₀) i) ≡ begins_of (starts_onward file base (length cells₀) 0))
 
 abbrev decreases-loop : tie.decreases-loop
 decreases-loop file base cells₀ begins₀ i₀ cells begins i = length cells₀ - i
@@ -25,7 +25,7 @@ loop-holds : tie.Need-loop-init invariant-loop decreases-loop
 loop-holds c = (omega arith, refl, sym c.before.before.before.requires.1, refl, refl)
 
 loop-again : tie.Need-loop-preserved invariant-loop decreases-loop
-unfolding cells_of begins-of
+unfolding cells_of begins_of
 loop-again c =
     let l = c.before.before.loop in
     let a = c.before.before.before.before.before.before.args in
@@ -39,7 +39,7 @@ loop-again c =
     )
 
 returns : tie.Need-returns invariant-loop decreases-loop
-unfolding cells_of begins-of
+unfolding cells_of begins_of
 returns c =
     let a = c.before.before.before.before.before.args in
     let l = c.before.loop in
@@ -47,7 +47,7 @@ returns c =
     let e = sym (none a.file.now a.base n l.i (omega (arith, c.loop-test.false))) in
     let whole = sym (starts-all a.file.now a.base n) in (
       sym (full l.cells l.i (omega arith)) ∙ ap (λ u. take l.i l.cells ++ map (λ x. x.cell) u) e ∙ l.invariant.3 ∙ ap cells_of whole,
-      sym (full l.begins l.i (omega arith)) ∙ ap (λ u. take l.i l.begins ++ map (λ x. x.time) u) e ∙ l.invariant.4 ∙ ap begins-of whole,
+      sym (full l.begins l.i (omega arith)) ∙ ap (λ u. take l.i l.begins ++ map (λ x. x.time) u) e ∙ l.invariant.4 ∙ ap begins_of whole,
     )
 
 pub read-starts-spec : {M : Type 1} → statement M

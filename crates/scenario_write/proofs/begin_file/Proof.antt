@@ -8,21 +8,21 @@ use lib.ListN.{length}
 use lib.Seq.{length-take-le}
 use borrow.Author.Rules.{rules}
 use Rattle.eikonal.specs.Order.{cause, first_of}
-use Rattle.eikonal.specs.Refusals.{Handed, board-causes}
+use Rattle.eikonal.specs.Refusals.{Handed, board_causes}
 use Rattle.eikonal.specs.Ledger.{answer}
 use Rattle.eikonal.specs.declared.Start.{Start}
 use Rattle.refusals.specs.Flaws.{with_pair}
 use Rattle.eikonal.proofs.Causes.{number_is}
 use Rattle.scenario.specs.Runs.{runs_of}
-use Rattle.scenario.specs.File.{runs-end, file-size, head_of, front}
-use Rattle.scenario.specs.Turns.{turn-refusal}
+use Rattle.scenario.specs.File.{runs_end, file_size, head_of, front}
+use Rattle.scenario.specs.Turns.{turn_refusal}
 use Rattle.scenario.specs.Calls.{written}
 use Rattle.scenario.specs.Inner.Begin.{given_by, Judges}
-use Rattle.scenario.proofs.GoodRuns.{runs-of-count}
-use Rattle.scenario.proofs.Slows.{ground-pair}
+use Rattle.scenario.proofs.GoodRuns.{runs_of-count}
+use Rattle.scenario.proofs.Slows.{ground_pair}
 use Rattle.scenario.proofs.Answers.{part-entered}
 use Rattle.scenario.proofs.Written.{front_length}
-use Rattle.scenario.proofs.Writing.{Taken, causes, gave, refuses-board, refuses-short, refuses-none, slow-most, starts-most}
+use Rattle.scenario.proofs.Writing.{Taken, causes, gave, refuses_board, refuses_short, refuses_none, slow-most, starts-most}
 use Rattle.scenario.proofs.Writing.{judges-many, judges-length, begins-refused, begins-done}
 use Rattle.scenario_write.proofs.begin_file.Statement.{statement}
 use Rattle.scenario_write.proofs.begin_file.Tie as tie
@@ -38,23 +38,23 @@ Judged s xs = let a = s.args in Judges a.slow.now a.cells a.begins a.judged xs
 
 -- all causes but for 14, whatever the starts are that were judged
 board : (c : tie.After-board-refusal) (xs : List Start) → Judged (start c) xs
-    → c.board-refusal.result ≡ first_of (causes (given (start c) xs) (start c).args.ticks (start c).args.ground)
-unfolding turn-refusal first_of
+    → c.board_refusal.result ≡ first_of (causes (given (start c) xs) (start c).args.ticks (start c).args.ground)
+unfolding turn_refusal first_of
 board c xs js =
     let w = c.before.before in
     let p = w.before.before.before in
     let a = (start c).args in
-    let ground = p.with_pair.ensures ∙ ap (with_pair a.ground) p.before.flawless.ensures ∙ ground-pair a.ground in
-    let ticks : w.when.result ≡ turn-refusal a.ticks =
-    w.when.ensures ∙ (λ i. cond (not (w.before.before.ticks-good.ensures i)) (cause 3) (w.before.cause.ensures i)) in
-    c.board-refusal.ensures xs (a.ground ∷ []) js.is ground
-    ∙ (λ i. first_of (board-causes (given (start c) xs) (a.ground ∷ a.slow.now) (ticks i) (c.before.cause2.ensures i)))
+    let ground = p.with_pair.ensures ∙ ap (with_pair a.ground) p.before.flawless.ensures ∙ ground_pair a.ground in
+    let ticks : w.when.result ≡ turn_refusal a.ticks =
+    w.when.ensures ∙ (λ i. cond (not (w.before.before.ticks_good.ensures i)) (cause 3) (w.before.cause.ensures i)) in
+    c.board_refusal.ensures xs (a.ground ∷ []) js.is ground
+    ∙ (λ i. first_of (board_causes (given (start c) xs) (a.ground ∷ a.slow.now) (ticks i) (c.before.cause2.ensures i)))
 
 returns : tie.Need-returns
 returns c =
     let b = c.before.before.before in
     let n = c.before.if1.true in
-    begins-refused _ _ _ _ _ _ _ _ _ _ _ b.board-refusal.result n c.refused.ensures (λ xs js. refuses-board _ _ _ _ _ (board b xs js) n)
+    begins-refused _ _ _ _ _ _ _ _ _ _ _ b.board_refusal.result n c.refused.ensures (λ xs js. refuses_board _ _ _ _ _ (board b xs js) n)
 
 -- none of them is met
 module _ (c : tie.Else1) (xs : List Start) (js : Judged (start c.before.before) xs) where
@@ -73,9 +73,9 @@ small c =
 
 -- the whole file's length
 need : (c : tie.After-file-length) → let a = (start c.before.before.before.before.before).args in
-    c.file-length.result ≡ file-size (length (runs_of a.ground a.slow.now)) a.cells
+    c.file-length.result ≡ file_size (length (runs_of a.ground a.slow.now)) a.cells
 unfolding head_of
-need c = c.file-length.ensures ∙ ap (λ u. file-size u.runs u.starts) c.before.before.head-for.ensures
+need c = c.file-length.ensures ∙ ap (λ u. file_size u.runs u.starts) c.before.before.head-for.ensures
 
 -- the file's, whatever the starts are
 long : (c : tie.After-file-length) (xs : List Start) → let s = start c.before.before.before.before.before in
@@ -87,7 +87,7 @@ returns-2 c =
     let l = c.before.before.before in
     let short = c.before.before.if2.true in
     begins-refused _ _ _ _ _ _ _ _ _ _ _ (cause 14) (λ q. omega arith) (c.refused2.ensures ∙ ap (λ u. answer u 0) c.before.cause3.ensures)
-    (λ xs js. refuses-short _ _ _ _ (passed l.before.before.before xs js) (omega (arith, short, long l xs js)))
+    (λ xs js. refuses_short _ _ _ _ (passed l.before.before.before xs js) (omega (arith, short, long l xs js)))
 
 -- the part that is lent on
 fits : (c : tie.Else2) → c.before.before.starts-base.result
@@ -110,7 +110,7 @@ cast-counted c =
     let l = c.before.before.before.before.before in
     let e = l.before.before.before in
     let a = (start e.before.before).args in
-    omega (arith, need l, runs-of-count a.ground a.slow.now, small e)
+    omega (arith, need l, runs_of-count a.ground a.slow.now, small e)
 
 returns-3 : tie.Need-returns-3
 unfolding head_of
@@ -123,9 +123,9 @@ returns-3 c =
     let a = (start h.before.before.before).args in
     let x = head_of a.width a.height a.storeys a.ticks a.ground a.slow.now a.cells in
     let size : length (front x a.slow.now) ≡ b.starts-base.result =
-    front_length x a.slow.now ∙ sym (b.starts-base.ensures ∙ ap (λ u. runs-end u.runs) h.head-for.ensures) in
+    front_length x a.slow.now ∙ sym (b.starts-base.ensures ∙ ap (λ u. runs_end u.runs) h.head-for.ensures) in
     begins-done _ _ _ _ _ _ _ _ _ _ _ l.file-length.result c.counted.ensures
-    (λ xs js. (refuses-none _ _ _ _ (passed h.before xs js) (omega (arith, i.if2.false, long l xs js)), long l xs js))
+    (λ xs js. (refuses_none _ _ _ _ (passed h.before xs js) (omega (arith, i.if2.false, long l xs js)), long l xs js))
     _ (part-entered _ _ _ a.out.now (f.write-front.ensures ∙ ap (λ u. front u a.slow.now) h.head-for.ensures) size)
 
 pub begin-file-spec : {M : Type 1} → statement M

@@ -2,7 +2,7 @@
 use native.Mathlib.Omega.{arith}
 use borrow.Author.Rules.{rules}
 use Rattle.front.proofs.Theory.Reading.{cells-most, slow-long}
-use Rattle.sides.proofs.Pass.{ground-wide, round-laid, round-found}
+use Rattle.sides.proofs.Pass.{ground-wide, round_laid, round-found}
 use Rattle.sides.proofs.find_round.Statement.{statement}
 use Rattle.sides.proofs.find_round.Tie as tie
 
@@ -29,7 +29,7 @@ find-laid-requires c κs =
     let g = c.before.before.before.before in
     let f = filled g in
     let p = (start f).pre in
-    round-laid p.0 f.fill.ensures g.lay-ghosts.ensures p.1 p.2 p.3
+    round_laid p.0 f.fill.ensures g.lay-ghosts.ensures p.1 p.2 p.3
 
 returns : tie.Need-returns
 returns c =

@@ -2,7 +2,7 @@
 use native.Mathlib.Omega.{arith}
 use borrow.Author.Rules.{rules}
 use mathlib.Core.Path.{◌≡◌}
-use Rattle.sides.proofs.Pass.{legal-on, flat-most, row-flat, row-house}
+use Rattle.sides.proofs.Pass.{legal-on, flat-most, row-flat, row_house}
 use Rattle.sides.proofs.find_row.Statement.{statement}
 use Rattle.sides.proofs.find_row.Tie as tie
 
@@ -24,14 +24,14 @@ returns : tie.Need-returns
 returns c =
     let f = c.before.before.before.before.before.before.before.before in
     let p = start f in
-    row-house p.pre.0 p.pre.1 p.args.bound f.flat-row.ensures c.before.before.stack-row.ensures
+    row_house p.pre.0 p.pre.1 p.args.bound f.flat-row.ensures c.before.before.stack-row.ensures
 
 returns-2 : tie.Need-returns-2
 returns-2 c =
     let f = c.before.before.before.before in
     let p = start f in
     let lg = p.pre.0 in
-    let flat : p.args.shape.storeys ≡ 1 = omega (arith, c.if1.false, lg.ground.good.storeys-low) in
+    let flat : p.args.shape.storeys ≡ 1 = omega (arith, c.if1.false, lg.ground.good.storeys_low) in
     row-flat lg p.pre.1 p.args.bound flat (omega (arith, p.fits.bound)) f.flat-row.ensures
 
 pub find-row-spec : {M : Type 1} → statement M

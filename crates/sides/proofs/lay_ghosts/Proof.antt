@@ -4,7 +4,7 @@ use native.Mathlib.Omega.{arith}
 use native.Mathlib.Numerals.{add-one}
 use mathlib.Core.Path.{◌≡◌, subst}
 use Rattle.sides.specs.Pass.{Ghosts}
-use Rattle.sides.proofs.Pass.{ghosts-none, ghosts-next}
+use Rattle.sides.proofs.Pass.{ghosts_none, ghosts_next}
 use Rattle.sides.proofs.lay_ghosts.Statement.{statement}
 use Rattle.sides.proofs.lay_ghosts.Tie as tie
 
@@ -15,7 +15,7 @@ abbrev decreases-loop : tie.decreases-loop
 decreases-loop slow times work₀ shape n e₀ work e = shape.cells - e
 
 loop-holds : tie.Need-loop-init invariant-loop decreases-loop
-loop-holds c = (omega arith, ghosts-none)
+loop-holds c = (omega arith, ghosts_none)
 
 -- the entry, from within the loop
 abbrev start : tie.In-loop invariant-loop decreases-loop → tie.Start invariant-loop decreases-loop
@@ -44,7 +44,7 @@ loop-again c =
     let l = c.before.before.loop in
     let on = c.before.loop-test.true in
     let p = (start c.before).pre in
-    (omega (arith, on), rw (add-one l.e) (ghosts-next l.invariant.1 on (omega (arith, p.2)) c.ghost-time.ensures))
+    (omega (arith, on), rw (add-one l.e) (ghosts_next l.invariant.1 on (omega (arith, p.2)) c.ghost-time.ensures))
 
 same_length : tie.Need-same-length invariant-loop decreases-loop
 same_length c = c.before.loop.invariant.1.long

@@ -17,22 +17,22 @@ sub-e : tie.Need-overflow-sub-e
 sub-e c = c.before.requires.1.low c.if1.false
 
 part-result-end : tie.Need-slice-bounds-result-end
-part-result-end c = let l = c.before.before.requires.1 in let d = c.before.if1.false in omega (arith, l.low d, l.own-fits d, l.far-fits d)
+part-result-end c = let l = c.before.before.requires.1 in let d = c.before.if1.false in omega (arith, l.low d, l.own_fits d, l.far_fits d)
 
 returns-2 : tie.Need-returns-2
 returns-2 c =
     let l = c.before.before.before.requires.1 in
     let d = c.before.before.if1.false in
-    row-own c.before.if2.true (omega (arith, l.low d, l.own-fits d))
+    row-own c.before.if2.true (omega (arith, l.low d, l.own_fits d))
 
 part-result-end-2 : tie.Need-slice-bounds-result-end-2
-part-result-end-2 c = let l = c.before.before.requires.1 in let d = c.before.if1.false in omega (arith, l.low d, l.own-fits d, l.far-fits d)
+part-result-end-2 c = let l = c.before.before.requires.1 in let d = c.before.if1.false in omega (arith, l.low d, l.own_fits d, l.far_fits d)
 
 returns-3 : tie.Need-returns-3
 returns-3 c =
     let l = c.before.before.before.requires.1 in
     let d = c.before.before.if1.false in
-    row-far d c.before.if2.false (omega (arith, l.low d, l.far-fits d))
+    row-far d c.before.if2.false (omega (arith, l.low d, l.far_fits d))
 
 pub row-at-spec : {M : Type 1} → statement M
 row-at-spec =

@@ -5,8 +5,8 @@ use mathlib.Core.Path.{◌≡◌, refl}
 use Prim.Native.Nat.{◌+◌, ◌*◌, ◌-◌, ◌≤◌, ◌<◌}
 use lib.ListN.{length}
 use Rattle.queue.proofs.Parts.{part-long, part_at}
-use Rattle.front.specs.Seams.{mark-under, mark-over}
-use Rattle.front.proofs.Theory.Reading.{measured, storey-most}
+use Rattle.front.specs.Seams.{mark_under, mark_over}
+use Rattle.front.proofs.Theory.Reading.{measured, storey_most}
 use Rattle.sides.specs.Pass.{Seen-row}
 use Rattle.sides.proofs.Seen.{stack_is}
 use Rattle.sides.proofs.Pass.{ends, over-lines, under-lines, even, done-part}
@@ -20,7 +20,7 @@ fits : (p : tie.Start) → let a = p.args in let w = a.shape.width in
 fits p = ends p.requires.0.legal p.requires.1
 
 storey : (p : tie.Start) → p.args.shape.width * p.args.shape.height ≤ 65536
-storey p = omega (arith, fits p, storey-most p.requires.0.legal.ground measured)
+storey p = omega (arith, fits p, storey_most p.requires.0.legal.ground measured)
 
 mul-area : tie.Need-overflow-mul-area
 mul-area c = omega (arith, storey c.before.before.before.before.before)
@@ -51,11 +51,11 @@ abbrev start : tie.After-row-at2 → tie.Start
 start c = c.before.before.before.before.before.before.before.before.before
 
 over : (c : tie.After-row-at2) → let a = (start c).args in let w = a.shape.width in let n = w * a.shape.height in
-    Seen-row (mark-over a.shape.cells n (a.row * w)) a.own.now a.far.now (a.row * w + n - 0) w c.before.before.row_at.result.now
+    Seen-row (mark_over a.shape.cells n (a.row * w)) a.own.now a.far.now (a.row * w + n - 0) w c.before.before.row_at.result.now
 over c = rw c.before.before.before.seam-over.ensures at c.before.before.row_at.ensures
 
 under : (c : tie.After-row-at2) → let a = (start c).args in let w = a.shape.width in let n = w * a.shape.height in
-    Seen-row (mark-under n (a.row * w)) a.own.now a.far.now (a.row * w + 0 - n) w c.row-at2.result.now
+    Seen-row (mark_under n (a.row * w)) a.own.now a.far.now (a.row * w + 0 - n) w c.row-at2.result.now
 under c = rw c.before.seam-under.ensures at c.row-at2.ensures
 
 part-add-storeys-end : tie.Need-slice-bounds-add-storeys-end

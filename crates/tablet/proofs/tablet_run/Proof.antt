@@ -9,23 +9,23 @@ use Rattle.eikonal.specs.Board.{size}
 use Rattle.scenario.specs.Bytes.{four_bytes, bytes_of}
 use Rattle.scenario.specs.File.{held}
 use Rattle.scenario.proofs.Reading.{cells-read, sides-read}
-use Rattle.tablet.specs.Tablet.{times-bytes}
+use Rattle.tablet.specs.Tablet.{times_bytes}
 use Rattle.tablet.proofs.Parts.{Back, back}
 use Rattle.tablet.proofs.SmallFiles.{Small, small, cells-few}
-use Rattle.tablet.proofs.Answers.{Taken, taken, says-refused, says-done}
+use Rattle.tablet.proofs.Answers.{Taken, taken, says_refused, says-done}
 use Rattle.tablet.proofs.tablet_run.Statement.{statement}
 use Rattle.tablet.proofs.tablet_run.Tie as tie
 
 returns : tie.Need-returns
 returns c =
-    let k = c.before.before.before.tablet-refusal in
+    let k = c.before.before.before.tablet_refusal in
     let a = c.before.before.before.before.before.before.args in
-    says-refused a.file.now a.stride a.across a.down a.out.now k.result k.ensures c.before.if1.true
+    says_refused a.file.now a.stride a.across a.down a.out.now k.result k.ensures c.before.if1.true
 
 -- nothing refuses the call
 good : (c : tie.Else1) → let a = c.before.before.before.before.before.args in
     Taken a.file.now a.stride a.across a.down (length a.out.now)
-good c = taken _ _ _ _ _ (ap (λ u. u.number) (sym c.before.before.tablet-refusal.ensures) ∙ c.if1.false)
+good c = taken _ _ _ _ _ (ap (λ u. u.number) (sym c.before.before.tablet_refusal.ensures) ∙ c.if1.false)
 
 few : (c : tie.Else1) → Small c.before.before.before.before.before.args.file.now
 few c = small _ (good c).accepted
@@ -91,13 +91,13 @@ put-times-requires c κs =
     length-take-le _ n.before.before.before.before.before.before.before.args.out.now (out-fits n) ∙ ap (λ u. 4 * u) (times-back r).count
 
 returns-2 : tie.Need-returns-2
-unfolding times-bytes
+unfolding times_bytes
 returns-2 c =
     let p = c.before.before in
     let r = p.before.before.before.before in
     let n = r.before.before.before in
     let i = n.before.before in
-    let k = i.before.before.tablet-refusal in
+    let k = i.before.before.tablet_refusal in
     let a = i.before.before.before.before.before.args in
     let now = p.put-times.ensures ∙ ap (bytes_of four_bytes) ((times-back r).same ∙ r.run-file.ensures.1) in
     let long = sym (ap length now) ∙ p.put-times.auto.0 ∙ length-take-le _ a.out.now (out-fits n) in

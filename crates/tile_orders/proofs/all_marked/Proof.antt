@@ -5,39 +5,39 @@ use Prim.Native.Nat.{ℕ, ◌-◌, ◌≤◌}
 use native.Mathlib.Numerals.{add-one}
 use native.Mathlib.Omega.{arith}
 use borrow.Author.Tests.{eq-eqb, ne_eqb}
-use Rattle.tile_orders.specs.Orders.{all-below, marked}
-use Rattle.tile_orders.proofs.Orders.{all-below-more, all-below-stops}
+use Rattle.tile_orders.specs.Orders.{all_below, marked}
+use Rattle.tile_orders.proofs.Orders.{all_below-more, all_below_stops}
 use Rattle.tile_orders.proofs.all_marked.Statement.{statement}
 use Rattle.tile_orders.proofs.all_marked.Tie as tie
 
 abbrev invariant-loop : tie.invariant-loop
-invariant-loop seen many j₀ j = (j ≤ many) × (all-below j (λ k. marked seen k) ≡ true)
+invariant-loop seen many j₀ j = (j ≤ many) × (all_below j (λ k. marked seen k) ≡ true)
 
 abbrev decreases-loop : tie.decreases-loop
 decreases-loop seen many j₀ j = many - j
 
 loop-holds : tie.Need-loop-init invariant-loop decreases-loop
-unfolding all-below
+unfolding all_below
 loop-holds c = (omega arith, refl)
 
 returns : tie.Need-returns invariant-loop decreases-loop
 returns c =
     let at = c.before.before.before in
     let a = at.before.args in
-    sym (all-below-stops at.loop.j a.many (λ k. marked a.seen.now k) c.before.before.loop-test.true (ne_eqb _ 1 c.if1.true))
+    sym (all_below_stops at.loop.j a.many (λ k. marked a.seen.now k) c.before.before.loop-test.true (ne_eqb _ 1 c.if1.true))
 
 loop-again : tie.Need-loop-preserved invariant-loop decreases-loop
 loop-again c =
     let at = c.before.before.before in
     let a = at.before.args in
-    (omega arith, rw add-one (all-below-more at.loop.j (λ k. marked a.seen.now k) at.loop.invariant.1 (eq-eqb _ 1 c.if1.false)))
+    (omega arith, rw add-one (all_below-more at.loop.j (λ k. marked a.seen.now k) at.loop.invariant.1 (eq-eqb _ 1 c.if1.false)))
 
 returns-2 : tie.Need-returns-2 invariant-loop decreases-loop
 returns-2 c =
     let at = c.before in
     let a = at.before.args in
     let end : at.loop.j ≡ a.many = omega arith in
-    sym (subst (λ (n : ℕ). all-below n (λ k. marked a.seen.now k) ≡ true) end at.loop.invariant.1)
+    sym (subst (λ (n : ℕ). all_below n (λ k. marked a.seen.now k) ≡ true) end at.loop.invariant.1)
 
 pub all-marked-spec : {M : Type 1} → statement M
 all-marked-spec =

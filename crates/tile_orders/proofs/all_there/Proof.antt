@@ -6,7 +6,7 @@ use native.Mathlib.Omega.{arith}
 use borrow.Author.Rules.{rules}
 use borrow.Author.Tests.{not-true, not-false}
 use Rattle.eikonal.specs.Refusals.{all_there}
-use Rattle.tile_orders.proofs.Orders.{there-on, there-fails}
+use Rattle.tile_orders.proofs.Orders.{there-on, there_fails}
 use Rattle.tile_orders.proofs.all_there.Statement.{statement}
 use Rattle.tile_orders.proofs.all_there.Tie as tie
 
@@ -23,15 +23,15 @@ loop-holds c = (omega arith, refl)
 -- the part that is next decides whether all are there up to its end
 on : (c : tie.After-part-there invariant-loop decreases-loop)
     → all_there (c.before.before.before.loop.from + c.before.next-part.result) c.before.before.before.before.before.args.order.now
-    ≡ c.part-there.result
+    ≡ c.part_there.result
 on c =
     let at = c.before.before.before in
-    there-on at.loop.from c.before.next-part.result at.before.before.args.order.now at.loop.invariant.1 ∙ sym c.part-there.ensures
+    there-on at.loop.from c.before.next-part.result at.before.before.args.order.now at.loop.invariant.1 ∙ sym c.part_there.ensures
 
 returns : tie.Need-returns invariant-loop decreases-loop
 returns c =
     let a = c.before.before.before.before.before.before.args in
-    sym (there-fails _ a.count a.order.now (omega arith) (on c.before ∙ not-true _ c.if1.true))
+    sym (there_fails _ a.count a.order.now (omega arith) (on c.before ∙ not-true _ c.if1.true))
 
 loop-again : tie.Need-loop-preserved invariant-loop decreases-loop
 loop-again c = (omega arith, on c.before ∙ not-false _ c.if1.false)

@@ -11,7 +11,7 @@ use lib.ListN.{length, get_or, take, get_or-replicate}
 use lib.Seq.{take_all}
 use Rattle.eikonal.specs.Refusals.{member}
 use Rattle.tile_orders.specs.Orders.{marked}
-use Rattle.tile_orders.proofs.Orders.{all-below-same, member-more}
+use Rattle.tile_orders.proofs.Orders.{all_below-same, member-more}
 use Rattle.tile_orders.proofs.part_there.Statement.{statement}
 use Rattle.tile_orders.proofs.part_there.Tie as tie
 
@@ -45,7 +45,7 @@ returns c =
     let a = at.before.before.args in
     let order = a.order.now in
     c.all-marked.ensures
-    ∙ all-below-same a.many _ (λ j. member (a.from + j) order) (λ j h. at.loop.invariant.2 j (omega arith)
+    ∙ all_below-same a.many _ (λ j. member (a.from + j) order) (λ j h. at.loop.invariant.2 j (omega arith)
     ∙ ap (λ (xs : List ℕ). member (a.from + j) xs) (take_all at.loop.i order (omega arith)))
 
 pub part-there-spec : {M : Type 1} → statement M

@@ -5,14 +5,14 @@ use native.Mathlib.Omega.{arith}
 use lib.Dec.{eqb}
 use lib.ListN.{length}
 use borrow.Author.Rules.{rules}
-use Rattle.eikonal.specs.Board.{board-of}
+use Rattle.eikonal.specs.Board.{board_of}
 use Rattle.eikonal.specs.Order.{first_of}
-use Rattle.eikonal.specs.Refusals.{handed, board-causes}
-use Rattle.eikonal.specs.Ledger.{call, own-refusal}
+use Rattle.eikonal.specs.Refusals.{handed, board_causes}
+use Rattle.eikonal.specs.Ledger.{call, own_refusal}
 use Rattle.eikonal.specs.declared.Start.{Start}
-use Rattle.refusals.specs.Judge.{judge, nothing-judged}
-use Rattle.refusals.proofs.Pairs.{with-no-pairs}
-use Rattle.engine.proofs.Theory.Steps.{sides-fit, board-sides, board-room}
+use Rattle.refusals.specs.Judge.{judge, nothing_judged}
+use Rattle.refusals.proofs.Pairs.{with_no_pairs}
+use Rattle.engine.proofs.Theory.Steps.{sides_fit, board-sides, board-room}
 use Rattle.engine.proofs.calls.begin.Statement.{statement}
 use Rattle.engine.proofs.calls.begin.Tie as tie
 
@@ -21,21 +21,21 @@ abbrev start : tie.After-call-refusal → tie.Start
 start c = c.before.before.before.before.before.before
 
 board : (c : tie.After-board-refusal) → let s = c.before.before.before.before.before in let a = s.args in (xs : List Start)
-    → a.judged ≡ judge a.slow.now xs nothing-judged → c.board-refusal.result
-    ≡ first_of (board-causes (handed (board-of a.width a.height a.storeys a.slow.now xs) (eqb a.cells a.begins)) a.slow.now
+    → a.judged ≡ judge a.slow.now xs nothing_judged → c.board_refusal.result
+    ≡ first_of (board_causes (handed (board_of a.width a.height a.storeys a.slow.now xs) (eqb a.cells a.begins)) a.slow.now
     a.own.ticks a.own.kinds)
-board c xs is = c.board-refusal.ensures xs [] is (c.before.flawless.ensures ∙ sym (with-no-pairs _))
+board c xs is = c.board_refusal.ensures xs [] is (c.before.flawless.ensures ∙ sym (with_no_pairs _))
 
-refused : (c : tie.After-call-refusal) → let a = (start c).args in (xs : List Start) → a.judged ≡ judge a.slow.now xs nothing-judged
+refused : (c : tie.After-call-refusal) → let a = (start c).args in (xs : List Start) → a.judged ≡ judge a.slow.now xs nothing_judged
     → c.call-refusal.result
-    ≡ own-refusal (call (handed (board-of a.width a.height a.storeys a.slow.now xs) (eqb a.cells a.begins)) a.job a.order.now
+    ≡ own_refusal (call (handed (board_of a.width a.height a.storeys a.slow.now xs) (eqb a.cells a.begins)) a.job a.order.now
     a.sides (length a.work.now)) a.own a.times
 refused c xs is = c.call-refusal.ensures (start c).args.slow.now xs _ (board c.before xs is)
 
 call-refusal-requires : tie.Need-call-refusal-requires
 call-refusal-requires c κs z =
     let j = c.before.before.before.before.before.requires in
-    sides-fit _ _ _ _ (board c j.starts j.is) z
+    sides_fit _ _ _ _ (board c j.starts j.is) z
 
 returns : tie.Need-returns
 returns c xs is =

@@ -6,7 +6,7 @@ use Rattle.engine.proofs.calls.end.Statement.{statement}
 use Rattle.engine.proofs.calls.end.Tie as tie
 
 returns : tie.Need-returns
-returns c = record { turned_down = λ d. (c.refused.ensures, refl, refl); gone-through = λ z. absurd (c.before.if1.true z) }
+returns c = record { turned_down = λ d. (c.refused.ensures, refl, refl); gone_through = λ z. absurd (c.before.if1.true z) }
 
 job-requires : tie.Need-job-requires
 job-requires c κs = c.before.before.before.before.before.before.before.before.before.before.requires c.before.before.before.if1.false
@@ -17,7 +17,7 @@ returns-2 c =
     let at = c.before.before.before.before.before.before.before in
     record {
       turned_down = λ d. absurd (d at.before.before.before.before.if1.false);
-      gone-through = λ z. rw c.counted.ensures (refl, at.job.ensures);
+      gone_through = λ z. rw c.counted.ensures (refl, at.job.ensures);
     }
 
 pub end-spec : {M : Type 1} → statement M

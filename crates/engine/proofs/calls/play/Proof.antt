@@ -5,8 +5,8 @@ use lib.Dec.{eqb}
 use lib.ListN.{length}
 use borrow.Author.Rules.{rules}
 use borrow.Author.Tests.{eqb-true}
-use Rattle.eikonal.specs.Board.{board-of}
-use Rattle.eikonal.specs.Refusals.{handed, starts-of, by-lists}
+use Rattle.eikonal.specs.Board.{board_of}
+use Rattle.eikonal.specs.Refusals.{handed, starts_of, by_lists}
 use Rattle.eikonal.specs.Ledger.{call}
 use Rattle.refusals.specs.Judge.{judge}
 use Rattle.engine.specs.Calls.{Opened}
@@ -28,25 +28,25 @@ abbrev ends : tie.After-clear → tie.After-end
 ends c = c.before.before.before.before.before.before.before.before.before
 
 judge-starts-requires : tie.Need-judge-starts-requires
-judge-starts-requires c κs = omega (arith, ap (λ u. u.seen) c.nothing-judged.ensures)
+judge-starts-requires c κs = omega (arith, ap (λ u. u.seen) c.nothing_judged.ensures)
 
 begin-requires : tie.Need-begin-requires
 begin-requires c κs =
     let a = c.before.before.before.before.before.before.before.before.before.before.args in
-    let xs = starts-of a.cells.now a.begins.now in
-    record { starts = xs; is = c.before.judge-starts.ensures ∙ ap (judge a.slow.now xs) c.before.before.nothing-judged.ensures }
+    let xs = starts_of a.cells.now a.begins.now in
+    record { starts = xs; is = c.before.judge-starts.ensures ∙ ap (judge a.slow.now xs) c.before.before.nothing_judged.ensures }
 
 -- what the beginning leaves, by the starts of the lists
 opened : (c : tie.After-begin) → let a = (start c).args in let cs = a.cells.now in let bs = a.begins.now in
     Opened
-    (call (handed (board-of a.width a.height a.storeys a.slow.now (starts-of cs bs)) (eqb (length cs) (length bs))) a.job a.order.now
+    (call (handed (board_of a.width a.height a.storeys a.slow.now (starts_of cs bs)) (eqb (length cs) (length bs))) a.job a.order.now
     (length a.sides.now) (length a.work.now))
     a.own (length a.times.now) c.begin.result a.work.now c.begin.new.1.1.1.1.1.1.1.1.1.1.1.1.0
 opened c =
     let a = (start c).args in
-    let xs = starts-of a.cells.now a.begins.now in
+    let xs = starts_of a.cells.now a.begins.now in
     let judged = c.before.before in
-    c.begin.ensures xs (judged.judge-starts.ensures ∙ ap (judge a.slow.now xs) judged.before.nothing-judged.ensures)
+    c.begin.ensures xs (judged.judge-starts.ensures ∙ ap (judge a.slow.now xs) judged.before.nothing_judged.ensures)
 
 seed-requires : tie.Need-seed-requires
 seed-requires c κs =
@@ -74,7 +74,7 @@ clear-requires c κs =
     )
 
 returns : tie.Need-returns
-unfolding by-lists
+unfolding by_lists
 returns c =
     let cl = c.before.before in
     let e = ends cl in

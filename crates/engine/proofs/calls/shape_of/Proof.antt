@@ -4,7 +4,7 @@ use Rattle.engine.proofs.calls.shape_of.Statement.{statement}
 use Rattle.engine.proofs.calls.shape_of.Tie as tie
 
 march : tie.Need-returns
-march c = rw c.before.enum_told.given.1 c.shape-with.ensures
+march c = rw c.before.enum_told.given.1 c.shape_with.ensures
 
 round : tie.Need-returns-2
 round c = rw c.before.before.job.given.1 c.shape-with2.ensures

@@ -1,11 +1,11 @@
 -- `engine::run::round` meets its contract.
 use Prim.Native.Nat.{suc, ◌*◌, min}
 use native.Mathlib.Omega.{arith}
-use Rattle.front.specs.Board.{rule-at, at}
+use Rattle.front.specs.Board.{rule_at, at}
 use Rattle.front.specs.State.{Drained}
 use Rattle.front.proofs.Theory.Reading.{cells-most}
-use Rattle.front.proofs.Theory.Strips.{all-drained}
-use Rattle.engine.proofs.Theory.Running.{drained-to, ready, ground-kept, taken-fit, taken-on, one-round}
+use Rattle.front.proofs.Theory.Strips.{all_drained}
+use Rattle.engine.proofs.Theory.Running.{drained_to, ready, ground-kept, taken-fit, taken-on, one-round}
 use borrow.Author.Rules.{rules}
 use Rattle.engine.proofs.run.round.Statement.{statement}
 use Rattle.engine.proofs.run.round.Tie as tie
@@ -25,12 +25,12 @@ stored c = c.before.before.before.before.before
 
 -- what the drain leaves
 done : (d : tie.After-drain) → let p = start (bounded d) in let a = p.args in
-    Drained a.shape.cells (min (suc a.done * a.stride) a.horizon) d.drain.result.cells (rule-at a.shape a.slow.now a.times.now)
+    Drained a.shape.cells (min (suc a.done * a.stride) a.horizon) d.drain.result.cells (rule_at a.shape a.slow.now a.times.now)
     (at a.work.now a.size) (at d.drain.new.1.1.0 d.drain.result.pending)
 done d =
     let p = start (bounded d) in
     let gr = p.pre.0 in
-    all-drained gr (drained-to (bounded d).bound-after.ensures (d.drain.ensures _ _ (ready gr p.pre.1.at)))
+    all_drained gr (drained_to (bounded d).bound-after.ensures (d.drain.ensures _ _ (ready gr p.pre.1.at)))
 
 drain-requires : tie.Need-drain-requires
 drain-requires c κs =

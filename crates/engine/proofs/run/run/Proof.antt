@@ -13,8 +13,8 @@ use Rattle.eikonal.specs.declared.Start.{Start}
 use Rattle.eikonal.specs.Inner.Good.{Good}
 use Rattle.front.specs.Board.{at}
 use Rattle.engine.specs.Run.{whole, At-round, One-round, Leapt}
-use Rattle.engine.proofs.Theory.Rounds.{leap-short}
-use Rattle.engine.proofs.Theory.Running.{ground-kept, Mid-run, run_short, run-begins, run-stops, run_ends, run-goes-on, run-early, run-busy}
+use Rattle.engine.proofs.Theory.Rounds.{leap_short}
+use Rattle.engine.proofs.Theory.Running.{ground-kept, Mid-run, run_short, run-begins, run_stops, run_ends, run-goes_on, run-early, run-busy}
 use Rattle.engine.proofs.run.run.Statement.{statement}
 use Rattle.engine.proofs.run.run.Tie as tie
 
@@ -117,9 +117,9 @@ loop-again c =
       λ xs good ar.
           let md = l.loop.inv.1 xs good ar in
           let one = r.round.ensures xs good md.at in
-          run-goes-on a.shape a.slow.now xs good a.stride a.horizon p.pre.2 p.pre.3 p.pre.4 md one
+          run-goes_on a.shape a.slow.now xs good a.stride a.horizon p.pre.2 p.pre.3 p.pre.4 md one
           c.before.before.least-key.ensures.0
-          (leap-short
+          (leap_short
           (subst (λ u. Leapt c.before.before.least-key.result u a.stride a.horizon c.before.leap.result) (add-one l.loop.done)
           c.before.leap.ensures)
           (omega (arith, l.loop.inv.0, (turn r).loop-test, c.before.leap.ensures.up, c.at_most.ensures))
@@ -146,7 +146,7 @@ returns-2 : tie.Need-returns-2 invariant-loop decreases-loop
 returns-2 c xs good ar =
     let p = start c.before in
     let a = p.args in
-    run-stops a.shape a.slow.now xs good a.stride a.horizon p.pre.2 p.pre.3 p.pre.4 (c.before.loop.invariant.1 xs good ar)
+    run_stops a.shape a.slow.now xs good a.stride a.horizon p.pre.2 p.pre.3 p.pre.4 (c.before.loop.invariant.1 xs good ar)
     (omega (arith, c.loop-test))
 
 pub run_spec : {M : Type 1} → statement M

@@ -2,7 +2,7 @@
 use native.Mathlib.Omega.{arith}
 use borrow.Author.Rules.{rules}
 use mathlib.Core.Path.{sym, ◌∙◌}
-use Rattle.engine.proofs.Theory.Calls.{ground, cells-few, land-fits, march-through}
+use Rattle.engine.proofs.Theory.Calls.{ground, cells-few, land-fits, march_through}
 use Rattle.engine.proofs.seeded.march.Statement.{statement}
 use Rattle.engine.proofs.seeded.march.Tie as tie
 
@@ -25,12 +25,12 @@ found c = c.before.before.before.before.before
 lay-requires : tie.Need-lay-requires
 lay-requires c κs =
     let f = c.before.before.before.before.before.requires.0.fit in
-    (f.across-low, f.good.wide_low, f.good.wide_high, omega arith, omega arith)
+    (f.across_low, f.good.wide_low, f.good.wide_high, omega arith, omega arith)
 
 lay-requires-2 : tie.Need-lay-requires-2
 lay-requires-2 c κs =
     let f = c.before.before.before.before.before.before.before.before.before.requires.0.fit in
-    (f.down-low, f.good.high-low, f.good.high-high, f.good.storeys-high, f.good.storeys-low)
+    (f.down_low, f.good.high_low, f.good.high_high, f.good.storeys_high, f.good.storeys_low)
 
 drain-tile-requires : tie.Need-drain-tile-requires
 drain-tile-requires c κs =
@@ -88,7 +88,7 @@ returns c xs fit stands =
     let f = finished w in
     let d = drained f in
     let p = start (laid d) in
-    march-through fit p.pre.1 p.pre.2 stands _ _ _ _ _ p.args.horizon _ p.pre.3
+    march_through fit p.pre.1 p.pre.2 stands _ _ _ _ _ p.args.horizon _ p.pre.3
     d.drain-tile.ensures f.finish.ensures w.find-whole.ensures c.before.before.fill.ensures
 
 pub march-spec : {M : Type 1} → statement M

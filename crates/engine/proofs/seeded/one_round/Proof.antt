@@ -5,7 +5,7 @@ use mathlib.Core.Path.{◌∙◌}
 use Prim.Native.Nat.{◌*◌, ◌≤◌}
 use lib.ListN.{length}
 use Rattle.front.specs.Board.{Ground}
-use Rattle.engine.proofs.Theory.Calls.{ground, cells-few, round-through, rows_whole}
+use Rattle.engine.proofs.Theory.Calls.{ground, cells-few, round_through, rows_whole}
 use Rattle.engine.proofs.seeded.one_round.Statement.{statement}
 use Rattle.engine.proofs.seeded.one_round.Tie as tie
 
@@ -28,12 +28,12 @@ written c = c.before.before.before
 lay-requires : tie.Need-lay-requires
 lay-requires c κs =
     let f = c.before.before.before.before.before.before.requires.0.fit in
-    (f.across-low, f.good.wide_low, f.good.wide_high, omega arith, omega arith)
+    (f.across_low, f.good.wide_low, f.good.wide_high, omega arith, omega arith)
 
 lay-requires-2 : tie.Need-lay-requires-2
 lay-requires-2 c κs =
     let f = c.before.before.before.before.before.before.before.before.before.before.requires.0.fit in
-    (f.down-low, f.good.high-low, f.good.high-high, f.good.storeys-high, f.good.storeys-low)
+    (f.down_low, f.good.high_low, f.good.high_high, f.good.storeys_high, f.good.storeys_low)
 
 -- the board with its seams
 ready : (l : tie.After-lay2) → let a = (start l).args in
@@ -48,13 +48,13 @@ drain-strips-requires c κs =
     let l = c.before.before.before.before in
     let p = start l in
     let o = p.pre.0 in
-    (ready l, o.stands.placed, o.fit.down-high, omega (arith, p.pre.1))
+    (ready l, o.stands.placed, o.fit.down_high, omega (arith, p.pre.1))
 
 find-round-requires : tie.Need-find-round-requires
 find-round-requires c κs =
     let d = c.before.before.before.before.before.before.before in
     let f = (start (laid d)).requires.0.fit in
-    (ready (laid d), f.across-high, d.drain-strips.ensures.placed.room, f.sided)
+    (ready (laid d), f.across_high, d.drain-strips.ensures.placed.room, f.sided)
 
 -- there is room after the pass for the sides
 room : (w : tie.After-find-round) → 4 * (start (laid (drained w))).args.shape.cells ≤ length w.find-round.new.1.1.0
@@ -70,13 +70,13 @@ write-tiles-requires c κs =
         few = cells-few f;
         wide_low = f.good.wide_low;
         wide_high = f.good.wide_high;
-        high-low = f.good.high-low;
-        high-high = f.good.high-high;
-        storeys-high = f.good.storeys-high;
-        across-low = f.across-low;
-        across-high = f.across-high;
-        down-low = f.down-low;
-        down-high = f.down-high;
+        high_low = f.good.high_low;
+        high_high = f.good.high_high;
+        storeys_high = f.good.storeys_high;
+        across_low = f.across_low;
+        across_high = f.across_high;
+        down_low = f.down_low;
+        down_high = f.down_high;
         many = f.many;
         space = room w;
       },
@@ -106,7 +106,7 @@ returns c xs fit stands =
     let w = found t in
     let d = drained w in
     let p = start (laid d) in
-    round-through fit stands _ _ _ _ _ p.args.bound _ p.pre.1 d.drain-strips.ensures w.find-round.ensures t.write-tiles.ensures
+    round_through fit stands _ _ _ _ _ p.args.bound _ p.pre.1 d.drain-strips.ensures w.find-round.ensures t.write-tiles.ensures
     c.before.before.fill.ensures
 
 pub one-round-spec : {M : Type 1} → statement M

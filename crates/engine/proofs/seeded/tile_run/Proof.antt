@@ -5,7 +5,7 @@ use mathlib.Core.Path.{◌≡◌, ◌∙◌}
 use Prim.Native.Nat.{◌*◌, ◌≤◌}
 use lib.ListN.{length}
 use Rattle.engine.specs.Run.{Ran}
-use Rattle.engine.proofs.Theory.Calls.{ground, cells-few, land-fits, never-times, run-start, run-through}
+use Rattle.engine.proofs.Theory.Calls.{ground, cells-few, land-fits, never-times, run-start, run_through}
 use Rattle.engine.proofs.seeded.tile_run.Statement.{statement}
 use Rattle.engine.proofs.seeded.tile_run.Tie as tie
 
@@ -32,12 +32,12 @@ fill-requires : tie.Need-fill-requires
 fill-requires c κs = (omega arith, omega (arith, c.before.before.before.before.before.requires.0.fit.many))
 
 lay-requires : tie.Need-lay-requires
-lay-requires c κs = let f = (start c.before.before.before).requires.0.fit in (f.across-low, f.good.wide_low, f.good.wide_high, omega arith, omega arith)
+lay-requires c κs = let f = (start c.before.before.before).requires.0.fit in (f.across_low, f.good.wide_low, f.good.wide_high, omega arith, omega arith)
 
 lay-requires-2 : tie.Need-lay-requires-2
 lay-requires-2 c κs =
     let f = (start c.before.before.before.before.before.before.before).requires.0.fit in
-    (f.down-low, f.good.high-low, f.good.high-high, f.good.storeys-high, f.good.storeys-low)
+    (f.down_low, f.good.high_low, f.good.high_high, f.good.storeys_high, f.good.storeys_low)
 
 gather-requires : tie.Need-gather-requires
 gather-requires c κs =
@@ -106,7 +106,7 @@ returns c xs fit stands =
     let all = never-times fit _ f.fill.ensures in
     let ga = (gathered u).gather.ensures in
     let begins = run-start fit stands ga _ all p.args.stride p.args.horizon in
-    run-through fit stands ga _ all p.args.stride p.args.horizon p.pre.1 p.pre.2 p.pre.3 _ _ _ _ _ _ _ (omega arith)
+    run_through fit stands ga _ all p.args.stride p.args.horizon p.pre.1 p.pre.2 p.pre.3 _ _ _ _ _ _ _ (omega arith)
     (u.run.ensures xs fit.good begins) w.find-whole.ensures c.before.before.fill2.ensures (f.fill.ensures.long ∙ fit.many)
 
 pub tile-run-spec : {M : Type 1} → statement M

@@ -2,11 +2,11 @@
 use Rattle.std.proofs.Common.{◌≡◌, ◌+◌, ◌-◌, ◌*◌, ◌<◌, ◌≤◌, sym, ◌∙◌, arith}
 use Rattle.eikonal.specs.Board.{time}
 use Rattle.front.specs.Seams.{border, near}
-use Rattle.front.specs.Board.{land, rule-at, noted, at}
+use Rattle.front.specs.Board.{land, rule_at, noted, at}
 use Rattle.front.specs.State.{Held, Announced, nobody}
 use Rattle.front.proofs.Theory.Reading.{cells-most, time-at, measured}
 use Rattle.front.proofs.Theory.Telling.{told-held}
-use Rattle.front.proofs.Theory.Announcing.{announced-long, announced-rest, announced-more}
+use Rattle.front.proofs.Theory.Announcing.{announced_long, announced_rest, announced_more}
 use Rattle.front.proofs.commit.announce.Statement.{statement}
 use Rattle.front.proofs.commit.announce.Tie as tie
 
@@ -14,7 +14,7 @@ abbrev invariant-loop : tie.invariant-loop
 invariant-loop slow times work₀ size cols rows shape m n w pending₀ i₀ work pending i =
     (i ≤ m)
     × Held shape.cells (at work pending)
-    × Announced shape.cells (rule-at shape slow times) (time times) (noted work₀ shape.cells)
+    × Announced shape.cells (rule_at shape slow times) (time times) (noted work₀ shape.cells)
     (λ c. near (land shape slow) shape.across shape.down border c) i (at work₀ size) (at work pending)
 
 abbrev decreases-loop : tie.decreases-loop
@@ -29,7 +29,7 @@ note : (w : tie.After-wide invariant-loop decreases-loop) → let o = w.before.b
 note w =
     let o = w.before.before in
     let l = o.before.loop in
-    let at = w.wide.ensures ∙ announced-rest l.invariant.2 (3 * (start o).args.shape.cells + l.i) (omega arith) in
+    let at = w.wide.ensures ∙ announced_rest l.invariant.2 (3 * (start o).args.shape.cells + l.i) (omega arith) in
     (at, omega (arith, at, (start o).requires.3 l.i o.loop-test.true))
 
 loop-holds : tie.Need-loop-init invariant-loop decreases-loop
@@ -77,10 +77,10 @@ loop-again c =
     let l = o.before.loop in
     let told = c.before.before.tell-others.ensures in
     let is = time-at (start o).args.times.now w.wide.result (omega (arith, note w, (start o).requires.0.many)) in
-    (omega arith, told-held l.invariant.1 told, announced-more l.invariant.2 (note w).0 (sym is) told)
+    (omega arith, told-held l.invariant.1 told, announced_more l.invariant.2 (note w).0 (sym is) told)
 
 same_length : tie.Need-same-length invariant-loop decreases-loop
-same_length c = announced-long c.before.loop.invariant.2
+same_length c = announced_long c.before.loop.invariant.2
 
 returns : tie.Need-returns invariant-loop decreases-loop
 returns c =

@@ -5,7 +5,7 @@ use Rattle.front.specs.Front.{weight}
 use Rattle.front.specs.Board.{tentative, at, keys}
 use Rattle.front.specs.State.{Ready-among}
 use Rattle.front.proofs.Theory.Reading.{cells-most}
-use Rattle.front.proofs.Theory.Draining.{Mid-among, among-begins, among-goes-on, drain-room, drain-ends, took-weight}
+use Rattle.front.proofs.Theory.Draining.{Mid-among, among-begins, among-goes_on, drain_room, drain_ends, took_weight}
 use Rattle.front.proofs.drain.drain.Statement.{statement}
 use Rattle.front.proofs.drain.drain.Tie as tie
 
@@ -41,30 +41,30 @@ same_length c = (some c.before.before.before).mid.long
 
 returns : tie.Need-returns invariant-loop decreases-loop
 returns c = λ lo hi re.
-    drain-ends (c.before.before.before.loop.invariant lo hi re).mid (λ d. omega (arith, c.if1.true, c.before.least-key.ensures.0 d))
+    drain_ends (c.before.before.before.loop.invariant lo hi re).mid (λ d. omega (arith, c.if1.true, c.before.least-key.ensures.0 d))
 
 take-requires : tie.Need-take-requires invariant-loop decreases-loop
 take-requires c κs =
     let e = c.before in
     let o = e.before.before.before in
     let md = (some o).mid in
-    ((start o).requires.0, md.held, (due e).0, drain-room md (due e).0, (due e).1)
+    ((start o).requires.0, md.held, (due e).0, drain_room md (due e).0, (due e).1)
 
 add-m : tie.Need-overflow-add-m invariant-loop decreases-loop
 add-m c =
     let e = c.before.before.before.before in
     let o = e.before.before.before in
-    omega (arith, cells-most (start o).requires.0, drain-room (some o).mid (due e).0)
+    omega (arith, cells-most (start o).requires.0, drain_room (some o).mid (due e).0)
 
 loop-less : tie.Need-loop-smaller invariant-loop decreases-loop
-loop-less c = took-weight (some c.before.before.before.before.before.before.before).mid.held c.before.before.take.ensures
+loop-less c = took_weight (some c.before.before.before.before.before.before.before).mid.held c.before.before.take.ensures
 
 loop-again : tie.Need-loop-preserved invariant-loop decreases-loop
 loop-again c =
     let e = c.before.before.before.before in
     let o = e.before.before.before in
     let low : key o.loop.work 0 ≤ (start o).args.bound = omega (arith, (due e).1, e.if1.false) in
-    λ lo hi re. rw (add-one o.loop.m) (among-goes-on (start o).requires.0 re (o.loop.invariant lo hi re) c.before.before.take.ensures (due e).0 low)
+    λ lo hi re. rw (add-one o.loop.m) (among-goes_on (start o).requires.0 re (o.loop.invariant lo hi re) c.before.before.take.ensures (due e).0 low)
 
 pub drain-spec : {M : Type 1} → statement M
 drain-spec =

@@ -1,7 +1,7 @@
 -- `front::drain::take` meets its contract.
 use Rattle.std.proofs.Common.{◌≡◌, ◌+◌, ◌-◌, ◌*◌, ◌<◌, ◌≤◌, [], ◌∷◌, length, set, sym, ◌∙◌, arith}
-use Rattle.front.specs.Seams.{inside, stack-cut, near_on, near}
-use Rattle.front.specs.Board.{land, rule-at, Work, keys, at, Site}
+use Rattle.front.specs.Seams.{inside, stack_cut, near_on, near}
+use Rattle.front.specs.Board.{land, rule_at, Work, keys, at, Site}
 use Rattle.front.specs.State.{Popped, Held, Told, Took}
 use Rattle.front.proofs.Theory.Reading.{cells-most, measured, width_low, width-high, flat, site, within, columns-step, rows_step}
 use Rattle.front.proofs.Theory.Telling.{told-held, told-long, told-rest}
@@ -154,10 +154,10 @@ module _ (t : tie.After-tell-along2) where
   args = start (picked o.before)
 
   told : {u : Work} → let a = args.args in
-      Told a.shape.cells (rule-at a.shape a.slow.now a.times.now) a.t
-      (near_on (stack-cut (land a.shape a.slow.now) ∷ []) a.shape.cells inside (picked o.before).first.result)
+      Told a.shape.cells (rule_at a.shape a.slow.now a.times.now) a.t
+      (near_on (stack_cut (land a.shape a.slow.now) ∷ []) a.shape.cells inside (picked o.before).first.result)
       (at t.tell-along2.last.1.1.0 t.tell-along2.result) u
-      → Took a.shape.cells a.m (rule-at a.shape a.slow.now a.times.now)
+      → Took a.shape.cells a.m (rule_at a.shape a.slow.now a.times.now)
       (near (land a.shape a.slow.now) a.shape.across a.shape.down inside) (at a.work.now a.size) u
   told st = record {
     cell = _;

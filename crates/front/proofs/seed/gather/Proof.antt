@@ -2,7 +2,7 @@
 use Rattle.std.proofs.Common.{◌≡◌, suc, ◌-◌, ◌≤◌, ⊎_elim, add-one, arith}
 use Rattle.front.specs.Board.{at, tentative}
 use Rattle.front.specs.State.{Gathered}
-use Rattle.front.proofs.Theory.Seeding.{gather-begins, gather-goes-on, gather-passes}
+use Rattle.front.proofs.Theory.Seeding.{gather_begins, gather_goes_on, gather_passes}
 use Rattle.front.proofs.seed.gather.Statement.{statement}
 use Rattle.front.proofs.seed.gather.Tie as tie
 
@@ -24,7 +24,7 @@ on : (o : tie.In-loop invariant-loop decreases-loop) → let a = (start o).args 
 on o = let p = start o in (omega (arith, o.loop-test.true, p.pre.2), p.pre.0)
 
 loop-holds : tie.Need-loop-init invariant-loop decreases-loop
-loop-holds c = let p = c.before in (omega arith, p.requires.1, gather-begins p.args.from p.requires.0)
+loop-holds c = let p = c.before in (omega arith, p.requires.1, gather_begins p.args.from p.requires.0)
 
 mul-t : tie.Need-overflow-mul-t invariant-loop decreases-loop
 mul-t c = omega (arith, on c)
@@ -58,9 +58,9 @@ loop-again c =
       omega (arith, l.invariant.0),
       omega (arith, o.loop-test.true),
       ⊎_elim
-          (λ w. rw (add-one l.c, w.5, w.6) (gather-goes-on a.from l.invariant.2 (same o) w.2.ensures l.invariant.0))
+          (λ w. rw (add-one l.c, w.5, w.6) (gather_goes_on a.from l.invariant.2 (same o) w.2.ensures l.invariant.0))
           (λ w. rw (add-one l.c, w.1, w.2)
-          (gather-passes a.from l.invariant.2 (omega (arith, w.0.left, same o, (start o).requires.3.small l.c (omega (arith, on o))))))
+          (gather_passes a.from l.invariant.2 (omega (arith, w.0.left, same o, (start o).requires.3.small l.c (omega (arith, on o))))))
           c.if1.branch,
     )
 

@@ -2,7 +2,7 @@
 use Rattle.std.proofs.Common.{sym, ◌∙◌, arith, rules}
 use Rattle.eikonal.specs.Board.{slowness}
 use Rattle.front.specs.Board.{land}
-use Rattle.front.proofs.Theory.Reading.{time-at, ghost-wall, ghost-late, ghost-kept}
+use Rattle.front.proofs.Theory.Reading.{time-at, ghost_wall, ghost-late, ghost-kept}
 use Rattle.front.proofs.sight.ghost_time.Statement.{statement}
 use Rattle.front.proofs.sight.ghost_time.Tie as tie
 
@@ -10,7 +10,7 @@ returns : tie.Need-returns
 unfolding slowness
 returns c =
     let a = c.before.before.before.args in
-    sym (ghost-wall (land a.shape a.slow.now) a.times.now a.e c.if1.true)
+    sym (ghost_wall (land a.shape a.slow.now) a.times.now a.e c.if1.true)
 
 returns-2 : tie.Need-returns-2
 unfolding slowness

@@ -1,13 +1,13 @@
 -- `front::sight::house_rule` meets its contract.
 use Rattle.std.proofs.Common.{◌≡◌, ◌*◌, ◌<◌, ◌≤◌, sym, subst, arith}
-use Rattle.eikonal.specs.Board.{slowness, along-row, down-column}
+use Rattle.eikonal.specs.Board.{slowness, along_row, down_column}
 use Rattle.eikonal.proofs.FirstPass.{alike}
 use Rattle.front.proofs.Theory.Reading.{
   cells-most,
   slow-long,
   within,
-  storey-is,
-  storey-most,
+  storey_is,
+  storey_most,
   sees-columns,
   sees-rows,
   under_some,
@@ -62,8 +62,8 @@ storey : (c : tie.After-storey-rows) → let a = (start (first c.before)).args i
     (a.w * c.storey-rows.result ≡ a.shape.width * a.shape.height) × (a.w * c.storey-rows.result ≤ 65536)
 storey c =
     let p = start (first c.before) in
-    let is = storey-is p.pre.0 p.pre.1 c.storey-rows.ensures in
-    (is, omega (arith, is, cells-most p.pre.0, p.pre.1.cells, storey-most p.pre.0 p.pre.1))
+    let is = storey_is p.pre.0 p.pre.1 c.storey-rows.ensures in
+    (is, omega (arith, is, cells-most p.pre.0, p.pre.1.cells, storey_most p.pre.0 p.pre.1))
 
 mul-area : tie.Need-overflow-mul-area
 mul-area c = omega (arith, storey c)
@@ -102,13 +102,13 @@ shared-slice-read-of-three c =
     omega (arith, p.pre.1.cells, p.pre.2.on, slow-long p.pre.0)
 
 of-three-requires : tie.Need-of-three-requires
-unfolding along-row down-column slowness
+unfolding along_row down_column slowness
 of-three-requires c κs =
     let p = start (first c.before.before.before.before.before) in
-    (p.pre.0.good.pairs p.args.c).along-most
+    (p.pre.0.good.pairs p.args.c).along_most
 
 returns : tie.Need-returns
-unfolding along-row down-column slowness
+unfolding along_row down_column slowness
 returns c =
     let z = c.before.before in
     let o = z.before in

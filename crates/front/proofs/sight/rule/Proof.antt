@@ -1,6 +1,6 @@
 -- `front::sight::rule` meets its contract.
 use Rattle.std.proofs.Common.{◌≡◌, ℕ, ◌<◌, min, get_or, sym, ◌∙◌, arith}
-use Rattle.eikonal.specs.Board.{never, slowness, along-row, down-column, local-of}
+use Rattle.eikonal.specs.Board.{never, slowness, along_row, down_column, local_of}
 use Rattle.eikonal.specs.Inner.Good.{Pair}
 use Rattle.eikonal.proofs.FirstPass.{alike}
 use Rattle.eikonal.proofs.Walls.{unequal}
@@ -17,7 +17,7 @@ use Rattle.front.proofs.Theory.Reading.{
   flat-read,
   rule-read,
 }
-use Rattle.front.specs.Board.{rule-at, tentative}
+use Rattle.front.specs.Board.{rule_at, tentative}
 use Rattle.front.proofs.sight.rule.Statement.{statement}
 use Rattle.front.proofs.sight.rule.Tie as tie
 
@@ -76,13 +76,13 @@ shared-slice-read-s c =
 
 -- the cell's pair, and what the rule gives by it
 pair_of : (c : tie.After-along2) → let a = (start (level (first c))).args in
-    Pair (along-row (get_or a.slow.now a.c 0)) (down-column (get_or a.slow.now a.c 0))
+    Pair (along_row (get_or a.slow.now a.c 0)) (down_column (get_or a.slow.now a.c 0))
 unfolding slowness
 pair_of c = let p = start (level (first c)) in p.pre.0.good.pairs p.args.c
 
 returns-by : (c : tie.After-along2) (x : ℕ) → let a = (start (level (first c))).args in let s = get_or a.slow.now a.c 0 in
-    x ≡ min a.limit (local-of (along-row s) (down-column s) (first c).along.result c.along2.result never)
-    → x ≡ min a.limit (rule-at a.shape a.slow.now a.times.now a.c (tentative a.work.now a.n))
+    x ≡ min a.limit (local_of (along_row s) (down_column s) (first c).along.result c.along2.result never)
+    → x ≡ min a.limit (rule_at a.shape a.slow.now a.times.now a.c (tentative a.work.now a.n))
 returns-by c x e =
     let o = level (first c) in
     let p = start o in
@@ -95,21 +95,21 @@ returns-by c x e =
     omega (arith, e, read, p.fits.limit)
 
 of-equal-requires : tie.Need-of-equal-requires
-unfolding along-row down-column
-of-equal-requires c κs = (pair_of c.before.before).along-most
+unfolding along_row down_column
+of-equal-requires c κs = (pair_of c.before.before).along_most
 
 returns-2 : tie.Need-returns-2
-unfolding along-row down-column
+unfolding along_row down_column
 returns-2 c =
     let t = c.before in
     returns-by t.before.before _ (alike _ _ _ _ _ _ _ t.if2.true c.of-equal.ensures)
 
 of-unequal-requires : tie.Need-of-unequal-requires
-unfolding along-row down-column
+unfolding along_row down_column
 of-unequal-requires c κs = unequal (pair_of c.before.before) c.if2.false
 
 returns-3 : tie.Need-returns-3
-unfolding along-row down-column
+unfolding along_row down_column
 returns-3 c = returns-by c.before.before.before _ c.of-unequal.ensures
 
 pub rule-spec : {M : Type 1} → statement M

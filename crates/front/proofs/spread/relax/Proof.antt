@@ -1,8 +1,8 @@
 -- `front::spread::relax` meets its contract.
 use Rattle.std.proofs.Common.{◌≡◌, ◌*◌, ◌<◌, ◌≤◌, length, refl, inl, inr, arith, rules}
-use Rattle.front.specs.Board.{rule-at, tentative}
+use Rattle.front.specs.Board.{rule_at, tentative}
 use Rattle.front.specs.State.{stays}
-use Rattle.front.proofs.Theory.Telling.{touched-long}
+use Rattle.front.proofs.Theory.Telling.{touched_long}
 use Rattle.front.proofs.Theory.Relaxing.{stored-heap, stored-room, stored-key, stored-new, lowers}
 use Rattle.front.proofs.spread.relax.Statement.{statement}
 use Rattle.front.proofs.spread.relax.Tie as tie
@@ -15,7 +15,7 @@ on p = (p.requires.2.on, p.requires.3.heap.few, p.requires.3.room)
 
 -- what is stored is what the rule gives
 given : (c : tie.Then1) → let a = (start c.before).args in
-    c.before.rule.result ≡ rule-at a.shape a.slow.now a.times.now a.e (tentative a.work.now a.n)
+    c.before.rule.result ≡ rule_at a.shape a.slow.now a.times.now a.e (tentative a.work.now a.n)
 given c = omega (arith, c.before.rule.ensures, c.if1.true)
 
 mul_at : tie.Need-overflow-mul-at
@@ -55,7 +55,7 @@ returns c =
     lowers p.pre.3 o.before.rule.result p.pre.2.on c.before.before.insert.ensures (given o) o.if1.true
 
 same_length : tie.Need-same-length
-same_length c = touched-long (returns c 0 (inl refl))
+same_length c = touched_long (returns c 0 (inl refl))
 
 lower-requires : tie.Need-lower-requires
 lower-requires c κs =
@@ -72,7 +72,7 @@ returns-2 c =
     lowers p.pre.3 o.before.rule.result p.pre.2.on c.before.before.lower.ensures (given o) o.if1.true
 
 same-length-2 : tie.Need-same-length-2
-same-length-2 c = touched-long (returns-2 c 0 (inl refl))
+same-length-2 c = touched_long (returns-2 c 0 (inl refl))
 
 returns-3 : tie.Need-returns-3
 returns-3 c = λ t h. stays refl (λ l. inr (omega (arith, c.if1.false, c.before.rule.ensures)))

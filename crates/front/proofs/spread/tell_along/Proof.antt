@@ -4,7 +4,7 @@ use Rattle.front.specs.Board.{at}
 use Rattle.front.specs.State.{Held, all, next}
 use Rattle.front.proofs.Theory.Reading.{step-low, step_small, before-site, behind-site}
 use Rattle.front.proofs.Theory.Relaxing.{hearer-same}
-use Rattle.front.proofs.Theory.Telling.{touched-held, told-long}
+use Rattle.front.proofs.Theory.Telling.{touched_held, told-long}
 use Rattle.front.proofs.spread.tell_along.Statement.{statement}
 use Rattle.front.proofs.spread.tell_along.Tie as tie
 
@@ -30,7 +30,7 @@ touch-requires c κs =
     )
 
 held : (c : tie.After-touch-arg2) → let o = c.before.before.before in Held (start (first c)).args.n (at o.touch.new.1.1.0 o.touch.result)
-held c = touched-held (start (first c)).requires.2 c.before.before.before.touch.ensures
+held c = touched_held (start (first c)).requires.2 c.before.before.before.touch.ensures
 
 touch-requires-2 : tie.Need-touch-requires-2
 touch-requires-2 c κs = let p = start (first c) in (p.pre.0, p.pre.1, held c, λ b. behind-site p.pre.3 b)

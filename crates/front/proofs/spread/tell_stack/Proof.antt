@@ -2,7 +2,7 @@
 use Rattle.std.proofs.Common.{◌≡◌, ◌-◌, ◌*◌, ◌<◌, ◌≤◌, refl, arith, rules}
 use Rattle.front.specs.Seams.{inside}
 use Rattle.front.specs.Board.{Site}
-use Rattle.front.proofs.Theory.Reading.{cells-most, width_low, width-high, site, storey-is, storey-most, stack-step}
+use Rattle.front.proofs.Theory.Reading.{cells-most, width_low, width-high, site, storey_is, storey_most, stack-step}
 use Rattle.front.proofs.Theory.Telling.{told-long}
 use Rattle.front.proofs.Theory.Relaxing.{stack-told}
 use Rattle.front.proofs.spread.tell_stack.Statement.{statement}
@@ -32,13 +32,13 @@ sub-col c = omega (arith, (here c).cell)
 
 -- so many rows make a storey, and so many cells
 storey : (c : tie.After-storey-rows) → let a = (start c.before).args in a.w * c.storey-rows.result ≡ a.shape.width * a.shape.height
-storey c = let p = start c.before in storey-is p.pre.0 p.pre.1 c.storey-rows.ensures
+storey c = let p = start c.before in storey_is p.pre.0 p.pre.1 c.storey-rows.ensures
 
 small : (c : tie.After-storey-rows) → let a = (start c.before).args in (a.c < 65536) × (a.w * c.storey-rows.result ≤ 65536)
 small c =
     let p = start c.before in
     let few : p.args.n ≤ 65536 = omega (arith, cells-most p.pre.0, p.pre.1.cells) in
-    (omega (arith, few, p.pre.3), omega (arith, few, storey c, storey-most p.pre.0 p.pre.1))
+    (omega (arith, few, p.pre.3), omega (arith, few, storey c, storey_most p.pre.0 p.pre.1))
 
 mul-area : tie.Need-overflow-mul-area
 mul-area c = omega (arith, small c)

@@ -4,7 +4,7 @@ use borrow.Author.Tests.{not-true, not-false}
 use Rattle.front.specs.Board.{Site}
 use Rattle.front.specs.State.{stays}
 use Rattle.front.proofs.Theory.Reading.{slow-long}
-use Rattle.front.proofs.Theory.Relaxing.{touched-nobody, touched-there, stays-wall}
+use Rattle.front.proofs.Theory.Relaxing.{touched_nobody, touched_there, stays_wall}
 use Rattle.front.proofs.spread.touch.Statement.{statement}
 use Rattle.front.proofs.spread.touch.Tie as tie
 
@@ -21,13 +21,13 @@ on : (c : tie.Else1) → let a = (start c).args in (a.e < a.n) × (a.n ≤ 65536
 on c = let p = start c in ((here c).on, p.pre.2.heap.few, p.pre.2.room)
 
 returns : tie.Need-returns
-returns c = touched-nobody _ (not-true _ c.if1.true)
+returns c = touched_nobody _ (not-true _ c.if1.true)
 
 slice-read-if2 : tie.Need-slice-read-if2
 slice-read-if2 c = omega (arith, on c.before)
 
 returns-2 : tie.Need-returns-2
-returns-2 c = touched-there _ (there c.before.before) (stays refl (λ l. inl (omega (arith, c.if2.true))))
+returns-2 c = touched_there _ (there c.before.before) (stays refl (λ l. inl (omega (arith, c.if2.true))))
 
 shared-slice-read-if3 : tie.Need-shared-slice-read-if3
 shared-slice-read-if3 c =
@@ -37,7 +37,7 @@ shared-slice-read-if3 c =
 returns-3 : tie.Need-returns-3
 returns-3 c =
     let o = c.before.before.before.before in
-    touched-there _ (there o) (stays-wall (start o).requires.0 (start o).requires.2 c.if3.true)
+    touched_there _ (there o) (stays_wall (start o).requires.0 (start o).requires.2 c.if3.true)
 
 relax-requires : tie.Need-relax-requires
 relax-requires c κs =
@@ -49,7 +49,7 @@ returns-4 : tie.Need-returns-4
 returns-4 c =
     let r = c.before.before in
     let l = r.before.before.before.before in
-    touched-there _ (there l.before.before) (r.relax.ensures _ (inr (omega (arith, l.if2.false))))
+    touched_there _ (there l.before.before) (r.relax.ensures _ (inr (omega (arith, l.if2.false))))
 
 pub touch-spec : {M : Type 1} → statement M
 touch-spec =

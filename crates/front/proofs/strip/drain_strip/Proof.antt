@@ -3,8 +3,8 @@ use Rattle.std.proofs.Common.{◌*◌, arith}
 use Rattle.front.specs.Board.{at}
 use Rattle.front.specs.State.{Ready-among}
 use Rattle.front.proofs.Theory.Reading.{cells-most}
-use Rattle.front.proofs.Theory.Beginning.{gathered-held}
-use Rattle.front.proofs.Theory.Strips.{strip-fits, strip-ready, strip-done}
+use Rattle.front.proofs.Theory.Beginning.{gathered_held}
+use Rattle.front.proofs.Theory.Strips.{strip_fits, strip_ready, strip_done}
 use Rattle.front.proofs.strip.drain_strip.Statement.{statement}
 use Rattle.front.proofs.strip.drain_strip.Tie as tie
 
@@ -19,22 +19,22 @@ abbrev woken : tie.After-drain → tie.After-wake
 woken c = c.before.before.before.before
 
 mul-gather : tie.Need-overflow-mul-gather
-mul-gather c = let p = c.before.before.before.before in omega (arith, strip-fits p.requires.0 p.requires.1, cells-most p.requires.0)
+mul-gather c = let p = c.before.before.before.before in omega (arith, strip_fits p.requires.0 p.requires.1, cells-most p.requires.0)
 
 mul-gather-2 : tie.Need-overflow-mul-gather-2
-mul-gather-2 c = let p = c.before.before.before.before in omega (arith, strip-fits p.requires.0 p.requires.1, cells-most p.requires.0)
+mul-gather-2 c = let p = c.before.before.before.before in omega (arith, strip_fits p.requires.0 p.requires.1, cells-most p.requires.0)
 
 gather-requires : tie.Need-gather-requires
 gather-requires c κs =
     let p = c.before.before.before.before in
-    let fits = strip-fits p.requires.0 p.requires.1 in
+    let fits = strip_fits p.requires.0 p.requires.1 in
     (cells-most p.requires.0, fits.0, fits.1, p.requires.2)
 
 wake-requires : tie.Need-wake-requires
 wake-requires c κs =
     let g = c.before.before.before in
     let p = start g in
-    (p.pre.0, gathered-held p.pre.2 g.gather.ensures, p.pre.1.up, p.pre.1.fits)
+    (p.pre.0, gathered_held p.pre.2 g.gather.ensures, p.pre.1.up, p.pre.1.fits)
 
 ready : (w : tie.After-wake) → let a = (start (gathered w)).args in
     Ready-among a.shape a.slow.now a.times.now (a.from * a.shape.width) (a.end * a.shape.width) (at w.wake.new.1.1.0 w.wake.result)
@@ -42,7 +42,7 @@ ready w =
     let g = gathered w in
     let p = start g in
     let gr = p.pre.0 in
-    strip-ready gr p.pre.1.apart (strip-fits gr p.pre.1).1 p.pre.2 g.gather.ensures w.wake.ensures
+    strip_ready gr p.pre.1.apart (strip_fits gr p.pre.1).1 p.pre.2 g.gather.ensures w.wake.ensures
 
 drain-requires : tie.Need-drain-requires
 drain-requires c κs =
@@ -56,7 +56,7 @@ returns c =
     let g = gathered w in
     let p = start g in
     let gr = p.pre.0 in
-    strip-done gr p.pre.1.apart (strip-fits gr p.pre.1).1 p.pre.2 g.gather.ensures w.wake.ensures p.pre.3
+    strip_done gr p.pre.1.apart (strip_fits gr p.pre.1).1 p.pre.2 g.gather.ensures w.wake.ensures p.pre.3
     (c.before.before.drain.ensures _ _ (ready w))
 
 same_length : tie.Need-same-length

@@ -3,7 +3,7 @@ use Rattle.std.proofs.Common.{arith}
 use Rattle.front.specs.State.{Ready-among}
 use Rattle.front.specs.Board.{at}
 use Rattle.front.proofs.Theory.Reading.{cells-most}
-use Rattle.front.proofs.Theory.Strips.{all_apart, unwoken, strip-ready, strip-done}
+use Rattle.front.proofs.Theory.Strips.{all_apart, unwoken, strip_ready, strip_done}
 use Rattle.front.proofs.strip.drain_tile.Statement.{statement}
 use Rattle.front.proofs.strip.drain_tile.Tie as tie
 
@@ -18,7 +18,7 @@ ready : (g : tie.After-gather) → let p = start g in let a = p.args in
 ready g =
     let p = start g in
     let gr = p.pre.0 in
-    strip-ready gr (all_apart gr) (omega arith) p.pre.1 g.gather.ensures (unwoken gr p.pre.2 p.pre.3 _)
+    strip_ready gr (all_apart gr) (omega arith) p.pre.1 g.gather.ensures (unwoken gr p.pre.2 p.pre.3 _)
 
 drain-requires : tie.Need-drain-requires
 drain-requires c κs =
@@ -31,7 +31,7 @@ returns c =
     let g = c.before.before.before.before.before.before in
     let p = start g in
     let gr = p.pre.0 in
-    strip-done gr (all_apart gr) (omega arith) p.pre.1 g.gather.ensures (unwoken gr p.pre.2 p.pre.3 _) p.pre.4
+    strip_done gr (all_apart gr) (omega arith) p.pre.1 g.gather.ensures (unwoken gr p.pre.2 p.pre.3 _) p.pre.4
     (c.before.before.drain.ensures _ _ (ready g))
 
 same_length : tie.Need-same-length

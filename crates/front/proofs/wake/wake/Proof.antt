@@ -4,7 +4,7 @@ use Rattle.front.specs.Board.{at}
 use Rattle.front.specs.State.{Woken}
 use Rattle.front.proofs.Theory.Reading.{lines-most}
 use Rattle.front.proofs.Theory.Telling.{told-held, told-long}
-use Rattle.front.proofs.Theory.Waking.{woken-none}
+use Rattle.front.proofs.Theory.Waking.{woken_none}
 use Rattle.front.proofs.wake.wake.Statement.{statement}
 use Rattle.front.proofs.wake.wake.Tie as tie
 
@@ -21,7 +21,7 @@ start c = c.before.before.before.before.before
 loop-holds : tie.Need-loop-init invariant-loop decreases-loop
 loop-holds c =
     let p = c.before.before.before in
-    (omega arith, p.requires.2, woken-none p.requires.0 (p.args.from * p.args.shape.width) (at p.args.work.now p.args.size))
+    (omega arith, p.requires.2, woken_none p.requires.0 (p.args.from * p.args.shape.width) (at p.args.work.now p.args.size))
 
 wake-row-requires : tie.Need-wake-row-requires invariant-loop decreases-loop
 wake-row-requires c κs =

@@ -4,8 +4,8 @@ use borrow.Author.Tests.{not-false}
 use Rattle.front.specs.Board.{Work, at, Site}
 use Rattle.front.specs.State.{Held, Woken}
 use Rattle.front.proofs.Theory.Reading.{cells-most, lines-most, measured}
-use Rattle.front.proofs.Theory.Telling.{touched-held, touched-long}
-use Rattle.front.proofs.Theory.Waking.{woken-touched, woken-inner, seams-inside, rows_fit}
+use Rattle.front.proofs.Theory.Telling.{touched_held, touched_long}
+use Rattle.front.proofs.Theory.Waking.{woken_touched, woken_inner, seams_inside, rows_fit}
 use Rattle.front.proofs.wake.wake_row.Statement.{statement}
 use Rattle.front.proofs.wake.wake_row.Tie as tie
 
@@ -78,16 +78,16 @@ loop-again c =
     (λ w.
     let h = w.2.ensures 0 (inl refl) in (
       omega (arith, o.loop-test.true),
-      rw (w.5, w.6) (touched-held l.invariant.1 h),
-      rw w.5 (touched-long h ∙ l.invariant.2),
-      λ lo v low wo. rw (w.5, w.6) (woken-touched p.pre.0 then (omega arith) (l.invariant.3 lo v low wo) h),
+      rw (w.5, w.6) (touched_held l.invariant.1 h),
+      rw w.5 (touched_long h ∙ l.invariant.2),
+      λ lo v low wo. rw (w.5, w.6) (woken_touched p.pre.0 then (omega arith) (l.invariant.3 lo v low wo) h),
     ))
     (λ w.
     let q = eqb-true _ _ (sym c.before.inner.ensures ∙ not-false _ w.0.left) in (
       omega (arith, o.loop-test.true),
       rw (w.1, w.2) l.invariant.1,
       rw w.1 l.invariant.2,
-      λ lo v low wo. rw (w.1, w.2) (woken-inner p.pre.0 then (omega arith) (l.invariant.3 lo v low wo) (seams-inside p.pre.0 measured (here o) q)),
+      λ lo v low wo. rw (w.1, w.2) (woken_inner p.pre.0 then (omega arith) (l.invariant.3 lo v low wo) (seams_inside p.pre.0 measured (here o) q)),
     ))
     c.if1.branch
 

@@ -9,16 +9,16 @@ use Rattle.records.proofs.Walk.{by, ‵, move, keep, toss, look, forget, of_opd,
 use Rattle.records.proofs.Walk.{slice-vals, ShrSlice, MutSlice, Room, only, Is, nothing, heard, Meets, triple_of, Triple, entered, cited, needs, walk_of}
 use Rattle.records.proofs.Walk.{next-part}
 use Rattle.records.proofs.Parameters.{Param, by_value, shared, kept, stays, go, spells, tell}
-use Rattle.records.proofs.Calling.{◌&◌, contract-of, number, asked, shares, calls, no_last, last_of, named-so, lends, takes_back, entered_at, Walk, begins}
+use Rattle.records.proofs.Calling.{◌&◌, contract_of, number, asked, shares, calls, no_last, last_of, named_so, lends, takes_back, entered_at, Walk, begins}
 use Rattle.records.proofs.Calling.{ends, meets}
-use Rattle.records.proofs.Locals.{reads, and-reads, length-of, pointer-of, slice_of, sets, resets-last, lands-value, lands-number, lands-unit, takes, frees-at}
-use Rattle.records.proofs.Locals.{frees-room}
+use Rattle.records.proofs.Locals.{reads, and_reads, length_of, pointer_of, slice_of, sets, resets_last, lands_value, lands_number, lands_unit, takes, frees_at}
+use Rattle.records.proofs.Locals.{frees_room}
 use Rattle.records.proofs.Loops.{bare, full, frame, Come, come, around, tests, leaves}
 use Rattle.eikonal.specs.declared.Start.{Start}
 use Rattle.engine.specs.declared.calls.Task.{Task}
 use Rattle.engine.specs.Calls.{Clearable, Clear}
 use Rattle.record_calls.proofs.Parts.{among}
-use Rattle.record_calls.proofs.Clearing.{clear_none, clear-long, clear-asks, clear-more, clear-all}
+use Rattle.record_calls.proofs.Clearing.{clear_none, clear_long, clear_asks, clear_more, clear_all}
 use Rattle.eikonal.specs.contracts.Start as Start-type
 use Rattle.engine.specs.contracts.calls.Task as Task-type
 use Rattle.engine.proofs.calls.Task.TheLaws as Task-laws
@@ -43,9 +43,9 @@ params = by_value Task-type.the_row (structs.vals Task-type.the_type Task-laws.t
     shared Start-type.the_row 0 tt ∷ shared u32 1 tt ∷ kept u8 2 tt ∷ []
 
 module _ {M : Type 1} {𝓤 : Ura M} (𝓛 : Logic 𝓤) (mem : Memory → SProp 𝓤) (run : Routine → Fun 𝓤) (𝓣 : Tables 𝓤 𝓛.H)
-    (known-tp : Triple 𝓤 (𝓣.C tp-def.name) (contract-of 𝓛 tp.ended (tp.clauses 𝓛 mem run)))
-    (known-un : Triple 𝓤 (𝓣.C un-def.name) (contract-of 𝓛 un.ended (un.clauses 𝓛 mem run)))
-    (known-cp : Triple 𝓤 (𝓣.C cp-def.name) (contract-of 𝓛 cp.ended (cp.clauses 𝓛 mem run))) where
+    (known-tp : Triple 𝓤 (𝓣.C tp-def.name) (contract_of 𝓛 tp.ended (tp.clauses 𝓛 mem run)))
+    (known-un : Triple 𝓤 (𝓣.C un-def.name) (contract_of 𝓛 un.ended (un.clauses 𝓛 mem run)))
+    (known-cp : Triple 𝓤 (𝓣.C cp-def.name) (contract_of 𝓛 cp.ended (cp.clauses 𝓛 mem run))) where
   open 𝓛 use {H}
 
   module _ (κ0 κ1 κ2 : Lft) (q0 q1 q2 : Share) (task : Task) (r-starts : MutBor (List Start)) (r-times : MutBor (List ℕ)) (r-sides : MutBor (List ℕ)) (g-task : Is
@@ -73,17 +73,17 @@ module _ {M : Type 1} {𝓤 : Ura M} (𝓛 : Logic 𝓤) (mem : Memory → SProp
           takes ! 22 refl ((structs.lawful Task-type.the_type Task-laws.the_laws 𝓛).typed task _ g-task).0 $
           takes ! 20 refl (tt, (tt, (record { fits = g-starts.0 }, tt))) $ takes ! 18 refl (tt, (tt, (record { fits = g-times.0 }, tt))) $
           takes ! 16 refl (tt, (tt, (record { fits = g-sides.0 }, tt))) $ pass0 ! $
-          sets ! (of_opd ! (length-of ! 20 refl refl)) 10 refl (tt, record { fits = g-starts.0 }) $
+          sets ! (of_opd ! (length_of ! 20 refl refl)) 10 refl (tt, record { fits = g-starts.0 }) $
           number 𝓛 w64 (length starts) (vint w64 (length starts)) (refl, g-starts.0) $
           move ! (30 ∷ 0 ∷ []) $
           calls 𝓛 𝓣 tp.ended (tp.clauses 𝓛 mem run) tt tt tt (task & (length starts) & tt) ((structs.val Task-type.the_type Task-laws.the_laws task) ∷ [] &
-          (vint w64 (length starts)) ∷ [] & tt) tt ! known-tp (id⊢ 𝓤 (emp 𝓤)) (and-reads ! 23 refl (and-reads ! 11 refl (no_more !))) (λ u-k k _.
-          heard ! _ (λ e-k. lands-number ! w64 k refl 15 refl (λ g-k. toss ! $
+          (vint w64 (length starts)) ∷ [] & tt) tt ! known-tp (id⊢ 𝓤 (emp 𝓤)) (and_reads ! 23 refl (and_reads ! 11 refl (no_more !))) (λ u-k k _.
+          heard ! _ (λ e-k. lands_number ! w64 k refl 15 refl (λ g-k. toss ! $
           sets ! (of_opd ! (lit ! tt)) 12 refl (tt, record { fits = lit< tt }) $
           move ! (26 ∷ 27 ∷ 28 ∷ 29 ∷ 30 ∷ 31 ∷ []) $
           around ! 𝓣 k (λ (t : Come (λ (i : ℕ) (v : List ℕ). Clear task (take i starts) times sides v)). t.place) (λ E t. ‵ (flft κ0 q0) ∷ ‵ (flft κ1 q1) ∷ ‵
           (flft κ2 q2) ∷ ‵ ((ShrSlice (named 0) κ0 Start-type.the_row).own_val r-starts (shr_slice_vals r-starts)) ∷ ‵ ((ShrSlice (named 0) κ1 u32).own_val r-times
-          (shr_slice_vals r-times)) ∷ ‵ ((MutSlice (named 0) κ2 u8).own_val (named-so r-sides r-sides.name t.has) (shr_slice_vals r-sides)) ∷ frame 𝓤 H E (bare ∷ full
+          (shr_slice_vals r-times)) ∷ ‵ ((MutSlice (named 0) κ2 u8).own_val (named_so r-sides r-sides.name t.has) (shr_slice_vals r-sides)) ∷ frame 𝓤 H E (bare ∷ full
           ((structs.val Task-type.the_type Task-laws.the_laws task)) ∷ full (only (shr_slice_vals r-starts)) ∷ full (only (shr_slice_vals r-times)) ∷ full
           (only (shr_slice_vals r-sides)) ∷ full ((vint w64 k)) ∷ full ((vint w64 t.place)) ∷ full ((vint w64 (length starts))) ∷ bare ∷ bare ∷ bare ∷ bare ∷
           bare ∷ []) []) (come 0 sides (clear_none task starts times sides need k e-k)) (λ t Q again left.
@@ -94,38 +94,38 @@ module _ {M : Type 1} {𝓤 : Ura M} (𝓛 : Logic 𝓤) (mem : Memory → SProp
           move ! (2 ∷ 1 ∷ 0 ∷ []) $
           calls 𝓛 𝓣 un.ended (un.clauses 𝓛 mem run) (κ0 & tt) (q0 & tt) tt (r-starts & t.place & tt)
           (shr_slice_vals r-starts & (vint w64 t.place) ∷ [] & tt) tt ! known-un (asked 𝓤 (omega (arith, among task starts k e-k t.place l)))
-          (and-reads ! 26 refl (and-reads ! 18 refl (no_more !))) (λ u-p p _.
-          heard ! _ (λ e-p. lands-value ! Part-type.the_row (structs.lawful Part-type.the_type Part-laws.the_laws 𝓛) p refl 11 refl (λ g-p.
+          (and_reads ! 26 refl (and_reads ! 18 refl (no_more !))) (λ u-p p _.
+          heard ! _ (λ e-p. lands_value ! Part-type.the_row (structs.lawful Part-type.the_type Part-laws.the_laws 𝓛) p refl 11 refl (λ g-p.
           move ! (1 ∷ []) $ toss ! $
-          sets ! (pointer-of ! 23 refl refl) 9 refl (tt, tt) $
+          sets ! (pointer_of ! 23 refl refl) 9 refl (tt, tt) $
           sets ! (slice_of ! 9 refl 23 refl refl) 7 refl (tt, (tt, (record { fits = g-sides.0 }, tt))) $
           move ! (6 ∷ 3 ∷ []) $ lends ! tt u8 κ2 q2 r-sides (length sides) t.has (λ ν-cp-sides ε-cp-sides.
           shares 𝓛 u32 κ1 r-times 7 refl $
           move ! (6 ∷ 1 ∷ 4 ∷ 0 ∷ 2 ∷ []) $
           calls 𝓛 𝓣 cp.ended (cp.clauses 𝓛 mem run) (κ1 & (ν-cp-sides ∷ []) & tt) (q1 & full_share & tt) tt
-          (p & r-times & named-so r-sides ε-cp-sides t.has & tt) (u-p ∷ [] & shr_slice_vals r-times & shr_slice_vals r-sides & tt) tt ! known-cp (asked 𝓤 (clear-asks
-          task starts times sides need k e-k t.place l p e-p t.has t.is)) (and-reads ! 9 refl (and-reads ! 23 refl (and-reads ! 5 refl (no_more !))))
+          (p & r-times & named_so r-sides ε-cp-sides t.has & tt) (u-p ∷ [] & shr_slice_vals r-times & shr_slice_vals r-sides & tt) tt ! known-cp (asked 𝓤 (clear_asks
+          task starts times sides need k e-k t.place l p e-p t.has t.is)) (and_reads ! 9 refl (and_reads ! 23 refl (and_reads ! 5 refl (no_more !))))
           (λ u-cp _ z-cp.
-          heard ! _ (λ e-cp. lands-unit ! refl 13 refl $ no_last ! $ no_last ! $ last_of ! (λ l-sides'. toss ! $
+          heard ! _ (λ e-cp. lands_unit ! refl 13 refl $ no_last ! $ no_last ! $ last_of ! (λ l-sides'. toss ! $
           move ! (2 ∷ 3 ∷ 0 ∷ []) $
-          takes_back ! tt u8 κ2 q2 r-sides (length sides) ν-cp-sides ε-cp-sides t.has z-cp.1.1.0 g-sides l-sides' (l-sides' ∙ (clear-long task starts
+          takes_back ! tt u8 κ2 q2 r-sides (length sides) ν-cp-sides ε-cp-sides t.has z-cp.1.1.0 g-sides l-sides' (l-sides' ∙ (clear_long task starts
           times sides need k e-k t.place t.has t.is)) $
-          resets-last ! (bin ! (reads ! 18 refl) (lit ! tt) (record
+          resets_last ! (bin ! (reads ! 18 refl) (lit ! tt) (record
           { fits = (next-part t.place (length starts) (among task starts k e-k t.place l) g-starts.1).fits })) 18 refl
           (tt, record { fits = (next-part t.place (length starts) (among task starts k e-k t.place l) g-starts.1).fits }) $ forget ! 14 refl $
           forget ! 12 refl $ forget ! 10 refl $ forget ! 8 refl $ forget ! 6 refl $
           move ! (3 ∷ 2 ∷ 1 ∷ 4 ∷ 5 ∷ 0 ∷ []) $
-          again (come (t.place + 256) z-cp.1.1.0 (clear-more task starts times sides need k e-k t.place l p e-p t.has t.is z-cp.1.1.0
+          again (come (t.place + 256) z-cp.1.1.0 (clear_more task starts times sides need k e-k t.place l p e-p t.has t.is z-cp.1.1.0
           e-cp)) (omega (arith, l))))))))))
           (λ h. leaves ! left $
           sets ! (of_opd ! (unit_lit !)) 30 refl (tt, tt) $
-          returns ! (look ! 30 refl) $ frees-at ! 30 refl refl $ frees-at ! 28 refl refl $ frees-at ! 26 refl refl $ frees-at ! 24 refl refl $
-          frees-at ! 22 refl refl $ frees-at ! 20 refl refl $ frees-at ! 18 refl refl $ frees-at ! 16 refl refl $ frees-at ! 14 refl refl $
-          frees-room ! 12 refl refl $ frees-room ! 10 refl refl $ frees-room ! 8 refl refl $ frees-room ! 6 refl refl $ free0 ! $
+          returns ! (look ! 30 refl) $ frees_at ! 30 refl refl $ frees_at ! 28 refl refl $ frees_at ! 26 refl refl $ frees_at ! 24 refl refl $
+          frees_at ! 22 refl refl $ frees_at ! 20 refl refl $ frees_at ! 18 refl refl $ frees_at ! 16 refl refl $ frees_at ! 14 refl refl $
+          frees_room ! 12 refl refl $ frees_room ! 10 refl refl $ frees_room ! 8 refl refl $ frees_room ! 6 refl refl $ free0 ! $
           feq_i ! (List Val) (vunit ∷ []) (vunit ∷ []) refl $ nothing ! $ nothing ! $ nothing ! $
           keep ! (3 ∷ 4 ∷ 5 ∷ 6 ∷ 2 ∷ 1 ∷ 0 ∷ 9 ∷ []) $
-          by ! (ends 𝓛 f.ended (stays params) (f.clauses 𝓛 mem run) point vunit tt (tt & tt & tt & t.has & tt) (tt & tt & tt & (clear-long task
-          starts times sides need k e-k t.place t.has t.is) & tt) (asked 𝓤 (clear-all task starts times sides need k e-k t.place t.has t.is
+          by ! (ends 𝓛 f.ended (stays params) (f.clauses 𝓛 mem run) point vunit tt (tt & tt & tt & t.has & tt) (tt & tt & tt & (clear_long task
+          starts times sides need k e-k t.place t.has t.is) & tt) (asked 𝓤 (clear_all task starts times sides need k e-k t.place t.has t.is
           h)))))))))
 
   holds : Meets 𝓛 f.signature (WpFn 𝓤 H 𝓣.C 𝓣.Λ code.function) (f.spec 𝓛 mem run)

@@ -9,16 +9,16 @@ use Rattle.records.proofs.Walk.{by, ‵, move, keep, toss, look, forget, of_opd,
 use Rattle.records.proofs.Walk.{slice-vals, ShrSlice, MutSlice, Room, only, Is, nothing, heard, Meets, triple_of, Triple, entered, cited, needs, walk_of}
 use Rattle.records.proofs.Walk.{next-part}
 use Rattle.records.proofs.Parameters.{Param, by_value, shared, kept, stays, go, spells, tell}
-use Rattle.records.proofs.Calling.{◌&◌, contract-of, number, asked, copies, shares, calls, no_last, last_of, named-so, lends, takes_back, entered_at, Walk}
+use Rattle.records.proofs.Calling.{◌&◌, contract_of, number, asked, copies, shares, calls, no_last, last_of, named_so, lends, takes_back, entered_at, Walk}
 use Rattle.records.proofs.Calling.{begins, ends, meets}
-use Rattle.records.proofs.Locals.{reads, and-reads, length-of, pointer-of, slice_of, sets, resets-last, lands-value, lands-number, lands-unit, takes, frees-at}
-use Rattle.records.proofs.Locals.{frees-room}
+use Rattle.records.proofs.Locals.{reads, and_reads, length_of, pointer_of, slice_of, sets, resets_last, lands_value, lands_number, lands_unit, takes, frees_at}
+use Rattle.records.proofs.Locals.{frees_room}
 use Rattle.records.proofs.Loops.{bare, full, frame, Come, come, around, tests, leaves}
 use Rattle.eikonal.specs.declared.Start.{Start}
 use Rattle.engine.specs.declared.calls.Task.{Task}
 use Rattle.engine.specs.Calls.{Sowable, Sown}
 use Rattle.record_calls.proofs.Parts.{among}
-use Rattle.record_calls.proofs.Placing.{sown-none, sown-long, part-asks, sown-more, sown-all}
+use Rattle.record_calls.proofs.Placing.{sown-none, sown-long, part_asks, sown-more, sown-all}
 use Rattle.eikonal.specs.contracts.Start as Start-type
 use Rattle.engine.specs.contracts.calls.Task as Task-type
 use Rattle.engine.proofs.calls.Task.TheLaws as Task-laws
@@ -43,9 +43,9 @@ params = by_value Task-type.the_row (structs.vals Task-type.the_type Task-laws.t
     shared Start-type.the_row 0 tt ∷ kept u32 1 tt ∷ []
 
 module _ {M : Type 1} {𝓤 : Ura M} (𝓛 : Logic 𝓤) (mem : Memory → SProp 𝓤) (run : Routine → Fun 𝓤) (𝓣 : Tables 𝓤 𝓛.H)
-    (known-tp : Triple 𝓤 (𝓣.C tp-def.name) (contract-of 𝓛 tp.ended (tp.clauses 𝓛 mem run)))
-    (known-un : Triple 𝓤 (𝓣.C un-def.name) (contract-of 𝓛 un.ended (un.clauses 𝓛 mem run)))
-    (known-sp : Triple 𝓤 (𝓣.C sp-def.name) (contract-of 𝓛 sp.ended (sp.clauses 𝓛 mem run))) where
+    (known-tp : Triple 𝓤 (𝓣.C tp-def.name) (contract_of 𝓛 tp.ended (tp.clauses 𝓛 mem run)))
+    (known-un : Triple 𝓤 (𝓣.C un-def.name) (contract_of 𝓛 un.ended (un.clauses 𝓛 mem run)))
+    (known-sp : Triple 𝓤 (𝓣.C sp-def.name) (contract_of 𝓛 sp.ended (sp.clauses 𝓛 mem run))) where
   open 𝓛 use {H}
 
   module _ (κ0 κ1 : Lft) (q0 q1 : Share) (task : Task) (r-starts : MutBor (List Start)) (r-work : MutBor (List ℕ)) (g-task : Is Task-type.the_row task
@@ -68,18 +68,18 @@ module _ {M : Type 1} {𝓤 : Ura M} (𝓛 : Logic 𝓤) (mem : Memory → SProp
           (λ l0 l1 l2 l3 l4 l5 l6 l7 l8 l9 l10 l11. params1 ! $
           takes ! 20 refl ((structs.lawful Task-type.the_type Task-laws.the_laws 𝓛).typed task _ g-task).0 $
           takes ! 18 refl (tt, (tt, (record { fits = g-starts.0 }, tt))) $ takes ! 16 refl (tt, (tt, (record { fits = g-work.0 }, tt))) $ pass0 ! $
-          sets ! (of_opd ! (length-of ! 18 refl refl)) 10 refl (tt, record { fits = g-starts.0 }) $
+          sets ! (of_opd ! (length_of ! 18 refl refl)) 10 refl (tt, record { fits = g-starts.0 }) $
           copies 𝓛 Task-type.the_row (structs.copy Task-type.the_type Task-laws.the_copy 𝓛) task ((structs.val Task-type.the_type Task-laws.the_laws task)
           ∷ []) 26 refl $ number 𝓛 w64 (length starts) (vint w64 (length starts)) (refl, g-starts.0) $
           move ! (1 ∷ 0 ∷ []) $
           calls 𝓛 𝓣 tp.ended (tp.clauses 𝓛 mem run) tt tt tt (task & (length starts) & tt) ((structs.val Task-type.the_type Task-laws.the_laws task) ∷ [] &
-          (vint w64 (length starts)) ∷ [] & tt) tt ! known-tp (id⊢ 𝓤 (emp 𝓤)) (and-reads ! 21 refl (and-reads ! 11 refl (no_more !))) (λ u-k k _.
-          heard ! _ (λ e-k. lands-number ! w64 k refl 15 refl (λ g-k. toss ! $
+          (vint w64 (length starts)) ∷ [] & tt) tt ! known-tp (id⊢ 𝓤 (emp 𝓤)) (and_reads ! 21 refl (and_reads ! 11 refl (no_more !))) (λ u-k k _.
+          heard ! _ (λ e-k. lands_number ! w64 k refl 15 refl (λ g-k. toss ! $
           sets ! (of_opd ! (lit ! tt)) 12 refl (tt, record { fits = lit< tt }) $
           move ! (24 ∷ 25 ∷ 26 ∷ 27 ∷ 28 ∷ []) $
           around ! 𝓣 k (λ (t : Come (λ (i : ℕ) (v : List ℕ). Sown task (take i starts) work v)). t.place) (λ E t. ‵ (flft κ0 q0) ∷ ‵ (flft κ1 q1) ∷ ‵
           ((Task-type.the_row).own_val task ((structs.val Task-type.the_type Task-laws.the_laws task) ∷ [])) ∷ ‵ ((ShrSlice (named 0) κ0 Start-type.the_row).own_val
-          r-starts (shr_slice_vals r-starts)) ∷ ‵ ((MutSlice (named 0) κ1 u32).own_val (named-so r-work r-work.name t.has) (shr_slice_vals r-work)) ∷ frame 𝓤 H E (bare
+          r-starts (shr_slice_vals r-starts)) ∷ ‵ ((MutSlice (named 0) κ1 u32).own_val (named_so r-work r-work.name t.has) (shr_slice_vals r-work)) ∷ frame 𝓤 H E (bare
           ∷ full ((structs.val Task-type.the_type Task-laws.the_laws task)) ∷ full (only (shr_slice_vals r-starts)) ∷ full (only (shr_slice_vals r-work)) ∷ full
           ((vint w64 k)) ∷ full ((vint w64 t.place)) ∷ full ((vint w64 (length starts))) ∷ bare ∷ bare ∷ bare ∷ bare ∷ bare ∷ []) [])
           (come 0 work (sown-none task starts work need k e-k)) (λ t Q again left.
@@ -90,23 +90,23 @@ module _ {M : Type 1} {𝓤 : Ura M} (𝓛 : Logic 𝓤) (mem : Memory → SProp
           move ! (2 ∷ 1 ∷ 0 ∷ []) $
           calls 𝓛 𝓣 un.ended (un.clauses 𝓛 mem run) (κ0 & tt) (q0 & tt) tt (r-starts & t.place & tt)
           (shr_slice_vals r-starts & (vint w64 t.place) ∷ [] & tt) tt ! known-un (asked 𝓤 (omega (arith, among task starts k e-k t.place l)))
-          (and-reads ! 23 refl (and-reads ! 17 refl (no_more !))) (λ u-p p _.
-          heard ! _ (λ e-p. lands-value ! Part-type.the_row (structs.lawful Part-type.the_type Part-laws.the_laws 𝓛) p refl 10 refl (λ g-p.
+          (and_reads ! 23 refl (and_reads ! 17 refl (no_more !))) (λ u-p p _.
+          heard ! _ (λ e-p. lands_value ! Part-type.the_row (structs.lawful Part-type.the_type Part-laws.the_laws 𝓛) p refl 10 refl (λ g-p.
           move ! (1 ∷ []) $ toss ! $
-          sets ! (pointer-of ! 22 refl refl) 8 refl (tt, tt) $
+          sets ! (pointer_of ! 22 refl refl) 8 refl (tt, tt) $
           sets ! (slice_of ! 8 refl 22 refl refl) 6 refl (tt, (tt, (record { fits = g-work.0 }, tt))) $
           move ! (5 ∷ 2 ∷ []) $ lends ! tt u32 κ1 q1 r-work (length work) t.has (λ ν-sp-work ε-sp-work.
           copies 𝓛 Task-type.the_row (structs.copy Task-type.the_type Task-laws.the_copy 𝓛) task ((structs.val Task-type.the_type Task-laws.the_laws task)
           ∷ []) 5 refl $
           move ! (1 ∷ 0 ∷ 4 ∷ 2 ∷ []) $
-          calls 𝓛 𝓣 sp.ended (sp.clauses 𝓛 mem run) ((ν-sp-work ∷ []) & tt) (full_share & tt) tt (task & p & named-so r-work ε-sp-work t.has & tt)
-          ((structs.val Task-type.the_type Task-laws.the_laws task) ∷ [] & u-p ∷ [] & shr_slice_vals r-work & tt) tt ! known-sp (asked 𝓤 (part-asks task starts work
-          need k e-k t.place l p e-p t.has t.is)) (and-reads ! 25 refl (and-reads ! 9 refl (and-reads ! 5 refl (no_more !)))) (λ u-sp _ z-sp.
-          heard ! _ (λ e-sp. lands-unit ! refl 12 refl $ no_last ! $ no_last ! $ last_of ! (λ l-work'. toss ! $
+          calls 𝓛 𝓣 sp.ended (sp.clauses 𝓛 mem run) ((ν-sp-work ∷ []) & tt) (full_share & tt) tt (task & p & named_so r-work ε-sp-work t.has & tt)
+          ((structs.val Task-type.the_type Task-laws.the_laws task) ∷ [] & u-p ∷ [] & shr_slice_vals r-work & tt) tt ! known-sp (asked 𝓤 (part_asks task starts work
+          need k e-k t.place l p e-p t.has t.is)) (and_reads ! 25 refl (and_reads ! 9 refl (and_reads ! 5 refl (no_more !)))) (λ u-sp _ z-sp.
+          heard ! _ (λ e-sp. lands_unit ! refl 12 refl $ no_last ! $ no_last ! $ last_of ! (λ l-work'. toss ! $
           move ! (1 ∷ 2 ∷ 0 ∷ []) $
           takes_back ! tt u32 κ1 q1 r-work (length work) ν-sp-work ε-sp-work t.has z-sp.1.1.0 g-work l-work' (l-work' ∙ (sown-long task starts work need
           k e-k t.place t.has t.is)) $
-          resets-last ! (bin ! (reads ! 17 refl) (lit ! tt) (record
+          resets_last ! (bin ! (reads ! 17 refl) (lit ! tt) (record
           { fits = (next-part t.place (length starts) (among task starts k e-k t.place l) g-starts.1).fits })) 17 refl
           (tt, record { fits = (next-part t.place (length starts) (among task starts k e-k t.place l) g-starts.1).fits }) $ forget ! 13 refl $
           forget ! 11 refl $ forget ! 9 refl $ forget ! 7 refl $ forget ! 5 refl $
@@ -115,9 +115,9 @@ module _ {M : Type 1} {𝓤 : Ura M} (𝓛 : Logic 𝓤) (mem : Memory → SProp
           (omega (arith, l))))))))))
           (λ h. leaves ! left $
           sets ! (of_opd ! (unit_lit !)) 27 refl (tt, tt) $
-          returns ! (look ! 27 refl) $ frees-at ! 27 refl refl $ frees-at ! 25 refl refl $ frees-at ! 23 refl refl $ frees-at ! 21 refl refl $
-          frees-at ! 19 refl refl $ frees-at ! 17 refl refl $ frees-at ! 15 refl refl $ frees-at ! 13 refl refl $ frees-room ! 11 refl refl $
-          frees-room ! 9 refl refl $ frees-room ! 7 refl refl $ frees-room ! 5 refl refl $ free0 ! $ feq_i ! (List Val) (vunit ∷ []) (vunit ∷ []) refl $
+          returns ! (look ! 27 refl) $ frees_at ! 27 refl refl $ frees_at ! 25 refl refl $ frees_at ! 23 refl refl $ frees_at ! 21 refl refl $
+          frees_at ! 19 refl refl $ frees_at ! 17 refl refl $ frees_at ! 15 refl refl $ frees_at ! 13 refl refl $ frees_room ! 11 refl refl $
+          frees_room ! 9 refl refl $ frees_room ! 7 refl refl $ frees_room ! 5 refl refl $ free0 ! $ feq_i ! (List Val) (vunit ∷ []) (vunit ∷ []) refl $
           nothing ! $ nothing ! $
           keep ! (2 ∷ 3 ∷ 4 ∷ 1 ∷ 0 ∷ 7 ∷ []) $
           by ! (ends 𝓛 f.ended (stays params) (f.clauses 𝓛 mem run) point vunit tt (tt & tt & t.has & tt) (tt & tt & (sown-long task starts work

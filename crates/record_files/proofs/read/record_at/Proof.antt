@@ -4,7 +4,7 @@ use Prim.Native.Nat.{◌+◌, ◌*◌, ◌≤◌}
 use native.Mathlib.Omega.{arith}
 use lib.ListN.{length}
 use borrow.Author.Rules.{rules}
-use Rattle.scenario.specs.File.{start-size, runs-end, head_in}
+use Rattle.scenario.specs.File.{start_size, runs_end, head_in}
 use Rattle.scenario.proofs.Causes.{accepted}
 use Rattle.record_files.proofs.Reading.{record_is}
 use Rattle.record_files.proofs.read.record_at.Statement.{statement}
@@ -14,11 +14,11 @@ head-of-requires : tie.Need-head-of-requires
 head-of-requires c κs = (accepted c.before.args.file.now c.before.requires.0).front.head
 
 -- where the starts begin
-base : (c : tie.After-starts-base) → c.starts-base.result ≡ runs-end (head_in c.before.before.before.args.file.now).runs
-base c = c.starts-base.ensures ∙ ap (λ u. runs-end u.runs) c.before.head_of.ensures
+base : (c : tie.After-starts-base) → c.starts-base.result ≡ runs_end (head_in c.before.before.before.args.file.now).runs
+base c = c.starts-base.ensures ∙ ap (λ u. runs_end u.runs) c.before.head_of.ensures
 
 -- the start lies within the file
-within : (c : tie.After-starts-base) → c.starts-base.result + start-size * c.before.before.before.args.i + start-size ≤ length
+within : (c : tie.After-starts-base) → c.starts-base.result + start_size * c.before.before.before.args.i + start_size ≤ length
     c.before.before.before.args.file.now
 within c =
     let a = c.before.before.before in

@@ -6,9 +6,9 @@ use native.Mathlib.Omega.{arith}
 use lib.ListN.{take, drop}
 use lib.Seq.{length-take-le}
 use borrow.Author.Rules.{rules}
-use Rattle.eikonal.specs.Refusals.{starts-of}
+use Rattle.eikonal.specs.Refusals.{starts_of}
 use Rattle.scenario.specs.Bytes.{bytes_of}
-use Rattle.scenario.specs.File.{start-bytes}
+use Rattle.scenario.specs.File.{start_bytes}
 use Rattle.record_files.proofs.write.write_part.Statement.{statement}
 use Rattle.record_files.proofs.write.write_part.Tie as tie
 
@@ -32,7 +32,7 @@ returns c =
     let out = a.args.out.now in
     let k = a.args.part.count in
     p.put-starts.ensures
-    ∙ ap (λ u. take a.args.at out ++ (bytes_of start-bytes (starts-of (take k a.args.part.cells) (take k a.args.part.begins))
+    ∙ ap (λ u. take a.args.at out ++ (bytes_of start_bytes (starts_of (take k a.args.part.cells) (take k a.args.part.begins))
     ++ drop (a.args.at + 8 * u) out))
     (length-take-le k a.args.part.cells a.requires.0)
 

@@ -9,12 +9,12 @@ use Rattle.records.proofs.Walk.{◌$◌, !, by, ‵, move, keep, toss, look, for
 use Rattle.records.proofs.Walk.{RefT, now, slice-vals, ShrSlice, MutSlice, Room, only, nothing, heard, Meets, triple_of, Triple, entered, cited, needs, walk_of}
 use Rattle.records.proofs.Walk.{next-part}
 use Rattle.records.proofs.Parameters.{Param, number as number-param, shared, kept, stays, go, spells, tell}
-use Rattle.records.proofs.Calling.{◌&◌, contract-of, number, asked, shares, calls, last_of, named-so, lends, takes_back, entered_at, Walk, begins, ends, meets}
-use Rattle.records.proofs.Locals.{reads, and-reads, pointer-of, slice_of, sets, resets-last, lands-value, lands-unit, takes, frees-at, frees-room}
+use Rattle.records.proofs.Calling.{◌&◌, contract_of, number, asked, shares, calls, last_of, named_so, lends, takes_back, entered_at, Walk, begins, ends, meets}
+use Rattle.records.proofs.Locals.{reads, and_reads, pointer_of, slice_of, sets, resets_last, lands_value, lands_unit, takes, frees_at, frees_room}
 use Rattle.records.proofs.Loops.{bare, full, frame, Come, come, around, tests, leaves}
 use Rattle.eikonal.specs.declared.Start.{Start}
-use Rattle.record_files.proofs.Writing.{written-to, written_none, written-long, written-done, part-asked, written-more}
-use Rattle.scenario.specs.File.{start-size}
+use Rattle.record_files.proofs.Writing.{written_to, written_none, written-long, written-done, part_asked, written-more}
+use Rattle.scenario.specs.File.{start_size}
 use Rattle.eikonal.specs.contracts.Start as Start-type
 use Rattle.records.specs.contracts.parts.Part as Part-type
 use Rattle.records.proofs.parts.Part.TheLaws as Part-laws
@@ -33,8 +33,8 @@ abbrev params : List (Param 2)
 params = kept u8 0 tt ∷ number-param w64 ∷ number-param w64 ∷ shared Start-type.the_row 1 tt ∷ []
 
 module _ {M : Type 1} {𝓤 : Ura M} (𝓛 : Logic 𝓤) (mem : Memory → SProp 𝓤) (run : Routine → Fun 𝓤) (𝓣 : Tables 𝓤 𝓛.H)
-    (known-un : Triple 𝓤 (𝓣.C un-def.name) (contract-of 𝓛 un.ended (un.clauses 𝓛 mem run)))
-    (known-wp : Triple 𝓤 (𝓣.C wp-def.name) (contract-of 𝓛 wp.ended (wp.clauses 𝓛 mem run))) where
+    (known-un : Triple 𝓤 (𝓣.C un-def.name) (contract_of 𝓛 un.ended (un.clauses 𝓛 mem run)))
+    (known-wp : Triple 𝓤 (𝓣.C wp-def.name) (contract_of 𝓛 wp.ended (wp.clauses 𝓛 mem run))) where
   open 𝓛 use {H}
 
   module _ (κ0 κ1 : Lft) (q0 q1 : Share) (r-out : MutBor (List ℕ)) (at : ℕ) (count : ℕ) (r-starts : MutBor (List Start)) (g-out : Room u8 (length r-out.now))
@@ -49,7 +49,7 @@ module _ {M : Type 1} {𝓤 : Ura M} (𝓛 : Logic 𝓤) (mem : Memory → SProp
     point = entered_at 𝓛 f.ended (stays params) (f.clauses 𝓛 mem run) (κ0 & κ1 & tt) (q0 & q1 & tt) tt (r-out & at & count & r-starts & tt)
         (shr_slice_vals r-out & (vint w64 at) ∷ [] & (vint w64 count) ∷ [] & shr_slice_vals r-starts & tt) tt
 
-    module _ (need : (0 < count → count ≡ length (starts)) × (at + start-size * count ≤ length (out))) where
+    module _ (need : (0 < count → count ≡ length (starts)) × (at + start_size * count ≤ length (out))) where
       walk : Walk 𝓛 f.ended (stays params) (f.clauses 𝓛 mem run) 𝓣 code.function point
       walk =
           begins 𝓛 f.ended (stays params) (f.clauses 𝓛 mem run) 𝓣 code.function point
@@ -59,14 +59,14 @@ module _ {M : Type 1} {𝓤 : Ura M} (𝓛 : Logic 𝓤) (mem : Memory → SProp
           sets ! (of_opd ! (lit ! tt)) 14 refl (tt, record { fits = lit< tt }) $
           move ! (29 ∷ 30 ∷ []) $ toss ! $ toss ! $
           move ! (26 ∷ 27 ∷ 28 ∷ 29 ∷ []) $
-          around ! 𝓣 count (λ (t : Come (λ (i : ℕ) (zs : List ℕ). zs ≡ written-to at count out starts i)). t.place) (λ E t. ‵ (flft κ0 q0) ∷ ‵ (flft κ1 q1) ∷ ‵
-          ((MutSlice (named 0) κ0 u8).own_val (named-so r-out r-out.name t.has) (shr_slice_vals r-out)) ∷ ‵ ((ShrSlice (named 0) κ1 Start-type.the_row).own_val r-starts
+          around ! 𝓣 count (λ (t : Come (λ (i : ℕ) (zs : List ℕ). zs ≡ written_to at count out starts i)). t.place) (λ E t. ‵ (flft κ0 q0) ∷ ‵ (flft κ1 q1) ∷ ‵
+          ((MutSlice (named 0) κ0 u8).own_val (named_so r-out r-out.name t.has) (shr_slice_vals r-out)) ∷ ‵ ((ShrSlice (named 0) κ1 Start-type.the_row).own_val r-starts
           (shr_slice_vals r-starts)) ∷ frame 𝓤 H E (bare ∷ full (only (shr_slice_vals r-out)) ∷ full ((vint w64 at)) ∷ full ((vint w64 count)) ∷ full
           (only (shr_slice_vals r-starts)) ∷ full ((vint w64 t.place)) ∷ bare ∷ bare ∷ bare ∷ bare ∷ bare ∷ bare ∷ bare ∷ []) []) (come 0 out
           (written_none at count out starts (omega (arith, need.1)))) (λ t Q again left.
           sets ! (bin ! (reads ! 18 refl) (reads ! 22 refl) tt) 16 refl (tt, tt) $
           tests ! t.place count (reads ! 16 refl) (λ l.
-          sets ! (pointer-of ! 26 refl refl) 12 refl (tt, tt) $
+          sets ! (pointer_of ! 26 refl refl) 12 refl (tt, tt) $
           sets ! (slice_of ! 12 refl 26 refl refl) 10 refl (tt, (tt, (record { fits = g-out.0 }, tt))) $
           sets ! (bin ! (lit ! tt) (reads ! 18 refl) (record { fits = lt_of_le_of_lt (omega (arith, l, need.1)) g-out.0 })) 8 refl
           (tt, record { fits = lt_of_le_of_lt (omega (arith, l, need.1)) g-out.0 }) $
@@ -77,20 +77,20 @@ module _ {M : Type 1} {𝓤 : Ura M} (𝓛 : Logic 𝓤) (mem : Memory → SProp
           move ! (3 ∷ 1 ∷ 0 ∷ []) $
           calls 𝓛 𝓣 un.ended (un.clauses 𝓛 mem run) (κ1 & tt) (q1 & tt) tt (r-starts & t.place & tt)
           (shr_slice_vals r-starts & (vint w64 t.place) ∷ [] & tt) tt ! known-un (asked 𝓤 (omega (arith, l, need.0 (omega (arith, l)))))
-          (and-reads ! 20 refl (and-reads ! 18 refl (no_more !))) (λ u-p p _.
-          heard ! _ (λ e-p. lands-value ! Part-type.the_row (structs.lawful Part-type.the_type Part-laws.the_laws 𝓛) p refl 5 refl (λ g-p.
+          (and_reads ! 20 refl (and_reads ! 18 refl (no_more !))) (λ u-p p _.
+          heard ! _ (λ e-p. lands_value ! Part-type.the_row (structs.lawful Part-type.the_type Part-laws.the_laws 𝓛) p refl 5 refl (λ g-p.
           move ! (1 ∷ []) $ toss ! $
           move ! (3 ∷ 2 ∷ []) $ lends ! tt u8 κ0 q0 r-out (length out) t.has (λ ν-wp-out ε-wp-out.
           number 𝓛 w64 (at + (8 * t.place)) (vint w64 (at + (8 * t.place))) (refl, lt_of_le_of_lt (omega (arith, l, need.1)) g-out.0) $
           move ! (1 ∷ 2 ∷ 0 ∷ 4 ∷ []) $
-          calls 𝓛 𝓣 wp.ended (wp.clauses 𝓛 mem run) ((ν-wp-out ∷ []) & tt) (full_share & tt) tt (named-so r-out ε-wp-out t.has & (at + (8 * t.place)) &
-          p & tt) (shr_slice_vals r-out & (vint w64 (at + (8 * t.place))) ∷ [] & u-p ∷ [] & tt) tt ! known-wp (asked 𝓤 (part-asked at count out starts need.0
-          need.1 t.place l p e-p t.has t.is)) (and-reads ! 10 refl (and-reads ! 6 refl (and-reads ! 4 refl (no_more !)))) (λ u-wp _ z-wp.
-          heard ! _ (λ e-wp. lands-unit ! refl 15 refl $ last_of ! (λ l-out'. toss ! $
+          calls 𝓛 𝓣 wp.ended (wp.clauses 𝓛 mem run) ((ν-wp-out ∷ []) & tt) (full_share & tt) tt (named_so r-out ε-wp-out t.has & (at + (8 * t.place)) &
+          p & tt) (shr_slice_vals r-out & (vint w64 (at + (8 * t.place))) ∷ [] & u-p ∷ [] & tt) tt ! known-wp (asked 𝓤 (part_asked at count out starts need.0
+          need.1 t.place l p e-p t.has t.is)) (and_reads ! 10 refl (and_reads ! 6 refl (and_reads ! 4 refl (no_more !)))) (λ u-wp _ z-wp.
+          heard ! _ (λ e-wp. lands_unit ! refl 15 refl $ last_of ! (λ l-out'. toss ! $
           move ! (1 ∷ 2 ∷ 0 ∷ []) $
           takes_back ! tt u8 κ0 q0 r-out (length out) ν-wp-out ε-wp-out t.has z-wp.0 g-out l-out' (l-out' ∙ (ap length t.is ∙ written-long at count out
           starts need.0 need.1 t.place)) $
-          resets-last ! (bin ! (reads ! 18 refl) (lit ! tt) (record
+          resets_last ! (bin ! (reads ! 18 refl) (lit ! tt) (record
           { fits = (next-part t.place (length starts) (omega (arith, l, need.0 (omega (arith, l)))) g-starts.1).fits })) 18 refl
           (tt, record { fits = (next-part t.place (length starts) (omega (arith, l, need.0 (omega (arith, l)))) g-starts.1).fits }) $ forget ! 16 refl $
           forget ! 14 refl $ forget ! 12 refl $ forget ! 10 refl $ forget ! 8 refl $ forget ! 6 refl $ forget ! 4 refl $
@@ -99,9 +99,9 @@ module _ {M : Type 1} {𝓤 : Ura M} (𝓛 : Logic 𝓤) (mem : Memory → SProp
           (omega (arith, l))))))))))
           (λ h. leaves ! left $
           sets ! (of_opd ! (unit_lit !)) 28 refl (tt, tt) $
-          returns ! (look ! 28 refl) $ frees-at ! 28 refl refl $ frees-at ! 26 refl refl $ frees-at ! 24 refl refl $ frees-at ! 22 refl refl $
-          frees-at ! 20 refl refl $ frees-at ! 18 refl refl $ frees-at ! 16 refl refl $ frees-room ! 14 refl refl $ frees-room ! 12 refl refl $
-          frees-room ! 10 refl refl $ frees-room ! 8 refl refl $ frees-room ! 6 refl refl $ frees-room ! 4 refl refl $ free0 ! $
+          returns ! (look ! 28 refl) $ frees_at ! 28 refl refl $ frees_at ! 26 refl refl $ frees_at ! 24 refl refl $ frees_at ! 22 refl refl $
+          frees_at ! 20 refl refl $ frees_at ! 18 refl refl $ frees_at ! 16 refl refl $ frees_room ! 14 refl refl $ frees_room ! 12 refl refl $
+          frees_room ! 10 refl refl $ frees_room ! 8 refl refl $ frees_room ! 6 refl refl $ frees_room ! 4 refl refl $ free0 ! $
           feq_i ! (List Val) (vunit ∷ []) (vunit ∷ []) refl $ nothing ! $ nothing ! $ nothing ! $
           keep ! (3 ∷ 4 ∷ 5 ∷ 6 ∷ 2 ∷ 1 ∷ 0 ∷ []) $
           by ! (ends 𝓛 f.ended (stays params) (f.clauses 𝓛 mem run) point vunit tt (t.has & tt & tt & tt & tt) ((ap length t.is ∙ written-long

@@ -23,8 +23,8 @@ use Rattle.records.proofs.Walk.{uint_vals, uint_Tells, uint_Makes, uint_Lawful, 
 use Rattle.records.proofs.Walk.{at-slice, slice-vals, shr_slice_Tells, row, place_is, elem_out, elem_back, elem_put, looks_slice, shuts_slice, only}
 use Rattle.records.proofs.Walk.{nothing, owned, peeks, heard, plain, Vals, on_entry, Meets, triple_of, Contract, Triple, calls_at, ensured, lasts, entered}
 use Rattle.records.proofs.Walk.{cited, says, needs, Stays, stay_none, stay_none_slice, walk_of, Goes-none, Goes-none_slice, Walks, ends_at, walked}
-use Rattle.records.proofs.Walk.{walk_Meets, yes, scaled_Fits, after, env-of, alloc_all, A256, array-ty, array-val, array-fits, zeros-typed, zeros-in}
-use Rattle.records.proofs.Walk.{array-out}
+use Rattle.records.proofs.Walk.{walk_Meets, yes, scaled_Fits, after, env_of, alloc_all, A256, array_ty, array_val, array_fits, zeros_typed, zeros_in}
+use Rattle.records.proofs.Walk.{array_out}
 use Rattle.records.proofs.Split.{zeros, part_at, copied, copied-long, copied_next, copied_all, part-is}
 use Rattle.eikonal.specs.contracts.Start as T
 use Rattle.eikonal.proofs.Start.TheLaws as T'
@@ -59,8 +59,8 @@ stayed = (stay_none_slice (0 ∷ []) tt (plain (λ _. T.the_row)) yes, (stay_non
 abbrev cell-of : Start → ℕ
 cell-of s = s.cell
 
-abbrev time-of : Start → ℕ
-time-of s = s.time
+abbrev time_of : Start → ℕ
+time_of s = s.time
 
 -- the contracts that the proof cites
 abbrev Limits : {M : Type 1} {𝓤 : Ura M} (𝓛 : Logic 𝓤) (mem : Memory → SProp 𝓤) (run : Routine → Fun 𝓤) → Contract 𝓤
@@ -93,13 +93,13 @@ module _ {M : Type 1} {𝓤 : Ura M} (𝓛 : Logic 𝓤) (mem : Memory → SProp
   cs i = copied cell-of ys start i
 
   abbrev ts : ℕ → List ℕ
-  ts i = copied time-of ys start i
+  ts i = copied time_of ys start i
 
   abbrev cells : List ℕ
   cells = padded (map cell-of (part_at ys start))
 
   abbrev begins : List ℕ
-  begins = padded (map time-of (part_at ys start))
+  begins = padded (map time_of (part_at ys start))
 
   exits : (p : Part) (u : Val) → p ≡ part_of (part_at ys start) → ent 𝓤 (⋆ 𝓛 (‵ (flft κ q) ∷ ‵ ((ShrSlice (named 0) κ R).own_val x.0 at.0) ∷ ‵
       (usize.own_val start (vint w64 start ∷ [])) ∷ ‵ ((P.the_row).own_val p (u ∷ [])) ∷ [])) (Post u)
@@ -117,7 +117,7 @@ module _ {M : Type 1} {𝓤 : Ura M} (𝓛 : Logic 𝓤) (mem : Memory → SProp
   goes-limit = qed 𝓛 (‵ ftrue ∷ ‵ (owns (usize ∷ []) (n - start, tt) (vint w64 (n - start) ∷ [], tt)) ∷ []) ∵ join ! $ frame ! $ done !
 
   abbrev join-vals : Vals jn.signature tt
-  join-vals = (vint w64 k ∷ [], (array-val cells ∷ [], (array-val begins ∷ [], tt)))
+  join-vals = (vint w64 k ∷ [], (array_val cells ∷ [], (array_val begins ∷ [], tt)))
 
   abbrev to-join : (Joins 𝓛 mem run).Ghost
   to-join = ((tt, tt, tt, (k, (cells, (begins, tt))), join-vals), tt)
@@ -143,13 +143,13 @@ module _ {M : Type 1} {𝓤 : Ura M} (𝓛 : Logic 𝓤) (mem : Memory → SProp
     abbrev Here : ℕ → (test : Fml) → List (Item 𝓤)
     Here i test = ‵ (row R s ys b o) ∷ ‵ (fobor κ q ((arr_parts (shares R) n).part s ys b o)) ∷ ‵ (fshr_bor κ (λ s'. (arr_parts (shares R) n).part s' ys b o)) ∷ ‵
         (fres γ ((coded_holeys R).code (heres R ys))) ∷ ‵ (shr_slice_at R x.0 at.0) ∷ ‵ (owns (usize ∷ []) (start, tt) (vint w64 start ∷ [], tt)) ∷ ‵
-        (row u32 full_share (cs i) l4 0) ∷ ‵ (row u32 full_share (ts i) l5 0) ∷ ‵ (froom array-ty l21 0) ∷ ‵ (fdies array-ty l21) ∷ ‵ (froom array-ty l20 0) ∷ ‵
-        (fdies array-ty l20) ∷ ‵ (froom ty_ptr l19 0) ∷ ‵ (fdies ty_ptr l19) ∷ ‵ (froom ty_ptr l18 0) ∷ ‵ (fdies ty_ptr l18) ∷ ‵ (froom ty_ptr l17 0) ∷ ‵
+        (row u32 full_share (cs i) l4 0) ∷ ‵ (row u32 full_share (ts i) l5 0) ∷ ‵ (froom array_ty l21 0) ∷ ‵ (fdies array_ty l21) ∷ ‵ (froom array_ty l20 0) ∷ ‵
+        (fdies array_ty l20) ∷ ‵ (froom ty_ptr l19 0) ∷ ‵ (fdies ty_ptr l19) ∷ ‵ (froom ty_ptr l18 0) ∷ ‵ (fdies ty_ptr l18) ∷ ‵ (froom ty_ptr l17 0) ∷ ‵
         (fdies ty_ptr l17) ∷ ‵ (froom ty_ptr l16 0) ∷ ‵ (fdies ty_ptr l16) ∷ ‵ (froom ty_ptr l15 0) ∷ ‵ (fdies ty_ptr l15) ∷ ‵ (froom (ty_int w64) l14 0) ∷ ‵
         (fdies (ty_int w64) l14) ∷ ‵ (froom (ty_int w32) l13 0) ∷ ‵ (fdies (ty_int w32) l13) ∷ ‵ (froom ty_ptr l12 0) ∷ ‵ (fdies ty_ptr l12) ∷ ‵
         (froom (ty_int w64) l11 0) ∷ ‵ (fdies (ty_int w64) l11) ∷ ‵ test ∷ ‵ (fdies ty_bool l10) ∷ ‵ (froom (ty_int w64) l9 0) ∷ ‵
         (fdies (ty_int w64) l9) ∷ ‵ (froom (ty_int w64) l8 0) ∷ ‵ (fdies (ty_int w64) l8) ∷ ‵ (froom (ty_int w64) l7 0) ∷ ‵ (fdies (ty_int w64) l7) ∷ ‵
-        (fat full_share (ty_int w64) l6 0 (vint w64 i)) ∷ ‵ (fdies (ty_int w64) l6) ∷ ‵ (fdies array-ty l5) ∷ ‵ (fdies array-ty l4) ∷ ‵
+        (fat full_share (ty_int w64) l6 0 (vint w64 i)) ∷ ‵ (fdies (ty_int w64) l6) ∷ ‵ (fdies array_ty l5) ∷ ‵ (fdies array_ty l4) ∷ ‵
         (fat full_share (ty_int w64) l3 0 (vint w64 k)) ∷ ‵ (fdies (ty_int w64) l3) ∷ ‵ (fat full_share (ty_int w64) l2 0 (vint w64 start)) ∷ ‵
         (fdies (ty_int w64) l2) ∷ ‵ (fat full_share s-ty l1 0 (slice_val (b, o) n)) ∷ ‵ (fdies s-ty l1) ∷ ‵ (froom P'.mir l0 0) ∷ ‵ (fdies P'.mir l0) ∷ []
 
@@ -160,7 +160,7 @@ module _ {M : Type 1} {𝓤 : Ura M} (𝓛 : Logic 𝓤) (mem : Memory → SProp
     Tested i = Here i (fat full_share ty_bool l10 0 (vbool (ltb i k)))
 
     abbrev En : Env 𝓤 H
-    En = env-of (code.function).locals (l0 ∷ l1 ∷ l2 ∷ l3 ∷ l4 ∷ l5 ∷ l6 ∷ l7 ∷ l8 ∷ l9 ∷ l10 ∷ l11 ∷ l12 ∷ l13 ∷ l14 ∷ l15 ∷ l16 ∷ l17 ∷ l18 ∷ l19 ∷ l20 ∷ l21
+    En = env_of (code.function).locals (l0 ∷ l1 ∷ l2 ∷ l3 ∷ l4 ∷ l5 ∷ l6 ∷ l7 ∷ l8 ∷ l9 ∷ l10 ∷ l11 ∷ l12 ∷ l13 ∷ l14 ∷ l15 ∷ l16 ∷ l17 ∷ l18 ∷ l19 ∷ l20 ∷ l21
         ∷ [])
 
     module _ (𝓣 : Tables 𝓤 H) (fm : FmC 𝓤 H 𝓛.laws 𝓣.C) (known : Triple 𝓤 (𝓣.C #records·parts·joined) (Joins 𝓛 mem run)) (gs : Room R n)
@@ -246,15 +246,15 @@ module _ {M : Type 1} {𝓤 : Ura M} (𝓛 : Logic 𝓤) (mem : Memory → SProp
           assigns ! (bin ! (load ! (from ! (stop !)) (look ! 14 refl)) (load ! (from ! (stop !)) (look ! 22 refl)) tt) (from ! (stop !))
           (init ! 12 refl (tt, tt)) $
           rewrite ! 12 (λ (m : ℕ). ‵ (fat full_share ty_ptr l19 0 (vptr l5 m))) (sym (place_is 4 0 i)) refl $ move ! (7 ∷ []) $
-          elem_out ! u32 (Is u32) (shows 𝓛 u32) (uint_vals w32) (uint_Tells w32) full_share (ts i) i 0 l5 0 (held time-of i l) (λ _.
+          elem_out ! u32 (Is u32) (shows 𝓛 u32) (uint_vals w32) (uint_Tells w32) full_share (ts i) i 0 l5 0 (held time_of i l) (λ _.
           assigns ! (of_opd ! (load ! (from ! (stop !)) (look ! 26 refl))) (from ! (hop ! (look ! 14 refl) (stop !)))
           (store ! 0 refl (tt, record { fits = g1.1.1.1.0.1 })) $
           move ! (1 ∷ []) $ toss ! $
-          owned ! u32 (Is u32) (uint_Makes 𝓛 w32) ((time-of) (get_or ys (start + i) no_start)) _ (refl, g1.1.1.1.0.1) $
+          owned ! u32 (Is u32) (uint_Makes 𝓛 w32) ((time_of) (get_or ys (start + i) no_start)) _ (refl, g1.1.1.1.0.1) $
           move ! (1 ∷ 0 ∷ 2 ∷ []) $
-          elem_put ! u32 full_share (ts i) i ((time-of) (get_or ys (start + i) no_start)) (vint w32 ((time-of) (get_or ys (start + i) no_start)) ∷ []) l5 0
-          (held time-of i l) $
-          rewrite ! 0 (λ (t : List ℕ). ‵ (row u32 full_share t l5 0)) (copied_next time-of ys start i l) refl $
+          elem_put ! u32 full_share (ts i) i ((time_of) (get_or ys (start + i) no_start)) (vint w32 ((time_of) (get_or ys (start + i) no_start)) ∷ []) l5 0
+          (held time_of i l) $
+          rewrite ! 0 (λ (t : List ℕ). ‵ (row u32 full_share t l5 0)) (copied_next time_of ys start i l) refl $
           assigns_last ! (bin ! (load ! (from ! (stop !)) (look ! 38 refl)) (lit ! tt) (next_fits i l)) (from ! (stop !)) (store ! 38 refl (tt, next_fits i l))
           $
           forget ! 30 refl $ forget ! 36 refl $ forget ! 28 refl $ forget ! 26 refl $ forget ! 24 refl $ forget ! 22 refl $ forget ! 20 refl $ forget ! 18 refl
@@ -266,16 +266,16 @@ module _ {M : Type 1} {𝓤 : Ura M} (𝓛 : Logic 𝓤) (mem : Memory → SProp
       ends i h =
           qed 𝓛 (Tested i) ∵ exec ! C Λ En mir.t-8 (at_ret En Post) $
           rewrite ! 6 (λ (t : List ℕ). ‵ (row u32 full_share t l4 0)) (copied_all cell-of ys start i h) refl $
-          rewrite ! 7 (λ (t : List ℕ). ‵ (row u32 full_share t l5 0)) (copied_all time-of ys start i h) refl $ move ! (6 ∷ []) $
-          use1 𝓛 (‵ (fat full_share array-ty l4 0 (array-val cells)) ⊛ ‵ (A256.own cells (array-val cells ∷ [])))
-          (array-out 𝓛 cells l4 (padded-long cell-of)) $
-          split ! $ move ! (1 ∷ []) $ peeks ! A256 (Is A256) (shows 𝓛 A256) cells (array-val cells ∷ []) (λ is4.
-          assigns ! (of_opd ! (load ! (from ! (stop !)) (look ! 1 refl))) (from ! (stop !)) (init ! 11 refl (array-fits 𝓛 cells (array-val cells) is4)) $
+          rewrite ! 7 (λ (t : List ℕ). ‵ (row u32 full_share t l5 0)) (copied_all time_of ys start i h) refl $ move ! (6 ∷ []) $
+          use1 𝓛 (‵ (fat full_share array_ty l4 0 (array_val cells)) ⊛ ‵ (A256.own cells (array_val cells ∷ [])))
+          (array_out 𝓛 cells l4 (padded-long cell-of)) $
+          split ! $ move ! (1 ∷ []) $ peeks ! A256 (Is A256) (shows 𝓛 A256) cells (array_val cells ∷ []) (λ is4.
+          assigns ! (of_opd ! (load ! (from ! (stop !)) (look ! 1 refl))) (from ! (stop !)) (init ! 11 refl (array_fits 𝓛 cells (array_val cells) is4)) $
           move ! (8 ∷ []) $
-          use1 𝓛 (‵ (fat full_share array-ty l5 0 (array-val begins)) ⊛ ‵ (A256.own begins (array-val begins ∷ [])))
-          (array-out 𝓛 begins l5 (padded-long time-of)) $
-          split ! $ move ! (1 ∷ []) $ peeks ! A256 (Is A256) (shows 𝓛 A256) begins (array-val begins ∷ []) (λ is5.
-          assigns ! (of_opd ! (load ! (from ! (stop !)) (look ! 1 refl))) (from ! (stop !)) (init ! 10 refl (array-fits 𝓛 begins (array-val begins) is5))
+          use1 𝓛 (‵ (fat full_share array_ty l5 0 (array_val begins)) ⊛ ‵ (A256.own begins (array_val begins ∷ [])))
+          (array_out 𝓛 begins l5 (padded-long time_of)) $
+          split ! $ move ! (1 ∷ []) $ peeks ! A256 (Is A256) (shows 𝓛 A256) begins (array_val begins ∷ []) (λ is5.
+          assigns ! (of_opd ! (load ! (from ! (stop !)) (look ! 1 refl))) (from ! (stop !)) (init ! 10 refl (array_fits 𝓛 begins (array_val begins) is5))
           $
           move ! (4 ∷ 5 ∷ []) $ shuts_slice ! tt R s ys b o $
           -- the part is made
@@ -316,31 +316,31 @@ module _ {M : Type 1} {𝓤 : Ura M} (𝓛 : Logic 𝓤) (mem : Memory → SProp
   begun : (l0 l1 l2 l3 l4 l5 l6 l7 l8 l9 l10 l11 l12 l13 l14 l15 l16 l17 l18 l19 l20 l21 : ℕ) (𝓣 : Tables 𝓤 H) → FmC 𝓤 H 𝓛.laws 𝓣.C → Triple 𝓤
       (𝓣.C #records·parts·at-most-256) (Limits 𝓛 mem run) → Triple 𝓤 (𝓣.C #records·parts·joined) (Joins 𝓛 mem run) → Room R n → start < 2 ^ 64 → start
       ≤ n
-      → ent 𝓤 (⋆ 𝓛 (‵ (froom array-ty l21 0) ∷ ‵ (fdies array-ty l21) ∷ ‵ (froom array-ty l20 0) ∷ ‵ (fdies array-ty l20) ∷ ‵ (froom ty_ptr l19 0) ∷ ‵
+      → ent 𝓤 (⋆ 𝓛 (‵ (froom array_ty l21 0) ∷ ‵ (fdies array_ty l21) ∷ ‵ (froom array_ty l20 0) ∷ ‵ (fdies array_ty l20) ∷ ‵ (froom ty_ptr l19 0) ∷ ‵
       (fdies ty_ptr l19) ∷ ‵ (froom ty_ptr l18 0) ∷ ‵ (fdies ty_ptr l18) ∷ ‵ (froom ty_ptr l17 0) ∷ ‵ (fdies ty_ptr l17) ∷ ‵ (froom ty_ptr l16 0) ∷ ‵
       (fdies ty_ptr l16) ∷ ‵ (froom ty_ptr l15 0) ∷ ‵ (fdies ty_ptr l15) ∷ ‵ (froom (ty_int w64) l14 0) ∷ ‵ (fdies (ty_int w64) l14) ∷ ‵ (froom (ty_int w32) l13 0) ∷
       ‵ (fdies (ty_int w32) l13) ∷ ‵ (froom ty_ptr l12 0) ∷ ‵ (fdies ty_ptr l12) ∷ ‵ (froom (ty_int w64) l11 0) ∷ ‵ (fdies (ty_int w64) l11) ∷ ‵ (froom ty_bool l10 0)
       ∷ ‵ (fdies ty_bool l10) ∷ ‵ (froom (ty_int w64) l9 0) ∷ ‵ (fdies (ty_int w64) l9) ∷ ‵ (froom (ty_int w64) l8 0) ∷ ‵ (fdies (ty_int w64) l8) ∷ ‵
-      (froom (ty_int w64) l7 0) ∷ ‵ (fdies (ty_int w64) l7) ∷ ‵ (froom (ty_int w64) l6 0) ∷ ‵ (fdies (ty_int w64) l6) ∷ ‵ (froom array-ty l5 0) ∷ ‵
-      (fdies array-ty l5) ∷ ‵ (froom array-ty l4 0) ∷ ‵ (fdies array-ty l4) ∷ ‵ (froom (ty_int w64) l3 0) ∷ ‵ (fdies (ty_int w64) l3) ∷ ‵
+      (froom (ty_int w64) l7 0) ∷ ‵ (fdies (ty_int w64) l7) ∷ ‵ (froom (ty_int w64) l6 0) ∷ ‵ (fdies (ty_int w64) l6) ∷ ‵ (froom array_ty l5 0) ∷ ‵
+      (fdies array_ty l5) ∷ ‵ (froom array_ty l4 0) ∷ ‵ (fdies array_ty l4) ∷ ‵ (froom (ty_int w64) l3 0) ∷ ‵ (fdies (ty_int w64) l3) ∷ ‵
       (fat full_share (ty_int w64) l2 0 (vint w64 start)) ∷ ‵ (fdies (ty_int w64) l2) ∷ ‵ (fat full_share s-ty l1 0 (slice_val (b, o) n)) ∷ ‵ (fdies s-ty l1) ∷ ‵
       (froom P'.mir l0 0) ∷ ‵ (fdies P'.mir l0) ∷ (‵ (flft κ q) ⊛ ‵ ftrue) ∷ ‵ (owns (ShrSlice (named 0) κ R ∷ usize ∷ []) x at) ∷ [])) (Wp 𝓤 H 𝓣.C 𝓣.Λ
-      (env-of (code.function).locals (l0 ∷ l1 ∷ l2 ∷ l3 ∷ l4 ∷ l5 ∷ l6 ∷ l7 ∷ l8 ∷ l9 ∷ l10 ∷ l11 ∷ l12 ∷ l13 ∷ l14 ∷ l15 ∷ l16 ∷ l17 ∷ l18 ∷ l19 ∷ l20 ∷ l21 ∷
-      [])) mir.t-1 (at_return 𝓤 H (env-of (code.function).locals (l0 ∷ l1 ∷ l2 ∷ l3 ∷ l4 ∷ l5 ∷ l6 ∷ l7 ∷ l8 ∷ l9 ∷ l10 ∷ l11 ∷ l12 ∷ l13 ∷ l14 ∷ l15 ∷ l16 ∷
+      (env_of (code.function).locals (l0 ∷ l1 ∷ l2 ∷ l3 ∷ l4 ∷ l5 ∷ l6 ∷ l7 ∷ l8 ∷ l9 ∷ l10 ∷ l11 ∷ l12 ∷ l13 ∷ l14 ∷ l15 ∷ l16 ∷ l17 ∷ l18 ∷ l19 ∷ l20 ∷ l21 ∷
+      [])) mir.t-1 (at_return 𝓤 H (env_of (code.function).locals (l0 ∷ l1 ∷ l2 ∷ l3 ∷ l4 ∷ l5 ∷ l6 ∷ l7 ∷ l8 ∷ l9 ∷ l10 ∷ l11 ∷ l12 ∷ l13 ∷ l14 ∷ l15 ∷ l16 ∷
       l17 ∷ l18 ∷ l19 ∷ l20 ∷ l21 ∷ [])) Post))
   begun l0 l1 l2 l3 l4 l5 l6 l7 l8 l9 l10 l11 l12 l13 l14 l15 l16 l17 l18 l19 l20 l21 𝓣 fm known known' gs gf le =
       let left : n - start < 2 ^ 64 = lt_of_le_of_lt (omega arith) gs.0 in
-      qed 𝓛 (‵ (froom array-ty l21 0) ∷ ‵ (fdies array-ty l21) ∷ ‵ (froom array-ty l20 0) ∷ ‵ (fdies array-ty l20) ∷ ‵ (froom ty_ptr l19 0) ∷ ‵ (fdies ty_ptr l19)
+      qed 𝓛 (‵ (froom array_ty l21 0) ∷ ‵ (fdies array_ty l21) ∷ ‵ (froom array_ty l20 0) ∷ ‵ (fdies array_ty l20) ∷ ‵ (froom ty_ptr l19 0) ∷ ‵ (fdies ty_ptr l19)
       ∷ ‵ (froom ty_ptr l18 0) ∷ ‵ (fdies ty_ptr l18) ∷ ‵ (froom ty_ptr l17 0) ∷ ‵ (fdies ty_ptr l17) ∷ ‵ (froom ty_ptr l16 0) ∷ ‵ (fdies ty_ptr l16) ∷ ‵
       (froom ty_ptr l15 0) ∷ ‵ (fdies ty_ptr l15) ∷ ‵ (froom (ty_int w64) l14 0) ∷ ‵ (fdies (ty_int w64) l14) ∷ ‵ (froom (ty_int w32) l13 0) ∷ ‵
       (fdies (ty_int w32) l13) ∷ ‵ (froom ty_ptr l12 0) ∷ ‵ (fdies ty_ptr l12) ∷ ‵ (froom (ty_int w64) l11 0) ∷ ‵ (fdies (ty_int w64) l11) ∷ ‵ (froom ty_bool l10 0) ∷
       ‵ (fdies ty_bool l10) ∷ ‵ (froom (ty_int w64) l9 0) ∷ ‵ (fdies (ty_int w64) l9) ∷ ‵ (froom (ty_int w64) l8 0) ∷ ‵ (fdies (ty_int w64) l8) ∷ ‵
-      (froom (ty_int w64) l7 0) ∷ ‵ (fdies (ty_int w64) l7) ∷ ‵ (froom (ty_int w64) l6 0) ∷ ‵ (fdies (ty_int w64) l6) ∷ ‵ (froom array-ty l5 0) ∷ ‵
-      (fdies array-ty l5) ∷ ‵ (froom array-ty l4 0) ∷ ‵ (fdies array-ty l4) ∷ ‵ (froom (ty_int w64) l3 0) ∷ ‵ (fdies (ty_int w64) l3) ∷ ‵
+      (froom (ty_int w64) l7 0) ∷ ‵ (fdies (ty_int w64) l7) ∷ ‵ (froom (ty_int w64) l6 0) ∷ ‵ (fdies (ty_int w64) l6) ∷ ‵ (froom array_ty l5 0) ∷ ‵
+      (fdies array_ty l5) ∷ ‵ (froom array_ty l4 0) ∷ ‵ (fdies array_ty l4) ∷ ‵ (froom (ty_int w64) l3 0) ∷ ‵ (fdies (ty_int w64) l3) ∷ ‵
       (fat full_share (ty_int w64) l2 0 (vint w64 start)) ∷ ‵ (fdies (ty_int w64) l2) ∷ ‵ (fat full_share s-ty l1 0 (slice_val (b, o) n)) ∷ ‵ (fdies s-ty l1) ∷ ‵
       (froom P'.mir l0 0) ∷ ‵ (fdies P'.mir l0) ∷ (‵ (flft κ q) ⊛ ‵ ftrue) ∷ ‵ (owns (ShrSlice (named 0) κ R ∷ usize ∷ []) x at) ∷ []) ∵ exec ! 𝓣.C 𝓣.Λ
-      (env-of (code.function).locals (l0 ∷ l1 ∷ l2 ∷ l3 ∷ l4 ∷ l5 ∷ l6 ∷ l7 ∷ l8 ∷ l9 ∷ l10 ∷ l11 ∷ l12 ∷ l13 ∷ l14 ∷ l15 ∷ l16 ∷ l17 ∷ l18 ∷ l19 ∷ l20 ∷ l21 ∷
-      [])) mir.t-1 (at_ret (env-of (code.function).locals (l0 ∷ l1 ∷ l2 ∷ l3 ∷ l4 ∷ l5 ∷ l6 ∷ l7 ∷ l8 ∷ l9 ∷ l10 ∷ l11 ∷ l12 ∷ l13 ∷ l14 ∷ l15 ∷ l16 ∷ l17 ∷ l18
+      (env_of (code.function).locals (l0 ∷ l1 ∷ l2 ∷ l3 ∷ l4 ∷ l5 ∷ l6 ∷ l7 ∷ l8 ∷ l9 ∷ l10 ∷ l11 ∷ l12 ∷ l13 ∷ l14 ∷ l15 ∷ l16 ∷ l17 ∷ l18 ∷ l19 ∷ l20 ∷ l21 ∷
+      [])) mir.t-1 (at_ret (env_of (code.function).locals (l0 ∷ l1 ∷ l2 ∷ l3 ∷ l4 ∷ l5 ∷ l6 ∷ l7 ∷ l8 ∷ l9 ∷ l10 ∷ l11 ∷ l12 ∷ l13 ∷ l14 ∷ l15 ∷ l16 ∷ l17 ∷ l18
       ∷ l19 ∷ l20 ∷ l21 ∷ [])) Post) $
       assigns ! (of_opd ! (load ! (from ! (fld ! refl (stop !))) (look_in ! 40 (sub ! 1 refl (whole !))))) (from ! (stop !))
       (init ! 26 refl (tt, record { fits = gs.0 })) $
@@ -358,10 +358,10 @@ module _ {M : Type 1} {𝓤 : Ura M} (𝓛 : Logic 𝓤) (mem : Memory → SProp
       land ! (from ! (stop !)) (init ! 37 refl ((uint_Lawful 𝓛 w64).typed v _ is).0) $ toss ! $
       rewrite ! 36 (λ (m : Val). ‵ (fat full_share (ty_int w64) l3 0 m)) (ap only is.0 ∙ ap (vint w64) is-k) refl $ forget ! 26 refl $ forget ! 24 refl $
       -- two arrays of zeros
-      assigns ! (rep ! 256 (lit ! tt)) (from ! (stop !)) (init ! 34 refl (zeros-typed 𝓛)) $ move ! (34 ∷ []) $
-      use1 𝓛 (‵ (row u32 full_share zeros l4 0)) (zeros-in 𝓛 l4) $
-      assigns ! (rep ! 256 (lit ! tt)) (from ! (stop !)) (init ! 33 refl (zeros-typed 𝓛)) $ move ! (33 ∷ []) $
-      use1 𝓛 (‵ (row u32 full_share zeros l5 0)) (zeros-in 𝓛 l5) $
+      assigns ! (rep ! 256 (lit ! tt)) (from ! (stop !)) (init ! 34 refl (zeros_typed 𝓛)) $ move ! (34 ∷ []) $
+      use1 𝓛 (‵ (row u32 full_share zeros l4 0)) (zeros_in 𝓛 l4) $
+      assigns ! (rep ! 256 (lit ! tt)) (from ! (stop !)) (init ! 33 refl (zeros_typed 𝓛)) $ move ! (33 ∷ []) $
+      use1 𝓛 (‵ (row u32 full_share zeros l5 0)) (zeros_in 𝓛 l5) $
       assigns ! (of_opd ! (lit ! tt)) (from ! (stop !)) (init ! 32 refl (tt, record { fits = lit< tt })) $
       -- the records are looked into
       move ! (45 ∷ []) $ fsplit ! $ fsplit ! $ move ! (1 ∷ []) $ fsplit ! $ move ! (48 ∷ []) $ split ! $ move ! (1 ∷ []) $

@@ -2,12 +2,12 @@
 use mathlib.Core.Path.{refl}
 use native.Mathlib.Decide.{ℕ_discrete}
 use borrow.Author.Tests.{eq-eqb, ne_eqb}
-use Rattle.eikonal.specs.Refusals.{half-wall}
+use Rattle.eikonal.specs.Refusals.{half_wall}
 use Rattle.refusals.proofs.board.is_half_wall.Statement.{statement}
 use Rattle.refusals.proofs.board.is_half_wall.Tie as tie
 
 returns : tie.Need-returns
-unfolding half-wall
+unfolding half_wall
 returns c = elim (ℕ_discrete c.args.g 0) [
   | yes p ↦ elim (ℕ_discrete c.args.h 0) [
     | yes q ↦ rw (eq-eqb c.args.g 0 p, eq-eqb c.args.h 0 q) refl

@@ -4,7 +4,7 @@ use mathlib.Core.Bool.{Bool}
 use Prim.Native.Nat.{ℕ}
 use native.Mathlib.Omega.{arith}
 use Rattle.refusals.specs.declared.board.Judged.{Judged}
-use Rattle.refusals.specs.Judge.{judge-start}
+use Rattle.refusals.specs.Judge.{judge_start}
 use Rattle.refusals.proofs.board.judge_start.Statement.{statement}
 use Rattle.refusals.proofs.board.judge_start.Tie as tie
 
@@ -16,7 +16,7 @@ counted-on : {k k' l l' : ℕ} (i j : ℕ) (t w : Bool) → k ≡ k' → l ≡ l
 counted-on i j t w p q = rw (p, q)
 
 returns : tie.Need-returns
-unfolding judge-start
+unfolding judge_start
 returns c =
     let t = c.before.before in
     let o = t.before.before.before in

@@ -1,12 +1,12 @@
 -- `refusals::board::judged_refusal` meets its contract.
 use mathlib.Core.Path.{refl}
 use Rattle.eikonal.specs.Order.{first_of}
-use Rattle.refusals.specs.Judge.{judged-causes}
+use Rattle.refusals.specs.Judge.{judged_causes}
 use Rattle.refusals.proofs.board.judged_refusal.Statement.{statement}
 use Rattle.refusals.proofs.board.judged_refusal.Tie as tie
 
 returns : tie.Need-returns
-unfolding judged-causes first_of
+unfolding judged_causes first_of
 returns c =
     let first = c.before.before.before in
     let tests = first.before.before in

@@ -1,11 +1,11 @@
 -- `refusals::board::sides_good` meets its contract.
 use mathlib.Core.Path.{refl}
-use Rattle.eikonal.specs.Refusals.{sides-good}
+use Rattle.eikonal.specs.Refusals.{sides_good}
 use Rattle.refusals.proofs.board.sides_good.Statement.{statement}
 use Rattle.refusals.proofs.board.sides_good.Tie as tie
 
 returns : tie.Need-returns
-unfolding sides-good
+unfolding sides_good
 returns c = rw (c.within2.ensures, c.before.within.ensures) refl
 
 pub sides-good-spec : {M : Type 1} → statement M

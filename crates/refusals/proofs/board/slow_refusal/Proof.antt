@@ -13,7 +13,7 @@ flaws-refusal-requires c κs = c.before.before.before.before.requires c.before.i
 returns-2 : tie.Need-returns-2
 returns-2 c =
     let w = c.before in
-    next _ _ _ w.before.if1.false (rw w.with-pairs.ensures at c.flaws-refusal.ensures)
+    next _ _ _ w.before.if1.false (rw w.with_pairs.ensures at c.flaws-refusal.ensures)
 
 pub slow-refusal-spec : {M : Type 1} → statement M
 slow-refusal-spec = tie.close (tie.spec returns (λ c κs. tt) flaws-refusal-requires returns-2)

@@ -1,12 +1,12 @@
 -- `refusals::board::with_pair` meets its contract.
 use mathlib.Core.Path.{refl}
-use Rattle.eikonal.specs.Board.{along-row, down-column}
+use Rattle.eikonal.specs.Board.{along_row, down_column}
 use Rattle.refusals.specs.Flaws.{with_pair}
 use Rattle.refusals.proofs.board.with_pair.Statement.{statement}
 use Rattle.refusals.proofs.board.with_pair.Tie as tie
 
 returns : tie.Need-returns
-unfolding with_pair along-row down-column
+unfolding with_pair along_row down_column
 returns c =
     let half = c.before.before.before in
     rw (c.before.is-uneven.ensures, half.is-half-wall.ensures, half.before.before.is-steep.ensures) refl

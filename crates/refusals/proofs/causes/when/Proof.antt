@@ -4,7 +4,7 @@ use Rattle.refusals.proofs.causes.when.Statement.{statement}
 use Rattle.refusals.proofs.causes.when.Tie as tie
 
 returns : tie.Need-returns
-returns c = rw c.before.if1.true c.cause-at.ensures
+returns c = rw c.before.if1.true c.cause_at.ensures
 
 returns-2 : tie.Need-returns-2
 returns-2 c = rw c.if1.false refl

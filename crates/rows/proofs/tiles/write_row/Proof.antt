@@ -3,7 +3,7 @@ use Prim.Native.Nat.{ℕ, ◌+◌, ◌*◌, ◌≤◌}
 use native.Mathlib.Omega.{arith}
 use borrow.Author.Rules.{rules}
 use Rattle.rows.proofs.Theory.Entered.{entered-part, entered_of}
-use Rattle.rows.proofs.Theory.TileRows.{row-end, row-cells, parts-long, part-read}
+use Rattle.rows.proofs.Theory.TileRows.{row-end, row-cells, parts_long, part-read}
 use Rattle.rows.proofs.tiles.write_row.Statement.{statement}
 use Rattle.rows.proofs.tiles.write_row.Tie as tie
 
@@ -56,7 +56,7 @@ part-fill-row-end-2 c = omega (arith, ends c.before.before.before)
 fill-row-requires : tie.Need-fill-row-requires
 fill-row-requires c κs =
     let s = c.before.before.before.before in
-    parts-long _ _ s.args.shape.cells (from s) (to s) (omega (arith, ends s)) (omega (arith, ends s)) (omega (arith, ends s))
+    parts_long _ _ s.args.shape.cells (from s) (to s) (omega (arith, ends s)) (omega (arith, ends s)) (omega (arith, ends s))
 
 returns : tie.Need-returns
 returns c =

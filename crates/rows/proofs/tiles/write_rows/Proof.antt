@@ -4,7 +4,7 @@ use native.Mathlib.Omega.{arith}
 use Rattle.rows.specs.Lists.{due}
 use Rattle.rows.specs.Rows.{Entered, Block}
 use Rattle.rows.proofs.Theory.Entered.{altered-most, entered-most, entered-none, entered-then, entered_of}
-use Rattle.rows.proofs.Theory.TileRows.{lines-most, room-kept, no_rows, one-row-more, fewer-rows}
+use Rattle.rows.proofs.Theory.TileRows.{lines-most, room-kept, no_rows, one-row-more, fewer_rows}
 use Rattle.rows.proofs.tiles.write_rows.Statement.{statement}
 use Rattle.rows.proofs.tiles.write_rows.Tie as tie
 
@@ -45,7 +45,7 @@ same_length : tie.Need-same-length invariant-loop decreases-loop
 same_length c = c.before.loop.invariant.long
 
 returns : tie.Need-returns invariant-loop decreases-loop
-returns c = entered_of _ (λ d l b. fewer-rows c.loop-test.false b) c.before.loop.invariant
+returns c = entered_of _ (λ d l b. fewer_rows c.loop-test.false b) c.before.loop.invariant
 
 pub write-rows-spec : {M : Type 1} → statement M
 write-rows-spec =

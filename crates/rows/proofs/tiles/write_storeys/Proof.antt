@@ -4,11 +4,11 @@ use Prim.Native.Nat.{◌+◌, ◌-◌, ◌*◌, ◌%◌, ◌≤◌}
 use native.Mathlib.Omega.{arith}
 use borrow.Author.Rules.{rules}
 use native.Mathlib.Nat.{zero-mod}
-use Rattle.eikonal.proofs.Grid.{quotient-low}
+use Rattle.eikonal.proofs.Grid.{quotient_low}
 use Rattle.rows.specs.Lists.{due}
 use Rattle.rows.specs.Rows.{Entered, Pillar-before}
 use Rattle.rows.proofs.Theory.Entered.{altered-most, entered-most, entered-none, entered-then, entered_of}
-use Rattle.rows.proofs.Theory.TileRows.{lines-most, room-kept, no-storeys, one-storey-more, next-storey, storey-fits}
+use Rattle.rows.proofs.Theory.TileRows.{lines-most, room-kept, no_storeys, one_storey_more, next_storey, storey_fits}
 use Rattle.rows.proofs.tiles.write_storeys.Statement.{statement}
 use Rattle.rows.proofs.tiles.write_storeys.Tie as tie
 
@@ -28,13 +28,13 @@ fits : (c : tie.In-loop invariant-loop decreases-loop) → let s = (start c).arg
     (first + s.height ≤ s.height * s.storeys) × (s.height * s.storeys ≤ 2048)
 fits c =
     let p = start c in
-    (storey-fits _ _ _ c.before.loop.invariant.0 c.loop-test.true, lines-most p.pre.0)
+    (storey_fits _ _ _ c.before.loop.invariant.0 c.loop-test.true, lines-most p.pre.0)
 
 mul-lines : tie.Need-overflow-mul-lines invariant-loop decreases-loop
 mul-lines c = let p = c.before.before.before.before in omega (arith, lines-most p.requires.0)
 
 loop-holds : tie.Need-loop-init invariant-loop decreases-loop
-loop-holds c = (zero-mod _, entered-none _ _ _ (λ d l b. no-storeys b))
+loop-holds c = (zero-mod _, entered-none _ _ _ (λ d l b. no_storeys b))
 
 add-write-rows : tie.Need-overflow-add-write-rows invariant-loop decreases-loop
 add-write-rows c = let o = c.before in omega (arith, fits o, (start o).requires.1)
@@ -70,14 +70,14 @@ add-first c = omega (arith, fits c.before.before.before.before)
 loop-less : tie.Need-loop-smaller invariant-loop decreases-loop
 loop-less c =
     let o = c.before.before.before.before in
-    omega (arith, fits o, (start o).requires.0.high-low, o.loop-test.true)
+    omega (arith, fits o, (start o).requires.0.high_low, o.loop-test.true)
 
 loop-again : tie.Need-loop-preserved invariant-loop decreases-loop
 loop-again c =
     let w = c.before.before in
     let o = w.before.before in
     let l = o.before.loop in
-    (next-storey _ _ l.invariant.0, entered-then l.invariant.1 w.write-rows.ensures _ (λ d k b. one-storey-more (start o).requires.0.high-low l.invariant.0 b))
+    (next_storey _ _ l.invariant.0, entered-then l.invariant.1 w.write-rows.ensures _ (λ d k b. one_storey_more (start o).requires.0.high_low l.invariant.0 b))
 
 same_length : tie.Need-same-length invariant-loop decreases-loop
 same_length c = c.before.loop.invariant.1.long
@@ -89,7 +89,7 @@ returns c =
     let w = p.args.shape.width in
     entered_of _ (λ d l b. record {
       is = b;
-      before = omega (arith, c.loop-test.false, quotient-low d w (p.args.shape.height * p.args.shape.storeys) (omega (arith, r.cells, r.many)));
+      before = omega (arith, c.loop-test.false, quotient_low d w (p.args.shape.height * p.args.shape.storeys) (omega (arith, r.cells, r.many)));
     }) c.before.loop.invariant.1
 
 pub write-storeys-spec : {M : Type 1} → statement M

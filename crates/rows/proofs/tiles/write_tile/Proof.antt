@@ -5,9 +5,9 @@ use native.Mathlib.Omega.{arith}
 use borrow.Author.Rules.{rules}
 use Rattle.eikonal.specs.Tiles.{up}
 use Rattle.front.specs.Board.{land}
-use Rattle.rows.specs.Rows.{tile-in}
+use Rattle.rows.specs.Rows.{tile_in}
 use Rattle.rows.proofs.Theory.Entered.{entered_of}
-use Rattle.rows.proofs.Theory.TileRows.{corner, in-tile}
+use Rattle.rows.proofs.Theory.TileRows.{corner, in_tile}
 use Rattle.rows.proofs.tiles.write_tile.Statement.{statement}
 use Rattle.rows.proofs.tiles.write_tile.Tie as tie
 
@@ -52,8 +52,8 @@ returns c =
     let s = start c.before.before.before.before.before.before.before in
     let x = s.args in
     let r = s.pre in
-    entered_of (λ d. tile-in x.shape d ≡ x.tile)
-    (λ d l e. in-tile (land x.shape []) x.shape.across x.shape.down r.wide_low r.high-low r.across-low r.down-low d
+    entered_of (λ d. tile_in x.shape d ≡ x.tile)
+    (λ d l e. in_tile (land x.shape []) x.shape.across x.shape.down r.wide_low r.high_low r.across_low r.down_low d
     c.before.before.before.before.before.shorter.ensures c.before.before.before.before.shorter2.ensures e)
     c.before.before.write-storeys.ensures
 

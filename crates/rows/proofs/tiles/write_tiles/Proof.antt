@@ -7,7 +7,7 @@ use lib.ListN.{length, take}
 use borrow.Author.Rules.{rules}
 use Rattle.eikonal.specs.Refusals.{member}
 use Rattle.rows.specs.Lists.{due}
-use Rattle.rows.specs.Rows.{Entered, tile-in}
+use Rattle.rows.specs.Rows.{Entered, tile_in}
 use Rattle.rows.proofs.Theory.Entered.{entered-most, entered-none, entered-then}
 use Rattle.rows.proofs.Theory.TileRows.{room-kept, no_tile, one-tile-more, wrote}
 use Rattle.rows.proofs.tiles.write_tiles.Statement.{statement}
@@ -15,7 +15,7 @@ use Rattle.rows.proofs.tiles.write_tiles.Tie as tie
 
 abbrev invariant-loop : tie.invariant-loop
 invariant-loop times₀ work shape order bound count₀ i₀ times count i =
-    (i ≤ length order) × Entered (λ d. member (tile-in shape d) (take i order) ≡ true) (due bound work shape.cells) times₀ times count
+    (i ≤ length order) × Entered (λ d. member (tile_in shape d) (take i order) ≡ true) (due bound work shape.cells) times₀ times count
 
 abbrev decreases-loop : tie.decreases-loop
 decreases-loop times₀ work shape order bound count₀ i₀ times count i = length order - i

@@ -2,7 +2,7 @@
 use Prim.Native.Nat.{◌/◌}
 use borrow.Author.Rules.{rules}
 use Rattle.scenario.specs.Bytes.{two_bytes, four_bytes}
-use Rattle.scenario.proofs.Filling.{put-behind}
+use Rattle.scenario.proofs.Filling.{put_behind}
 use Rattle.scenario.proofs.bytes.put_four.Statement.{statement}
 use Rattle.scenario.proofs.bytes.put_four.Tie as tie
 
@@ -11,7 +11,7 @@ unfolding four_bytes
 returns c =
     let first = c.before.before.before.before.before.before in
     let a = first.before.before.before.args in
-    put-behind a.at 2 2 a.out.now first.put_two.new.0 c.before.before.put-two2.new.0 (two_bytes a.x) (two_bytes (a.x / 65536))
+    put_behind a.at 2 2 a.out.now first.put_two.new.0 c.before.before.put-two2.new.0 (two_bytes a.x) (two_bytes (a.x / 65536))
     first.put_two.ensures c.before.before.put-two2.ensures
 
 pub put-four-spec : {M : Type 1} → statement M

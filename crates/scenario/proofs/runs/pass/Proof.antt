@@ -3,13 +3,13 @@ use mathlib.Core.Path.{◌≡◌, refl, sym, ◌∙◌}
 use Prim.Native.Nat.{◌-◌, ◌≤◌}
 use native.Mathlib.Omega.{arith}
 use borrow.Author.Rules.{rules}
-use Rattle.scenario.specs.Inner.Walk.{runs-onward, past}
+use Rattle.scenario.specs.Inner.Walk.{runs_onward, past}
 use Rattle.scenario.proofs.RunWalk.{past-here, past_next, past-none}
 use Rattle.scenario.proofs.runs.pass.Statement.{statement}
 use Rattle.scenario.proofs.runs.pass.Tie as tie
 
 abbrev invariant-loop : tie.invariant-loop
-invariant-loop file count i cell k₀ k = (k ≤ count) × (past cell (runs-onward file count i) ≡ past cell (runs-onward file count k))
+invariant-loop file count i cell k₀ k = (k ≤ count) × (past cell (runs_onward file count i) ≡ past cell (runs_onward file count k))
 
 abbrev decreases-loop : tie.decreases-loop
 decreases-loop file count i cell k₀ k = count - k

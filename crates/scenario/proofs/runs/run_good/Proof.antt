@@ -5,13 +5,13 @@ use Prim.Native.Nat.{◌+◌}
 use native.Mathlib.Omega.{arith}
 use lib.Dec.{leb}
 use borrow.Author.Tests.{lt-leb, le-leb, eq-eqb, ne_eqb}
-use Rattle.scenario.specs.Runs.{end, run-good}
+use Rattle.scenario.specs.Runs.{end, run_good}
 use Rattle.scenario.proofs.runs.run_good.Statement.{statement}
 use Rattle.scenario.proofs.runs.run_good.Tie as tie
 
 -- each way out has passed the tests in front of its own
 returns : tie.Need-returns
-unfolding run-good
+unfolding run_good
 returns c =
     let a = c.before.before.args in
     rw (lt-leb a.free a.x.offset (omega (arith, c.before.wide.ensures)))
@@ -20,11 +20,11 @@ behind : (c : tie.Else1) → let a = c.before.before.args in leb a.free a.x.offs
 behind c = let a = c.before.before.args in le-leb a.free a.x.offset (omega (arith, c.before.wide.ensures))
 
 returns-2 : tie.Need-returns-2
-unfolding run-good
+unfolding run_good
 returns-2 c = rw (behind c.before.before, lt-leb 1 c.before.before.before.before.args.x.long c.if2.true)
 
 returns-3 : tie.Need-returns-3
-unfolding run-good end
+unfolding run_good end
 returns-3 c =
     let two = c.before.before in
     let a = two.before.before.before.before.args in
@@ -39,7 +39,7 @@ within c =
     (le-leb 1 a.x.long two.if2.false, le-leb (a.x.offset + a.x.long) a.n (omega (arith, c.before.run-end.ensures)))
 
 returns-4 : tie.Need-returns-4
-unfolding run-good end
+unfolding run_good end
 returns-4 c =
     let three = c.before.before in
     let one = three.before.before.before.before in
@@ -48,7 +48,7 @@ returns-4 c =
     rw (behind one, w.0, w.1, eq-eqb a.x.slow a.ground (omega (arith, c.if4.true)))
 
 returns-5 : tie.Need-returns-5
-unfolding run-good end
+unfolding run_good end
 returns-5 c =
     let four = c.before.before in
     let three = four.before.before in
@@ -59,7 +59,7 @@ returns-5 c =
     rw (behind one, w.0, w.1, ne_eqb a.x.slow a.ground (λ q. omega (arith, four.if4.false)), touch)
 
 returns-6 : tie.Need-returns-6
-unfolding run-good end
+unfolding run_good end
 returns-6 c =
     let four = c.before in
     let three = four.before.before in

@@ -2,14 +2,14 @@
 use mathlib.Core.Path.{sym}
 use native.Mathlib.Omega.{arith}
 use borrow.Author.Rules.{rules}
-use Rattle.scenario.proofs.RunWalk.{near-in, near_before, near_none}
+use Rattle.scenario.proofs.RunWalk.{near_in, near_before, near_none}
 use Rattle.scenario.proofs.runs.slow_near.Statement.{statement}
 use Rattle.scenario.proofs.runs.slow_near.Tie as tie
 
 returns : tie.Need-returns
 returns c =
     let r = c.before.before in
-    sym (near-in _ _ _ _ r.before.if1.true r.run_at.ensures _ _ (omega (arith, c.before.wide.ensures)))
+    sym (near_in _ _ _ _ r.before.if1.true r.run_at.ensures _ _ (omega (arith, c.before.wide.ensures)))
 
 returns-2 : tie.Need-returns-2
 returns-2 c =

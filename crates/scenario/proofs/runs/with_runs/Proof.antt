@@ -4,12 +4,12 @@ use Prim.Native.Nat.{◌-◌, ◌≤◌}
 use native.Mathlib.Omega.{arith}
 use borrow.Author.Rules.{rules}
 use Rattle.refusals.specs.Flaws.{with_pair}
-use Rattle.scenario.proofs.RunWalk.{after-runs, after_none, after_more}
+use Rattle.scenario.proofs.RunWalk.{after_runs, after_none, after_more}
 use Rattle.scenario.proofs.runs.with_runs.Statement.{statement}
 use Rattle.scenario.proofs.runs.with_runs.Tie as tie
 
 abbrev invariant-loop : tie.invariant-loop
-invariant-loop file count flaws₀ i₀ flaws i = (i ≤ count) × (flaws ≡ after-runs file i flaws₀)
+invariant-loop file count flaws₀ i₀ flaws i = (i ≤ count) × (flaws ≡ after_runs file i flaws₀)
 
 abbrev decreases-loop : tie.decreases-loop
 decreases-loop file count flaws₀ i₀ flaws i = count - i
@@ -32,7 +32,7 @@ returns c =
     let a = c.before.before.before.args in
     let l = c.before.loop in
     let all : l.i ≡ a.count = omega arith in
-    l.invariant.1 ∙ ap (λ n. after-runs a.file.now n a.so_far) all
+    l.invariant.1 ∙ ap (λ n. after_runs a.file.now n a.so_far) all
 
 pub with-runs-spec : {M : Type 1} → statement M
 with-runs-spec =

@@ -4,8 +4,8 @@ use mathlib.Core.List.{[], ◌∷◌}
 use borrow.Author.Rules.{rules}
 use Rattle.eikonal.specs.Order.{first_of}
 use Rattle.eikonal.proofs.Causes.{first, next}
-use Rattle.refusals.proofs.Pairs.{flaws-find}
-use Rattle.scenario.proofs.Slows.{ground-pair}
+use Rattle.refusals.proofs.Pairs.{flaws_find}
+use Rattle.scenario.proofs.Slows.{ground_pair}
 use Rattle.scenario_read.proofs.judge.pairs_refusal.Statement.{statement}
 use Rattle.scenario_read.proofs.judge.pairs_refusal.Tie as tie
 
@@ -21,7 +21,7 @@ returns-2 c =
     let g = w.before.before.before.before.args.head.ground in
     next _ _ _ w.before.if1.false
     (rw (c.flaws-refusal.ensures, r.with-runs.ensures, w.wide.ensures, p.with_pair.ensures, p.before.flawless.ensures)
-    (ap first_of (flaws-find _ _ _ (g ∷ []) _ _ (ground-pair g))))
+    (ap first_of (flaws_find _ _ _ (g ∷ []) _ _ (ground_pair g))))
 
 pub pairs-refusal-spec : {M : Type 1} → statement M
 pairs-refusal-spec =

@@ -2,7 +2,7 @@
 use mathlib.Core.Path.{refl}
 use borrow.Author.Rules.{rules}
 use Rattle.eikonal.proofs.Causes.{first, next}
-use Rattle.refusals.proofs.Judging.{unwalled-finds}
+use Rattle.refusals.proofs.Judging.{unwalled_finds}
 use Rattle.scenario_read.proofs.judge.records_refusal.Statement.{statement}
 use Rattle.scenario_read.proofs.judge.records_refusal.Tie as tie
 
@@ -16,7 +16,7 @@ returns-2 c =
     let s = b.before.before in
     next _ _ _ s.before.if1.false
     (rw (c.judged-refusal.ensures, j.judge-unwalled.ensures, b.board-size.ensures, b.before.wide.ensures, s.starts-base.ensures)
-    (unwalled-finds _ _))
+    (unwalled_finds _ _))
 
 pub records-refusal-spec : {M : Type 1} → statement M
 records-refusal-spec = tie.close (tie.spec returns (λ c κs. tt) (λ c κs. tt) (λ c κs. search rules) (λ c κs. search rules) (λ c κs. tt) returns-2)

@@ -2,7 +2,7 @@
 use mathlib.Core.Path.{refl}
 use Rattle.eikonal.specs.Order.{first_of}
 use Rattle.eikonal.proofs.Causes.{first, next}
-use Rattle.scenario.specs.Calls.{room-good}
+use Rattle.scenario.specs.Calls.{room_good}
 use Rattle.scenario.proofs.Causes.{Accepted, accepted}
 use Rattle.scenario.proofs.Reading.{sides-read}
 use Rattle.scenario_read.proofs.judge.room_refusal.Statement.{statement}
@@ -19,7 +19,7 @@ board-size-requires : tie.Need-board-size-requires
 board-size-requires c κs = sides-read _ _ c.head_of.ensures (fine c.before).front
 
 returns-2 : tie.Need-returns-2
-unfolding first_of room-good
+unfolding first_of room_good
 returns-2 c =
     let w = c.before.before in
     let h = w.before.before in

@@ -15,7 +15,7 @@ returns-2 c =
     let g = c.before.before in
     let w = g.before.before in
     next _ _ _ w.before.if1.false
-    (rw (c.when.ensures, c.before.cause.ensures, g.runs-good.ensures, g.before.board-size.ensures, w.wide.ensures) refl)
+    (rw (c.when.ensures, c.before.cause.ensures, g.runs_good.ensures, g.before.board-size.ensures, w.wide.ensures) refl)
 
 pub rules-refusal-spec : {M : Type 1} → statement M
 rules-refusal-spec = tie.close (tie.spec returns (λ c κs. tt) (λ c κs. search rules) (λ c κs. search rules) (λ c κs. tt) (λ c κs. tt) returns-2)

@@ -5,12 +5,12 @@ use Prim.Native.Nat.{◌-◌, ◌≤◌}
 use native.Mathlib.Omega.{arith}
 use lib.ListN.{length, take, replicate}
 use borrow.Author.Rules.{rules}
-use Rattle.scenario.specs.Runs.{painted, runs-good}
-use Rattle.scenario.specs.File.{runs-end, runs-in}
-use Rattle.scenario.specs.Inner.Walk.{runs-onward}
+use Rattle.scenario.specs.Runs.{painted, runs_good}
+use Rattle.scenario.specs.File.{runs_end, runs_in}
+use Rattle.scenario.specs.Inner.Walk.{runs_onward}
 use Rattle.scenario.proofs.Reading.{runs-read}
 use Rattle.scenario.proofs.RunWalk.{runs-all}
-use Rattle.scenario_read.proofs.Painting.{Painting, painting-none, painting-fits, painting-more, painting-end}
+use Rattle.scenario_read.proofs.Painting.{Painting, painting_none, painting_fits, painting_more, painting_end}
 use Rattle.scenario_read.proofs.paint.read_slow.Statement.{statement}
 use Rattle.scenario_read.proofs.paint.read_slow.Tie as tie
 
@@ -21,7 +21,7 @@ abbrev decreases-loop : tie.decreases-loop
 decreases-loop file slow₀ ground count free₀ i₀ slow free i = count - i
 
 -- all runs of the file
-all : (c : tie.After-wide invariant-loop decreases-loop) → let f = c.before.before.before.args.file.now in runs-in f ≡ runs-onward f c.wide.result 0
+all : (c : tie.After-wide invariant-loop decreases-loop) → let f = c.before.before.before.args.file.now in runs_in f ≡ runs_onward f c.wide.result 0
 all c =
     let s = c.before.before.before in
     sym (runs-read _ _ s.requires.0.0 _ c.wide.ensures) ∙ runs-all s.args.file.now c.wide.result
@@ -31,10 +31,10 @@ loop-holds c =
     let s = c.before.before.before in
     let g = s.args.head.ground in
     let n = length s.args.slow.now in
-    painting-none _ _ g n s.args.slow.now refl (ap (runs-good n g 0 g) (sym (all c)) ∙ s.requires.1)
+    painting_none _ _ g n s.args.slow.now refl (ap (runs_good n g 0 g) (sym (all c)) ∙ s.requires.1)
 
 -- the bytes of all runs
-room : (c : tie.After-wide invariant-loop decreases-loop) → runs-end c.wide.result ≤ length c.before.before.before.args.file.now
+room : (c : tie.After-wide invariant-loop decreases-loop) → runs_end c.wide.result ≤ length c.before.before.before.args.file.now
 room c = omega (arith, c.before.before.before.requires.0.1, c.wide.ensures)
 
 mul-run-at : tie.Need-overflow-mul-run-at invariant-loop decreases-loop
@@ -50,7 +50,7 @@ paint-requires : tie.Need-paint-requires invariant-loop decreases-loop
 paint-requires c κs =
     let r = c.before in
     let l = r.before.before.loop in
-    let f = painting-fits l.invariant r.run_at.result r.before.loop-test.true r.run_at.ensures in
+    let f = painting_fits l.invariant r.run_at.result r.before.loop-test.true r.run_at.ensures in
     (f.behind, omega (arith, f.within, l.invariant.long))
 
 loop-again : tie.Need-loop-preserved invariant-loop decreases-loop
@@ -58,7 +58,7 @@ loop-again c =
     let p = c.before.before.before in
     let r = p.before.before in
     let l = r.before.before.loop in
-    painting-more l.invariant r.run_at.result r.before.loop-test.true r.run_at.ensures
+    painting_more l.invariant r.run_at.result r.before.loop-test.true r.run_at.ensures
     p.paint.new.0 c.run-end.result (omega (arith, p.paint.auto.0, l.invariant.long)) c.run-end.ensures p.paint.ensures
 
 fill-requires : tie.Need-fill-requires invariant-loop decreases-loop
@@ -73,7 +73,7 @@ returns c =
     let l = p.before.before.before.loop in
     let k = p.before.before.before.before in
     let a = k.before.before.before.args in
-    painting-end l.invariant p.before.before.loop-test.false p.fill.new.0 (omega (arith, p.fill.auto.0, l.invariant.long))
+    painting_end l.invariant p.before.before.loop-test.false p.fill.new.0 (omega (arith, p.fill.auto.0, l.invariant.long))
     (subst (λ u. take u p.fill.new.0 ≡ take l.free l.slow ++ replicate (u - l.free) a.head.ground) l.invariant.long p.fill.ensures)
     ∙ ap (painted a.head.ground 0 (length a.slow.now)) (sym (all k))
 

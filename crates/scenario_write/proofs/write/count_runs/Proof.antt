@@ -6,7 +6,7 @@ use lib.Dec.{eqb}
 use lib.ListN.{length, get_or}
 use borrow.Author.Rules.{rules}
 use Rattle.scenario.specs.Runs.{runs_of}
-use Rattle.scenario.proofs.GoodRuns.{runs-of-count}
+use Rattle.scenario.proofs.GoodRuns.{runs_of-count}
 use Rattle.scenario_write.proofs.Stretches.{runs_after, after_none, closed-count, one_at_most}
 use Rattle.scenario_write.proofs.write.count_runs.Statement.{statement}
 use Rattle.scenario_write.proofs.write.count_runs.Tie as tie
@@ -26,7 +26,7 @@ add-count : tie.Need-overflow-add-count invariant-loop decreases-loop
 add-count c =
     let l = c.before.before.before.loop in
     let a = c.before.before.before.before.before.args in
-    omega (arith, l.invariant.1, runs-of-count a.ground a.slow.now, c.differs.ensures, one_at_most (eqb (get_or a.slow.now l.i 0) a.ground))
+    omega (arith, l.invariant.1, runs_of-count a.ground a.slow.now, c.differs.ensures, one_at_most (eqb (get_or a.slow.now l.i 0) a.ground))
 
 loop-less : tie.Need-loop-smaller invariant-loop decreases-loop
 loop-less c = omega (arith, c.stretch-end.ensures.0.0, c.stretch-end.ensures.0.1)

@@ -2,14 +2,14 @@
 use native.Mathlib.Omega.{arith}
 use borrow.Author.Rules.{rules}
 use Rattle.scenario.specs.File.{head_of}
-use Rattle.scenario.proofs.GoodRuns.{runs-of-count}
+use Rattle.scenario.proofs.GoodRuns.{runs_of-count}
 use Rattle.scenario_write.proofs.write.head_for.Statement.{statement}
 use Rattle.scenario_write.proofs.write.head_for.Tie as tie
 
 cast-t9 : tie.Need-overflow-cast-t9
 cast-t9 c =
     let s = c.before.before in
-    omega (arith, c.count_runs.ensures, runs-of-count s.args.ground s.args.slow.now, s.requires.0)
+    omega (arith, c.count_runs.ensures, runs_of-count s.args.ground s.args.slow.now, s.requires.0)
 
 returns : tie.Need-returns
 unfolding head_of

@@ -7,7 +7,7 @@ use lib.ListN.{length, take}
 use borrow.Author.Rules.{rules}
 use Rattle.scenario.specs.Bytes.{bytes_of}
 use Rattle.scenario.specs.Runs.{run, closed}
-use Rattle.scenario.specs.File.{run-bytes}
+use Rattle.scenario.specs.File.{run_bytes}
 use Rattle.scenario.proofs.GoodRuns.{closed-ground, closed_run}
 use Rattle.scenario_write.proofs.write.put_stretch.Statement.{statement}
 use Rattle.scenario_write.proofs.write.put_stretch.Tie as tie
@@ -35,7 +35,7 @@ returns-2 c =
     let r = c.before.before in
     let e = one r.before.before in
     let a = r.before.before.before.before.args in
-    (omega (arith, ap length e), r.put-run.ensures ∙ rw (e, append-nil (run-bytes (run a.from (a.until - a.from) a.x))) refl)
+    (omega (arith, ap length e), r.put-run.ensures ∙ rw (e, append-nil (run_bytes (run a.from (a.until - a.from) a.x))) refl)
 
 pub put-stretch-spec : {M : Type 1} → statement M
 put-stretch-spec =

@@ -5,7 +5,7 @@ use native.Mathlib.Omega.{arith}
 use lib.ListN.{length, get_or, drop}
 use borrow.Author.Rules.{rules}
 use Rattle.scenario.specs.Runs.{runs_on}
-use Rattle.scenario_write.proofs.Stretches.{runs_after, stretch-new, stretch-on, stretch-turn, stretch-last}
+use Rattle.scenario_write.proofs.Stretches.{runs_after, stretch_new, stretch_on, stretch_turn, stretch_last}
 use Rattle.scenario_write.proofs.write.stretch_end.Statement.{statement}
 use Rattle.scenario_write.proofs.write.stretch_end.Tie as tie
 
@@ -19,7 +19,7 @@ decreases-loop slow from x i₀ i = length slow - i
 loop-holds : tie.Need-loop-init invariant-loop decreases-loop
 loop-holds c =
     let a = c.before in
-    (omega arith, omega (arith, a.requires), λ g. stretch-new a.args.slow.now g a.args.from a.requires)
+    (omega arith, omega (arith, a.requires), λ g. stretch_new a.args.slow.now g a.args.from a.requires)
 
 returns : tie.Need-returns invariant-loop decreases-loop
 returns c =
@@ -27,7 +27,7 @@ returns c =
     let a = c.before.before.before.before.before.args in
     let x = get_or a.slow.now a.from 0 in
     let t = c.before.before.loop-test.true in
-    ((l.invariant.0, l.invariant.1), λ g. l.invariant.2 g ∙ stretch-turn a.slow.now g l.i t a.from x (λ q. omega (arith, c.if1.true)))
+    ((l.invariant.0, l.invariant.1), λ g. l.invariant.2 g ∙ stretch_turn a.slow.now g l.i t a.from x (λ q. omega (arith, c.if1.true)))
 
 loop-again : tie.Need-loop-preserved invariant-loop decreases-loop
 loop-again c =
@@ -35,13 +35,13 @@ loop-again c =
     let a = c.before.before.before.before.before.args in
     let x = get_or a.slow.now a.from 0 in
     let t = c.before.before.loop-test.true in
-    (omega arith, omega arith, λ g. l.invariant.2 g ∙ stretch-on a.slow.now g l.i t a.from x (omega (arith, c.if1.false)))
+    (omega arith, omega arith, λ g. l.invariant.2 g ∙ stretch_on a.slow.now g l.i t a.from x (omega (arith, c.if1.false)))
 
 returns-2 : tie.Need-returns-2 invariant-loop decreases-loop
 returns-2 c =
     let l = c.before.loop in
     let a = c.before.before.before.args in
-    ((l.invariant.0, l.invariant.1), λ g. l.invariant.2 g ∙ stretch-last a.slow.now g l.i a.from (get_or a.slow.now a.from 0) c.loop-test.false)
+    ((l.invariant.0, l.invariant.1), λ g. l.invariant.2 g ∙ stretch_last a.slow.now g l.i a.from (get_or a.slow.now a.from 0) c.loop-test.false)
 
 pub stretch-end-spec : {M : Type 1} → statement M
 stretch-end-spec =

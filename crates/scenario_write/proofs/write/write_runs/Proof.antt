@@ -7,15 +7,15 @@ use lib.ListN.{length, take, get_or}
 use borrow.Author.Rules.{rules}
 use Rattle.scenario.specs.Bytes.{bytes_of}
 use Rattle.scenario.specs.Runs.{runs_of}
-use Rattle.scenario.specs.File.{head-size, run-size, runs-end, run-bytes}
+use Rattle.scenario.specs.File.{head_size, run_size, runs_end, run_bytes}
 use Rattle.scenario_write.proofs.Stretches.{runs_after, after_none, closed-length, closed-bytes}
 use Rattle.scenario_write.proofs.write.write_runs.Statement.{statement}
 use Rattle.scenario_write.proofs.write.write_runs.Tie as tie
 
 abbrev invariant-loop : tie.invariant-loop
 invariant-loop out₀ slow ground at₀ i₀ out at i =
-    (i ≤ length slow) × (length out ≡ length out₀) × (at + run-size * length (runs_after slow ground i) ≡ runs-end (length (runs_of ground slow)))
-    × (take at out ++ bytes_of run-bytes (runs_after slow ground i) ≡ take head-size out₀ ++ bytes_of run-bytes (runs_of ground slow))
+    (i ≤ length slow) × (length out ≡ length out₀) × (at + run_size * length (runs_after slow ground i) ≡ runs_end (length (runs_of ground slow)))
+    × (take at out ++ bytes_of run_bytes (runs_after slow ground i) ≡ take head_size out₀ ++ bytes_of run_bytes (runs_of ground slow))
 
 abbrev decreases-loop : tie.decreases-loop
 decreases-loop out₀ slow ground at₀ i₀ out at i = length slow - i
@@ -48,7 +48,7 @@ loop-again c =
       s.0.1,
       omega (arith, p.put-stretch.auto.0, l.invariant.1),
       omega (arith, l.invariant.2, p.put-stretch.ensures.0, n),
-      ap (λ u. u ++ bytes_of run-bytes (runs_after a.slow.now a.ground e.stretch-end.result)) p.put-stretch.ensures.1
+      ap (λ u. u ++ bytes_of run_bytes (runs_after a.slow.now a.ground e.stretch-end.result)) p.put-stretch.ensures.1
           ∙ append_assoc (take l.at l.out) _ _ ∙ ap (λ u. take l.at l.out ++ u) (sym b) ∙ l.invariant.3,
     )
 
@@ -58,8 +58,8 @@ returns c =
     let l = c.before.loop in
     let a = c.before.before.before.before.args in
     let none = after_none a.slow.now a.ground l.i c.loop-test.false in
-    let at : runs-end (length (runs_of a.ground a.slow.now)) ≡ l.at = omega (arith, l.invariant.2, ap length none) in
-    rw at (sym (append-nil (take l.at l.out)) ∙ ap (λ u. take l.at l.out ++ bytes_of run-bytes u) (sym none) ∙ l.invariant.3)
+    let at : runs_end (length (runs_of a.ground a.slow.now)) ≡ l.at = omega (arith, l.invariant.2, ap length none) in
+    rw at (sym (append-nil (take l.at l.out)) ∙ ap (λ u. take l.at l.out ++ bytes_of run_bytes u) (sym none) ∙ l.invariant.3)
 
 pub write-runs-spec : {M : Type 1} → statement M
 write-runs-spec =

@@ -5,9 +5,9 @@ use Prim.Native.Nat.{◌+◌, ◌*◌, ◌-◌, ◌≤◌}
 use native.Mathlib.Omega.{arith}
 use lib.ListN.{length, take}
 use borrow.Author.Rules.{rules}
-use Rattle.eikonal.specs.Refusals.{starts-of}
+use Rattle.eikonal.specs.Refusals.{starts_of}
 use Rattle.scenario.specs.Bytes.{bytes_of}
-use Rattle.scenario.specs.File.{start-size, start-bytes}
+use Rattle.scenario.specs.File.{start_size, start_bytes}
 use Rattle.scenario_write.proofs.StartBytes.{bytes_after, written_none, written-more, written_all}
 use Rattle.scenario_write.proofs.write.write_starts.Statement.{statement}
 use Rattle.scenario_write.proofs.write.write_starts.Tie as tie
@@ -15,7 +15,7 @@ use Rattle.scenario_write.proofs.write.write_starts.Tie as tie
 abbrev invariant-loop : tie.invariant-loop
 invariant-loop out₀ at cells begins i₀ out i =
     (i ≤ length cells) × (length out ≡ length out₀)
-    × (take (at + start-size * i) out ++ bytes_after cells begins i ≡ take at out₀ ++ bytes_of start-bytes (starts-of cells begins))
+    × (take (at + start_size * i) out ++ bytes_after cells begins i ≡ take at out₀ ++ bytes_of start_bytes (starts_of cells begins))
 
 abbrev decreases-loop : tie.decreases-loop
 decreases-loop out₀ at cells begins i₀ out i = length cells - i

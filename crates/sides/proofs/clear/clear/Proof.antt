@@ -4,20 +4,20 @@ use native.Mathlib.Omega.{arith}
 use native.Mathlib.Numerals.{add-one}
 use lib.ListN.{length, take}
 use borrow.Author.Rules.{rules}
-use Rattle.eikonal.specs.Refusals.{starts-of}
+use Rattle.eikonal.specs.Refusals.{starts_of}
 use Rattle.sides.specs.Clear.{Cleared}
 use Rattle.sides.proofs.Clearing.{cleared-none, cleared-next, cleared-all}
 use Rattle.sides.proofs.clear.clear.Statement.{statement}
 use Rattle.sides.proofs.clear.clear.Tie as tie
 
 abbrev invariant-loop : tie.invariant-loop
-invariant-loop times sides₀ cells begins i₀ sides i = (i ≤ length cells) × Cleared (starts-of (take i cells) (take i begins)) times sides₀ sides
+invariant-loop times sides₀ cells begins i₀ sides i = (i ≤ length cells) × Cleared (starts_of (take i cells) (take i begins)) times sides₀ sides
 
 abbrev decreases-loop : tie.decreases-loop
 decreases-loop times sides₀ cells begins i₀ sides i = length cells - i
 
 loop-holds : tie.Need-loop-init invariant-loop decreases-loop
-unfolding starts-of
+unfolding starts_of
 loop-holds c = (omega arith, cleared-none)
 
 cast-clear-one : tie.Need-overflow-cast-clear-one invariant-loop decreases-loop

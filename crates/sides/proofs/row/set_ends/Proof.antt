@@ -2,9 +2,9 @@
 use mathlib.Core.Path.{◌≡◌, sym, ap, ◌∙◌}
 use native.Mathlib.Omega.{arith}
 use borrow.Author.Rules.{rules}
-use Rattle.front.proofs.Theory.Reading.{place-behind, place-ahead}
-use Rattle.sides.specs.Row.{left-of, right_of}
-use Rattle.sides.proofs.Rows.{left-beyond, right-beyond, left-own, right-own, flat-of, ends-one, ends-two}
+use Rattle.front.proofs.Theory.Reading.{place-behind, place_ahead}
+use Rattle.sides.specs.Row.{left_of, right_of}
+use Rattle.sides.proofs.Rows.{left-beyond, right-beyond, left-own, right-own, flat_of, ends_one, ends_two}
 use Rattle.sides.proofs.row.set_ends.Statement.{statement}
 use Rattle.sides.proofs.row.set_ends.Tie as tie
 
@@ -18,14 +18,14 @@ beyond-right-requires : tie.Need-beyond-right-requires
 beyond-right-requires c κs =
     let p = c.before.before.before.before.before.before.requires in
     let part = p.3 in
-    (omega (arith, p.1, part.fits), omega (arith, p.1, p.0.short), λ q. omega (arith, p.1, place-ahead p.2 (omega (arith, part.fits)) q))
+    (omega (arith, p.1, part.fits), omega (arith, p.1, p.0.short), λ q. omega (arith, p.1, place_ahead p.2 (omega (arith, part.fits)) q))
 
 abbrev start : tie.After-shown → tie.Start
 start c = c.before.before.before.before.before.before.before.before.before
 
 -- what is seen beyond both ends
 left : (c : tie.After-shown)
-    → let a = (start c).args in c.before.before.before.beyond-left.result ≡ left-of a.across a.own.now a.far.now a.from
+    → let a = (start c).args in c.before.before.before.beyond-left.result ≡ left_of a.across a.own.now a.far.now a.from
 left c =
     let a = (start c).args in
     let p = (start c).requires in
@@ -44,8 +44,8 @@ returns c =
     let a = (start h).args in
     let p = (start h).requires in
     let q = c.before.before.before.if1.true in
-    ends-one q (omega (arith, p.3.up, p.3.fits))
-    (flat-of _ _ c.flat-sides.ensures.0 (left h) (right h ∙ ap (right_of a.across a.own.now a.far.now) (sym q)) h.shown.ensures)
+    ends_one q (omega (arith, p.3.up, p.3.fits))
+    (flat_of _ _ c.flat-sides.ensures.0 (left h) (right h ∙ ap (right_of a.across a.own.now a.far.now) (sym q)) h.shown.ensures)
 
 returns-2 : tie.Need-returns-2
 returns-2 c =
@@ -54,9 +54,9 @@ returns-2 c =
     let a = (start h).args in
     let p = (start h).requires in
     let q = one.before.before.before.before.if1.false in
-    ends-two q (omega (arith, p.3.up, p.3.fits)) p.3.fits
-    (flat-of _ _ one.flat-sides2.ensures.0 (left h) (right-own a.own.now a.far.now p.2 p.3 p.0.own q) h.shown.ensures)
-    (flat-of _ _ c.flat-sides3.ensures.0 (left-own a.own.now a.far.now p.2 p.3 p.0.own q) (right h)
+    ends_two q (omega (arith, p.3.up, p.3.fits)) p.3.fits
+    (flat_of _ _ one.flat-sides2.ensures.0 (left h) (right-own a.own.now a.far.now p.2 p.3 p.0.own q) h.shown.ensures)
+    (flat_of _ _ c.flat-sides3.ensures.0 (left-own a.own.now a.far.now p.2 p.3 p.0.own q) (right h)
     c.before.before.before.before.shown2.ensures)
 
 pub set-ends-spec : {M : Type 1} → statement M

@@ -8,8 +8,8 @@ use native.Mathlib.Nat.{mul-le-mul}
 use lib.ListN.{length, take, drop}
 use lib.Seq.{length-take-le}
 use borrow.Author.Rules.{rules}
-use Rattle.eikonal.specs.Tiles.{tile-count}
-use Rattle.eikonal.specs.Refusals.{by-lists, order-good}
+use Rattle.eikonal.specs.Tiles.{tile_count}
+use Rattle.eikonal.specs.Refusals.{by_lists, order_good}
 use Rattle.eikonal.proofs.Good.{sides-within}
 use Rattle.eikonal.proofs.Up.{up-most}
 use Rattle.tablet.proofs.Parts.{Back, back}
@@ -76,17 +76,17 @@ slice-aggregate-play : tie.Need-slice-aggregate-play
 slice-aggregate-play c = (order-back c.before.before.before.before.before.before).count
 
 -- the sides have room for the cells
-sides-fit : (c : tie.After-side-entries) → length c.before.before.before.before.before.before.before.before.before.before.before.args.times.now
+sides_fit : (c : tie.After-side-entries) → length c.before.before.before.before.before.before.before.before.before.before.before.args.times.now
     ≤ length c.side-entries.result
-sides-fit c =
+sides_fit c =
     let small = c.before.before.before.before.before.before.before.before.before.before.before.requires.1.0 in
     omega (arith, c.side-entries.ensures, small.2, small.3)
 
 array-borrow-prefix-sides : tie.Need-array-borrow-prefix-sides
-array-borrow-prefix-sides c = sides-fit c.before.before.before.before.before
+array-borrow-prefix-sides c = sides_fit c.before.before.before.before.before
 
 slice-aggregate-play-2 : tie.Need-slice-aggregate-play-2
-slice-aggregate-play-2 c = let e = c.before.before.before.before.before.before in sym (length-take-le _ e.side-entries.result (sides-fit e))
+slice-aggregate-play-2 c = let e = c.before.before.before.before.before.before in sym (length-take-le _ e.side-entries.result (sides_fit e))
 
 slice-aggregate-play-3 : tie.Need-slice-aggregate-play-3
 slice-aggregate-play-3 c = sym c.before.before.before.before.before.before.work-entries.ensures
@@ -94,16 +94,16 @@ slice-aggregate-play-3 c = sym c.before.before.before.before.before.before.work-
 -- the rising order is good
 ordered : (c : tie.After-rise) → let t = c.before.before in let n = t.before.tiles-along.result * t.tiles-along2.result in
     let a = t.before.before.before.before.before.before.before.args in
-    order-good (by-lists a.width a.height a.storeys a.slow.now a.cells.now a.begins.now).board a.across a.down
+    order_good (by_lists a.width a.height a.storeys a.slow.now a.cells.now a.begins.now).board a.across a.down
     (take n (c.rise.new.0 ++ drop n t.before.before.entries.result)) ≡ true
-unfolding tile-count by-lists
+unfolding tile_count by_lists
 ordered c =
     let t = c.before.before in
     part-good _ t.before.before.entries.result c.rise.new.0 (fits t) c.rise.auto.0 c.rise.ensures _ _ _
     (ap₂ ◌*◌ t.before.tiles-along.ensures t.tiles-along2.ensures)
 
 returns : tie.Need-returns
-unfolding by-lists
+unfolding by_lists
 returns c =
     let n = c.before.before.before.before in
     let j = n.before.before.before.before.before in
@@ -112,11 +112,11 @@ returns c =
     let r = d.before.before in
     let s = r.before.before.before.before.before.before.before.before.before in
     let a = s.args in
-    let p = by-lists a.width a.height a.storeys a.slow.now a.cells.now a.begins.now in
-    let even = length-take-le (length a.times.now) d.side-entries.result (sides-fit d) in
+    let p = by_lists a.width a.height a.storeys a.slow.now a.cells.now a.begins.now in
+    let even = length-take-le (length a.times.now) d.side-entries.result (sides_fit d) in
     let e = n.play.ensures in
     let job = j.run-job.ensures in
-    let own = j.before.nothing-own.ensures in (
+    let own = j.before.nothing_own.ensures in (
       run-rounds p _ _ _ _ s.requires.0 s.requires.1.0 s.requires.1.1 (ordered r) even w.work-entries.ensures _ _ _ _ _ _ _ e job (omega arith) own,
       run-times p _ _ _ _ s.requires.0 s.requires.1.0 s.requires.1.1 (ordered r) even w.work-entries.ensures _ _ _ _ _ _ _ e job (omega arith) own,
     )

@@ -9,7 +9,7 @@ use Rattle.eikonal.specs.Board.{size}
 use Rattle.scenario.specs.File.{held}
 use Rattle.scenario.proofs.Causes.{accepts}
 use Rattle.scenario.proofs.Answers.{filled_in}
-use Rattle.scenario.proofs.Reading.{slow-length}
+use Rattle.scenario.proofs.Reading.{slow_length}
 use Rattle.tablet.proofs.SmallFiles.{Small, small, cells-few}
 use Rattle.tablet.proofs.run.run_file.Statement.{statement}
 use Rattle.tablet.proofs.run.run_file.Tie as tie
@@ -43,7 +43,7 @@ run-starts-requires c κs =
       (
         p.requires.0.0,
         ap (take n) (c.before.before.before.fill-slow.ensures ∙ filled_in 0 (held f).slow _ refl)
-            ∙ take_at (held f).slow (drop (length (held f).slow) _) n (slow-length f (few p).taken ∙ sym p.requires.0.1),
+            ∙ take_at (held f).slow (drop (length (held f).slow) _) n (slow_length f (few p).taken ∙ sym p.requires.0.1),
         p.requires.0.1,
       ),
       p.requires.1,

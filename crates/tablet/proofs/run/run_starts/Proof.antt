@@ -8,14 +8,14 @@ use lib.Seq.{length-take-le}
 use borrow.Author.Rules.{rules}
 use Rattle.eikonal.specs.Board.{size, marched}
 use Rattle.eikonal.specs.Tiles.{rounds}
-use Rattle.eikonal.specs.Refusals.{by-lists, handed-refusal, cells_of, begins-of}
+use Rattle.eikonal.specs.Refusals.{by_lists, handed_refusal, cells_of, begins_of}
 use Rattle.scenario.specs.Bytes.{records}
-use Rattle.scenario.specs.File.{start-size, start-in, starts-in, held}
-use Rattle.scenario.proofs.Reading.{file-long, starts-read}
-use Rattle.scenario.proofs.Composed.{held-lists}
+use Rattle.scenario.specs.File.{start_size, start_in, starts_in, held}
+use Rattle.scenario.proofs.Reading.{file_long, starts-read}
+use Rattle.scenario.proofs.Composed.{held_lists}
 use Rattle.tablet.specs.Small.{horizon}
 use Rattle.tablet.proofs.Parts.{Back, back}
-use Rattle.tablet.proofs.SmallFiles.{Small, small, starts-few, lists-are, lists-board, lists-taken}
+use Rattle.tablet.proofs.SmallFiles.{Small, small, starts-few, lists_are, lists_board, lists_taken}
 use Rattle.tablet.proofs.run.run_starts.Statement.{statement}
 use Rattle.tablet.proofs.run.run_starts.Tie as tie
 
@@ -60,7 +60,7 @@ read-starts-requires c κs =
     let w = b.before in
     let h = w.before in
     let p = parts e in
-    let long = file-long _ _ h.head_of.ensures (few h.before.before.before.before).taken.front in
+    let long = file_long _ _ h.head_of.ensures (few h.before.before.before.before).taken.front in
     (omega (arith, long, b.starts-base.ensures, w.wide.ensures, p.0), p.0 ∙ sym p.1)
 
 -- the parts as they came back
@@ -87,7 +87,7 @@ slice-aggregate-run-board-2 c = (begins-back c.before.before.before.before).coun
 -- the starts that were read
 all : (c : tie.After-entries2) → let f = c.before.before.before.before.before.before.before.before.args.file.now in
     let n = length (take c.before.before.before.wide.result c.before.entries.result) in
-    records start-size start-in n (drop c.before.before.starts-base.result f) ≡ starts-in f
+    records start_size start_in n (drop c.before.before.starts-base.result f) ≡ starts_in f
 all c =
     let b = c.before.before in
     let w = b.before in
@@ -98,14 +98,14 @@ whole : (c : tie.After-read-starts) → let e = c.before.before.before in let w 
     let x = w.before.head_of.result in let a = w.before.before.before.before.before.args in let q = w.wide.result in
     let cells = take q (c.read-starts.new.1.1.0 ++ drop q e.before.entries.result) in
     let begins = take q (c.read-starts.new.1.1.1.0 ++ drop q e.entries2.result) in
-    by-lists x.width x.height x.storeys a.slow.now cells begins ≡ held-lists a.file.now
+    by_lists x.width x.height x.storeys a.slow.now cells begins ≡ held_lists a.file.now
 whole c =
     let r = c.read-starts.ensures in
     let e = c.before.before.before in
     let h = e.before.before.before.before in
     let x = h.head_of.ensures in
-    lists-are _ _ _ _ _ _ _ (ap (λ u. u.width) x) (ap (λ u. u.height) x) (ap (λ u. u.storeys) x) h.before.before.before.before.requires.0.1
-    ((cells-back c).same ∙ r.0 ∙ ap cells_of (all e)) ((begins-back c).same ∙ r.1 ∙ ap begins-of (all e))
+    lists_are _ _ _ _ _ _ _ (ap (λ u. u.width) x) (ap (λ u. u.height) x) (ap (λ u. u.storeys) x) h.before.before.before.before.requires.0.1
+    ((cells-back c).same ∙ r.0 ∙ ap cells_of (all e)) ((begins-back c).same ∙ r.1 ∙ ap begins_of (all e))
 
 run-board-requires : tie.Need-run-board-requires
 unfolding held size
@@ -118,7 +118,7 @@ run-board-requires c κs =
     let wide = ap (λ u. u.width) x in
     let high = ap (λ u. u.height) x in
     let size = ap (λ u. u.width * u.height * u.storeys) x in (
-      ap (λ u. (handed-refusal u).number) (whole r) ∙ lists-taken _ s.taken,
+      ap (λ u. (handed_refusal u).number) (whole r) ∙ lists_taken _ s.taken,
       ((omega (arith, wide, s.wide), omega (arith, high, s.high), omega (arith, size, s.few), p.requires.0.2 ∙ sym size), p.requires.1),
     )
 
@@ -127,7 +127,7 @@ returns c =
     let n = c.before.before in
     let r = n.before.before.before.before.before.before in
     let a = r.before.before.before.before.before.before.before.before.before.before.before.args in
-    let b = ap (λ u. u.board) (whole r) ∙ lists-board a.file.now in
+    let b = ap (λ u. u.board) (whole r) ∙ lists_board a.file.now in
     let e = n.run-board.ensures in
     (e.0 ∙ ap (λ u. rounds u a.across a.down a.stride horizon) b, e.1 ∙ ap (λ u. marched u horizon) b)
 

@@ -5,7 +5,7 @@ use Rattle.eikonal.specs.Order.{first_of}
 use Rattle.eikonal.proofs.Causes.{none-met, first, next}
 use Rattle.scenario.proofs.Causes.{Headed, headed}
 use Rattle.scenario.proofs.Reading.{sides-read}
-use Rattle.tablet.specs.Small.{board-small}
+use Rattle.tablet.specs.Small.{board_small}
 use Rattle.tablet.proofs.small.size_refusal.Statement.{statement}
 use Rattle.tablet.proofs.small.size_refusal.Tie as tie
 
@@ -23,7 +23,7 @@ board-size-requires : tie.Need-board-size-requires
 board-size-requires c κs = let h = c.before.before in sides-read _ _ h.head_of.ensures (front h.before)
 
 returns-2 : tie.Need-returns-2
-unfolding first_of board-small
+unfolding first_of board_small
 returns-2 c =
     let b = c.before.before in
     let h = b.before.before.before in
