@@ -3,6 +3,8 @@
 // ticks, from the second y. `past` ticks after the second are enough if ((apart + past) y)² + (past x)² reaches (x y)².
 // Over or under is the third axis, of equal numbers alone. Where it counts, the last of the three comes `far` and `near` ticks after the others, and
 // `past` ticks after the last are enough if (far + past)² + (near + past)² + past² reaches the square of the slowness.
+#![tactic(auto)]
+
 ghost use Rattle.std.specs.Prelude.{◌≡◌, ◌+◌, ◌-◌, ◌*◌, ◌≤◌, ◌<◌, min, max, cond, ltb, leb};
 ghost use Rattle.eikonal.specs.Board.{never, earlier, local_of, local};
 ghost use Rattle.eikonal.specs.Sides.{side, sides_of};

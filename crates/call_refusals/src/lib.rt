@@ -1,4 +1,6 @@
 // Whether a march, a round or a tile run is refused, and why, with what a call looks for of its own.
+#![tactic(auto)]
+
 ghost use Rattle.std.specs.Prelude.{◌≡◌, Bool, true, not, List, [], ◌∷◌, ℕ, ◌*◌, ◌≤◌};
 ghost use Rattle.eikonal.specs.Board.{board_of};
 ghost use Rattle.eikonal.specs.Order.{caused, or_else, first_of};

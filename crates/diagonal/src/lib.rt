@@ -1,4 +1,6 @@
 // D(s), the step added where both sides are equal: the least d with 2 d² at least s².
+#![tactic(auto)]
+
 mod table;
 
 ghost use Rattle.std.specs.Prelude.{◌≡◌, ◌≤◌};

@@ -1,4 +1,6 @@
 // The ground under the engine: the values that calls share.
+#![tactic(auto)]
+
 ghost use Rattle.std.specs.Prelude.{◌≡◌, ◌*◌, ◌≤◌, min};
 ghost use Rattle.eikonal.specs.Order.{cause, cause_at, none};
 ghost use Rattle.eikonal.specs.Refusals.{nothing_own};

@@ -1,4 +1,6 @@
 // The engine: whole marches, single rounds and tile runs.
+#![tactic(auto)]
+
 pub mod calls;
 mod run;
 pub mod seeded;

@@ -1,4 +1,6 @@
 // The front: its pending cells (the narrow band) are taken (accepted), the least first, and their neighbours hear of them.
+#![tactic(auto)]
+
 pub mod commit;
 pub mod drain;
 pub mod seams;

@@ -1,1 +1,2 @@
 // No code: theorems of boards whose ground is retouched late.
+#![tactic(auto)]

@@ -1,5 +1,7 @@
 // What others call: the C interface that include/murgolab.h declares. A call with plain lists meets the contract of the function that it hands over to;
 // one with start records is a straight line of calls.
+#![tactic(auto)]
+
 ghost use Rattle.std.specs.Prelude.{[], length};
 ghost use Rattle.eikonal.specs.Refusals.{by_lists, by_records, cells_of, begins_of};
 ghost use Rattle.eikonal.specs.Ledger.{call};

@@ -1,6 +1,8 @@
 // A heap of pending cells, each slot with four below it, in the first 2n entries of a lent list: entry 2i is the key in the slot i, and entry 2i + 1 is
 // the cell in the slot i plus 65,536 times the slot of the cell i. A cell is pending if its slot is below the size and holds it: nothing is ever cleared.
 // The size is a number handed along. Only contracts read n.
+#![tactic(auto)]
+
 ghost use Rattle.std.specs.Prelude.{◌≡◌, ◌⊎◌, ℕ, ◌+◌, ◌*◌, ◌-◌, ◌≤◌, ◌<◌, min, length};
 ghost use Rattle.queue.specs.Heap.{never, key, cell, place, keys, Heap, Put, Least};
 ghost use Rattle.queue.specs.Mending.{Room, Seated, Found, Hole, Below, Moved, Rested, Chosen};

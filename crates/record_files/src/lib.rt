@@ -1,3 +1,5 @@
 // Scenario files whose starts are records: read, written.
+#![tactic(auto)]
+
 pub mod read;
 pub mod write;

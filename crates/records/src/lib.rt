@@ -1,2 +1,4 @@
 // Start records, a lent slice of structs: parts of them as plain lists.
+#![tactic(auto)]
+
 pub mod parts;

@@ -1,4 +1,6 @@
 // Reads a scenario on standard input and prints the turn at which the front reaches each cell.
+#![tactic(auto)]
+
 use libc::{STDIN_FILENO, STDOUT_FILENO};
 
 // One byte more is read than a file may have, so that a longer one shows. A read that fails counts as the end of the input: what

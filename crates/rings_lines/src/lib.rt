@@ -1,4 +1,6 @@
 // What the program `rings` prints of a scenario file, as bytes in a lent list.
+#![tactic(auto)]
+
 pub mod text;
 
 ghost use Rattle.std.specs.Prelude.{◌≡◌, ◌+◌, ◌*◌, ◌≤◌, length, true, [], ◌∷◌, ◌++◌};

@@ -1,4 +1,6 @@
 // The scenario file: its format, with numbers and runs as bytes; and turn numbers.
+#![tactic(auto)]
+
 pub mod bytes;
 pub mod heads;
 pub mod runs;

@@ -1,4 +1,6 @@
 // The reader of scenario files: a file is judged whole, then read.
+#![tactic(auto)]
+
 pub mod judge;
 pub mod paint;
 pub mod starts;

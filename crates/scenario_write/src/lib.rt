@@ -1,4 +1,6 @@
 // The writer of scenario files.
+#![tactic(auto)]
+
 pub mod write;
 
 ghost use Rattle.eikonal.specs.Refusals.{by_lists};

@@ -1,4 +1,6 @@
 // From which sides the front came to each cell of a board whose times are worked out. One pass, row by row.
+#![tactic(auto)]
+
 pub mod clear;
 mod row;
 

@@ -1,4 +1,6 @@
 // The tablet's call: a scenario file with sides to 32 and 1,024 cells at the most is run tile by tile, and its times are written as bytes.
+#![tactic(auto)]
+
 pub mod run;
 pub mod small;
 

@@ -1,4 +1,6 @@
 // Whether an order of tiles names each of a board's tiles once.
+#![tactic(auto)]
+
 ghost use Rattle.std.specs.Prelude.{◌≡◌, [], ◌≤◌, min, length};
 ghost use Rattle.eikonal.specs.Board.{board_of};
 ghost use Rattle.eikonal.specs.Tiles.{up};

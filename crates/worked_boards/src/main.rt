@@ -1,5 +1,7 @@
 // Goes through the boards worked by hand that are not starred, those of document 01 and of Cards 3, 6, 10 and 12 of document 02: what each gives,
 // and whether it is what the pages say.
+#![tactic(auto)]
+
 use libc::STDOUT_FILENO;
 
 mod houses;
