@@ -15,14 +15,14 @@ pub const LARGEST: u32 = 300000000;
 
 // A front begins at a cell at a time.
 #[repr(C)]
-#[derive(Drop)]
+#[derive(Clone, Copy)]
 pub struct Start {
     pub cell: u32,
     pub time: u32,
 }
 
 // What a call does with the front: a whole march, a single round, a tile run.
-#[derive(Drop)]
+#[derive(Clone, Copy)]
 pub enum Job {
     March {
         horizon: u32,
@@ -68,7 +68,7 @@ pub fn run_job(across: u32, down: u32, stride: u32, horizon: u32) -> Job
 }
 
 // Why a call is refused: the number of the cause, 0 if it is not; and where a start is at fault, its place in the list.
-#[derive(Drop)]
+#[derive(Clone, Copy)]
 pub struct Refusal {
     pub number: u32,
     pub place: usize,
@@ -90,7 +90,7 @@ pub fn cause(number: u32) -> Refusal
 }
 
 // What a call looks for of its own, beside a march's causes: refusals that it has found, by where they stand in the one order.
-#[derive(Drop)]
+#[derive(Clone, Copy)]
 pub struct Own {
     // behind 2: 3
     pub ticks: Refusal,
@@ -121,7 +121,7 @@ pub fn nothing_own() -> Own
 
 // A call's answer: number 0 and a count, or a refusal's number and place and the count 0.
 #[repr(C)]
-#[derive(Drop)]
+#[derive(Clone, Copy)]
 pub struct Reply {
     pub number: u32,
     pub count: u32,
@@ -130,7 +130,7 @@ pub struct Reply {
 
 // The local rule's answer: number 0, the time and its sides, or a refusal's number and zeros.
 #[repr(C)]
-#[derive(Drop)]
+#[derive(Clone, Copy)]
 pub struct LocalReply {
     pub number: u32,
     pub time: u32,

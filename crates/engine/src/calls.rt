@@ -17,7 +17,7 @@ use queue::lists::wide;
 use refusals::board::{Judged, board_refusal, flawless, judge_starts, nothing_judged};
 
 // What is left to do of a call: nothing if it is refused.
-#[derive(Drop)]
+#[derive(Clone, Copy)]
 pub struct Task {
     pub refusal: Refusal,
     pub shape: Shape,

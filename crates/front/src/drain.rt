@@ -13,7 +13,7 @@ use super::spread::{row_of, tell_along, tell_stack};
 use queue::lists::wide;
 
 // How many cells a drain took, and how many are then pending.
-#[derive(Drop)]
+#[derive(Clone, Copy)]
 pub struct Taken {
     pub cells: usize,
     pub pending: usize,

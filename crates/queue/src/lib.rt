@@ -88,7 +88,7 @@ fn less(x: u32, y: u32) -> usize
 }
 
 // A slot and its key.
-#[derive(Drop)]
+#[derive(Clone, Copy)]
 struct Child {
     slot: usize,
     x: u32,

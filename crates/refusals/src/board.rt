@@ -18,7 +18,7 @@ pub fn sides_good(width: u32, height: u32) -> bool
 }
 
 // What pairs looked at so far have: a number above 4,095, a single 0, numbers that differ.
-#[derive(Drop)]
+#[derive(Clone, Copy)]
 pub struct Flaws {
     pub steep: bool,
     pub half: bool,
@@ -102,7 +102,7 @@ pub fn flaws_refusal(width: u32, height: u32, storeys: u32, flaws: Flaws) -> Ref
 
 // What the starts looked at so far leave: how many they are, the least cell that the next may have, the places of the first off the board and of
 // the first not above the one before, each as many as were looked at while there is none, and which other causes were met.
-#[derive(Drop)]
+#[derive(Clone, Copy)]
 pub struct Judged {
     pub seen: usize,
     pub least: usize,

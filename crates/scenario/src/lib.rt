@@ -15,7 +15,7 @@ use refusals::causes::within;
 
 // What a file holds besides its lists: number 0, the rest and the place 0, or a refusal's number and place and zeros.
 #[repr(C)]
-#[derive(Drop)]
+#[derive(Clone, Copy)]
 pub struct Scenario {
     pub number: u32,
     pub width: u32,
@@ -29,7 +29,7 @@ pub struct Scenario {
 
 // The turn of a time, and the ticks still to go until it closes: number 0 and both, or 3 and zeros.
 #[repr(C)]
-#[derive(Drop)]
+#[derive(Clone, Copy)]
 pub struct TurnReply {
     pub number: u32,
     pub turn: u32,
@@ -44,7 +44,7 @@ pub const RUN: usize = 12;
 pub const START: usize = 8;
 
 // The numbers that a file begins with: sides, storeys, ticks per turn, the ground's slowness, how many runs and starts follow.
-#[derive(Drop)]
+#[derive(Clone, Copy)]
 pub struct Head {
     pub width: u32,
     pub height: u32,
@@ -56,7 +56,7 @@ pub struct Head {
 }
 
 // So many cells from an offset on, with one slowness.
-#[derive(Drop)]
+#[derive(Clone, Copy)]
 pub struct Run {
     pub offset: u32,
     pub long: u32,
