@@ -1,15 +1,14 @@
 -- What a call that is not refused has been handed and lent, whatever else it looks for.
 use mathlib.Core.Path.{◌≡◌, refl, sym, ap, ◌∙◌}
-use mathlib.Core.Bool.{true, ◌||◌, not}
-use mathlib.Core.List.{List, ◌∷◌}
+use mathlib.Core.Bool.{true, not}
+use mathlib.Core.List.{List}
 use Prim.Native.Nat.{ℕ, ◌*◌, ◌≤◌}
 use lib.Dec.{ltb, eqb}
 use native.Mathlib.Omega.{arith}
 use lib.ListN.{length}
 use borrow.Author.Tests.{eqb-true, ltb-false, le-ltb, not-false}
 use Rattle.eikonal.specs.Board.{Board, size, largest}
-use Rattle.eikonal.specs.Order.{found}
-use Rattle.eikonal.specs.Refusals.{Handed, within, board_causes, sides_good, tile_causes, job_causes, list_causes, order_good, nothing_own}
+use Rattle.eikonal.specs.Refusals.{Handed, within, board_causes, tile_causes, job_causes, list_causes, order_good, nothing_own}
 use Rattle.eikonal.specs.Ledger.{Call, call, call_board, call_causes, own_refusal, refusal, own_answer, counted}
 use Rattle.eikonal.specs.Entry.{Lent, Counts}
 use Rattle.eikonal.specs.declared.Own.{Own}

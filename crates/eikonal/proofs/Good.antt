@@ -13,7 +13,7 @@ use Rattle.eikonal.specs.Board.{Board, size, slowness, along_row, down_column, n
 use Rattle.eikonal.specs.declared.Start.{Start}
 use Rattle.eikonal.specs.Order.{Cause, caused, found, none, first_of}
 use Rattle.eikonal.specs.Refusals.{Handed, handed, handed_refusal, within, board_causes, sides_good, steep, half_wall, uneven, any_pair}
-use Rattle.eikonal.specs.Refusals.{ill_stacked, pair_causes, house_refusal, first_off, first_low, late, on_wall, record_causes, start_causes}
+use Rattle.eikonal.specs.Refusals.{ill_stacked, pair_causes, house_refusal, late, on_wall, record_causes, start_causes}
 use Rattle.eikonal.specs.Promise.{board_good}
 use Rattle.eikonal.specs.Inner.Good.{Known, Pair, Good, starts_rise}
 use Rattle.eikonal.specs.declared.Refusal.{Refusal}

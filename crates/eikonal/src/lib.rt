@@ -137,6 +137,7 @@ pub struct LocalReply {
     pub sides: u32,
 }
 
+#[tactic(auto, unfolding(crate::specs::Ledger::answer))]
 pub fn refused(refusal: Refusal) -> Reply
     ensures { result ≡ answer refusal 0 }
 {
@@ -147,6 +148,7 @@ pub fn refused(refusal: Refusal) -> Reply
     }
 }
 
+#[tactic(auto, unfolding(crate::specs::Ledger::answer))]
 pub fn counted(count: u32) -> Reply
     ensures { result ≡ answer none count }
 {
