@@ -16,6 +16,7 @@ import sys
 ROOT = pathlib.Path(__file__).resolve().parent.parent
 NAME = r"[^\s(){}\[\],;.:@⌜⌝\"`]+"
 DECLARED = re.compile(r'^ *(?P<marks>(?:(?:abbrev|unfoldable|pub|data|record|open|instance) )*)(?P<names>' + NAME + r'(?: ' + NAME + r')*?) : ', re.M)
+HEADED = re.compile(r'^ *(?:pub )?(?:record|data) (?P<name>' + NAME + r') [({]', re.M)
 INNER = re.compile(r'^  (?P<marks>(?:pub )?)(?P<names>' + NAME + r'(?: ' + NAME + r')*?) : ', re.M)
 BLOCK = re.compile(r'^(?:pub )?(?:data|record) [^\n]*\n((?:  [^\n]*\n|\n(?=  ))*)', re.M)
 STD = set('append length take drop set map replicate reverse get get_or zero suc add mul sub min max cond true false nat_eq nat_lt nat_le eqb ltb leb '
@@ -45,6 +46,9 @@ def declared():
                         entry = found[n]
                         entry[0] |= in_specs or bool(set(m['marks'].split()) & {'abbrev', 'unfoldable', 'data', 'record'})
                         entry[1].add(f)
+            for m in HEADED.finditer(text):
+                found[m['name']][0] = True
+                found[m['name']][1].add(f)
             for b in BLOCK.finditer(text):
                 for m in INNER.finditer(b.group(1)):
                     for n in m['names'].split():
