@@ -14,6 +14,7 @@ const LAST: usize = 2049;
 
 const MANY: usize = 2050;
 
+#[tactic(auto, unfolding(crate::specs::Seams::seam))]
 fn seam(count: usize, side: usize, i: usize) -> u8
     requires { (1 ≤ count) × (1 ≤ side) }
     ensures { result ≡ seam count side i }

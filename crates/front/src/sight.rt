@@ -10,6 +10,7 @@ use arrival::{lesser, of_equal, of_three, of_unequal};
 use eikonal::{LARGEST, NEVER};
 
 // A stored time as a cell of another tile sees it.
+#[tactic(auto, unfolding(eikonal::specs::Tiles::counts_as, eikonal::specs::Board::slowness, eikonal::specs::Board::time))]
 pub fn ghost_time(slow: &[u32], times: &[u32], shape: Shape, e: usize) -> u32
     requires { (e < length slow.now) × (e < length times.now) }
     ensures { result ≡ counts_as (land shape slow.now) times.now e }
@@ -25,6 +26,7 @@ pub fn ghost_time(slow: &[u32], times: &[u32], shape: Shape, e: usize) -> u32
 }
 
 // What the cell c sees of the cell that is `more` on and `less` back, across a seam.
+#[tactic(auto, unfolding(crate::specs::Seams::across))]
 fn see(
     slow: &[u32],
     times: &[u32],

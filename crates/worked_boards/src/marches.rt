@@ -1,9 +1,11 @@
 // Marches of flat boards: their starts, the lengths of their sides, the turns of their times.
+use std::io;
 use super::tell::TEN;
 use eikonal::NEVER;
 
 // A march over 3 by 3 cells of slowness 10 with the given starts.
 fn march(
+    rt: &impl Print,
     name: &[u8],
     cells: &[u32],
     begins: &[u32],
@@ -11,7 +13,7 @@ fn march(
     count: u32,
     want: &[u32],
     want_sides: &[u8],
-) {
+) -> io::Result<()> {
     let slow = [TEN; 9];
     let mut times = [0u32; 9];
     let mut sides = [0u8; 9];
@@ -19,12 +21,13 @@ fn march(
     let reply = murgolab::murgolab_march_plain(
         3, 3, 1, &slow, cells, begins, 300000000, &mut times, &mut sides, &mut work,
     );
-    super::tell::tell_reply(name, reply, number, count);
-    super::tell::tell(b"its times: ", &times, want);
-    super::tell::tell_sides(&sides, want_sides);
+    super::tell::tell_reply(rt, name, reply, number, count)?;
+    super::tell::tell(rt, b"its times: ", &times, want)?;
+    super::tell::tell_sides(rt, &sides, want_sides)?;
+    Ok(())
 }
 
-pub fn starts() {
+pub fn starts(rt: &impl Print) -> io::Result<()> {
     let zero = [0u32; 9];
     let never = [NEVER; 9];
     let front = [0u32, 10, 20, 10, 18, 26, 20, 26, 34];
@@ -35,8 +38,9 @@ pub fn starts() {
     let begins = [0u32; 0];
     let sides = [0u8, 1, 1, 4, 5, 5, 4, 5, 5];
     let none = [0u8; 9];
-    march(b"no starts: ", &cells, &begins, 0, 0, &never, &none);
+    march(rt, b"no starts: ", &cells, &begins, 0, 0, &never, &none)?;
     march(
+        rt,
         b"cell 1 at 15: ",
         &[0u32, 1],
         &[0u32, 15],
@@ -44,9 +48,10 @@ pub fn starts() {
         9,
         &front,
         &sides,
-    );
+    )?;
     // at the time that the front would have come: it began there
     march(
+        rt,
         b"cell 1 at 10: ",
         &[0u32, 1],
         &[0u32, 10],
@@ -54,8 +59,9 @@ pub fn starts() {
         9,
         &front,
         &[0u8, 0, 1, 4, 5, 5, 4, 5, 5],
-    );
+    )?;
     march(
+        rt,
         b"start at 1,000,000: ",
         &[0u32],
         &[1000000u32],
@@ -63,8 +69,9 @@ pub fn starts() {
         9,
         &late,
         &sides,
-    );
+    )?;
     march(
+        rt,
         b"start at 1,000,001: ",
         &[0u32],
         &[1000001u32],
@@ -72,11 +79,12 @@ pub fn starts() {
         0,
         &zero,
         &none,
-    );
+    )?;
+    Ok(())
 }
 
 // A board of 256 cells, from cell 0 on.
-fn side(name: &[u8], width: u32, height: u32, number: u32, count: u32) {
+fn side(rt: &impl Print, name: &[u8], width: u32, height: u32, number: u32, count: u32) -> io::Result<()> {
     let slow = [TEN; 256];
     let cell = [0u32; 1];
     let begin = [0u32; 1];
@@ -86,25 +94,28 @@ fn side(name: &[u8], width: u32, height: u32, number: u32, count: u32) {
     let reply = murgolab::murgolab_march_plain(
         width, height, 1, &slow, &cell, &begin, 300000000, &mut times, &mut sides, &mut work,
     );
-    super::tell::tell_reply(name, reply, number, count);
+    super::tell::tell_reply(rt, name, reply, number, count)?;
+    Ok(())
 }
 
-pub fn lengths() {
-    side(b"256 by 1: ", 256, 1, 0, 256);
-    side(b"1 by 256: ", 1, 256, 0, 256);
-    side(b"257 by 1: ", 257, 1, 2, 0);
-    side(b"0 by 256: ", 0, 256, 2, 0);
+pub fn lengths(rt: &impl Print) -> io::Result<()> {
+    side(rt, b"256 by 1: ", 256, 1, 0, 256)?;
+    side(rt, b"1 by 256: ", 1, 256, 0, 256)?;
+    side(rt, b"257 by 1: ", 257, 1, 2, 0)?;
+    side(rt, b"0 by 256: ", 0, 256, 2, 0)?;
+    Ok(())
 }
 
-fn tell_turn(name: &[u8], time: u32, turn: u32, to_go: u32) {
+fn tell_turn(rt: &impl Print, name: &[u8], time: u32, turn: u32, to_go: u32) -> io::Result<()> {
     let reply = scenario::turn(time, 10);
     let got = [reply.number, reply.turn, reply.to_go];
     let want = [0, turn, to_go];
-    super::tell::tell(name, &got, &want);
+    super::tell::tell(rt, name, &got, &want)?;
+    Ok(())
 }
 
 // Two cells of 3 by 3, slowness 10, start cell 0 at 0; a turn has 10 ticks.
-pub fn turns() {
+pub fn turns(rt: &impl Print) -> io::Result<()> {
     let slow = [TEN; 9];
     let mut times = [0u32; 9];
     let mut sides = [0u8; 9];
@@ -122,15 +133,18 @@ pub fn turns() {
         &mut work,
     );
     tell_turn(
+        rt,
         b"middle cell, refusal, turn and ticks to go: ",
         times[4],
         2,
         2,
-    );
+    )?;
     tell_turn(
+        rt,
         b"last cell, refusal, turn and ticks to go: ",
         times[8],
         4,
         6,
-    );
+    )?;
+    Ok(())
 }

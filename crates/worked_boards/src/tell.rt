@@ -1,78 +1,78 @@
 // What a call gives, printed beside whether it is what the pages say.
 use eikonal::{LocalReply, NEVER, Reply};
-use libc::STDOUT_FILENO;
+use std::io;
+use std::io::Write;
 
 // The pair (10, 10): 10 ticks along the row, 10 down the column.
 pub const TEN: u32 = 655370;
 
+// Bytes as they are.
+pub fn bytes(rt: &impl Print, text: &[u8]) -> io::Result<()> {
+    io::writer(rt).write_all(text)
+}
+
 // A number and a space; `-` for never.
-fn print(x: u32) {
+fn number(rt: &impl Print, x: u32) -> io::Result<()> {
     if x == NEVER {
-        io::write_all(STDOUT_FILENO, b"- ");
-        return;
+        return bytes(rt, b"- ");
     }
-    io::print_decimal(STDOUT_FILENO, x as u64);
-    io::write_all(STDOUT_FILENO, b" ");
+    print!(rt; "{x} ")
 }
 
-fn print_all(list: &[u32]) {
-    let mut i = 0;
-    while i < list.len() {
-        print(list[i]);
-        i += 1;
+fn print_all(rt: &impl Print, list: &[u32]) -> io::Result<()> {
+    for x in list {
+        number(rt, *x)?;
     }
+    Ok(())
 }
 
-fn print_sides(list: &[u8]) {
-    let mut i = 0;
-    while i < list.len() {
-        print(list[i] as u32);
-        i += 1;
+fn print_sides(rt: &impl Print, list: &[u8]) -> io::Result<()> {
+    for x in list {
+        number(rt, *x as u32)?;
     }
+    Ok(())
 }
 
-fn same(a: &[u32], b: &[u32]) -> bool {
-    if a.len() != b.len() {
-        return false;
-    }
-    let mut i = 0;
-    while i < a.len() {
-        if a[i] != b[i] {
-            return false;
-        }
-        i += 1;
-    }
-    true
-}
-
-pub fn judge(as_expected: bool) {
+pub fn judge(rt: &impl Print, as_expected: bool) -> io::Result<()> {
     if as_expected {
-        io::write_all(STDOUT_FILENO, b"as expected\n");
-        return;
+        return bytes(rt, b"as expected\n");
     }
-    io::write_all(STDOUT_FILENO, b"NOT AS EXPECTED\n");
+    bytes(rt, b"NOT AS EXPECTED\n")
 }
 
-pub fn tell(name: &[u8], got: &[u32], want: &[u32]) {
-    io::write_all(STDOUT_FILENO, name);
-    print_all(got);
-    judge(same(got, want));
+pub fn tell(rt: &impl Print, name: &[u8], got: &[u32], want: &[u32]) -> io::Result<()> {
+    bytes(rt, name)?;
+    print_all(rt, got)?;
+    judge(rt, got == want)
 }
 
-pub fn tell_sides(got: &[u8], want: &[u8]) {
-    io::write_all(STDOUT_FILENO, b"its sides: ");
-    print_sides(got);
-    judge(check::same(got, want));
+pub fn tell_sides(rt: &impl Print, got: &[u8], want: &[u8]) -> io::Result<()> {
+    bytes(rt, b"its sides: ")?;
+    print_sides(rt, got)?;
+    judge(rt, got == want)
 }
 
-pub fn tell_reply(name: &[u8], reply: Reply, number: u32, count: u32) {
+pub fn tell_reply(
+    rt: &impl Print,
+    name: &[u8],
+    reply: Reply,
+    number: u32,
+    count: u32,
+) -> io::Result<()> {
     let got = [reply.number, reply.count];
     let want = [number, count];
-    tell(name, &got, &want);
+    tell(rt, name, &got, &want)
 }
 
-pub fn tell_local(name: &[u8], reply: LocalReply, number: u32, time: u32, sides: u32) {
+pub fn tell_local(
+    rt: &impl Print,
+    name: &[u8],
+    reply: LocalReply,
+    number: u32,
+    time: u32,
+    sides: u32,
+) -> io::Result<()> {
     let got = [reply.number, reply.time, reply.sides];
     let want = [number, time, sides];
-    tell(name, &got, &want);
+    tell(rt, name, &got, &want)
 }
