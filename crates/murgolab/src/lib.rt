@@ -1,5 +1,5 @@
-// What others call: the C interface that include/murgolab.h declares. A call with plain lists meets the contract of the function that it hands over to;
-// one with start records is a straight line of calls.
+// What others call, by the names of the C interface that include/murgolab.h declares; the crate murgolab_c exports it. A call with plain lists meets the
+// contract of the function that it hands over to; one with start records is a straight line of calls.
 #![tactic(auto)]
 
 ghost use Rattle.std.specs.Prelude.{[], length};
@@ -14,8 +14,7 @@ ghost use Rattle.tablet.specs.Tablet.{Tablet-says};
 use eikonal::{LocalReply, Reply, Start, march_job, nothing_own, round_job, run_job};
 use scenario::{Scenario, TurnReply};
 
-#[unsafe(no_mangle)]
-pub extern "C" fn murgolab_local_rule(
+pub fn murgolab_local_rule(
     g: u32,
     h: u32,
     left: u32,
@@ -30,15 +29,13 @@ pub extern "C" fn murgolab_local_rule(
     arrival::local_rule(g, h, left, right, above, below, over, under)
 }
 
-#[unsafe(no_mangle)]
-pub extern "C" fn murgolab_diagonal(slowness: u32) -> Reply
+pub fn murgolab_diagonal(slowness: u32) -> Reply
     ensures { DiagonalSays slowness result }
 {
     diagonal::diagonal(slowness)
 }
 
-#[unsafe(no_mangle)]
-pub extern "C" fn murgolab_march_plain(
+pub fn murgolab_march_plain(
     width: u32,
     height: u32,
     storeys: u32,
@@ -70,8 +67,7 @@ pub extern "C" fn murgolab_march_plain(
     )
 }
 
-#[unsafe(no_mangle)]
-pub extern "C" fn murgolab_one_round_plain(
+pub fn murgolab_one_round_plain(
     width: u32,
     height: u32,
     storeys: u32,
@@ -106,8 +102,7 @@ pub extern "C" fn murgolab_one_round_plain(
     )
 }
 
-#[unsafe(no_mangle)]
-pub extern "C" fn murgolab_tile_run_plain(
+pub fn murgolab_tile_run_plain(
     width: u32,
     height: u32,
     storeys: u32,
@@ -143,15 +138,13 @@ pub extern "C" fn murgolab_tile_run_plain(
     )
 }
 
-#[unsafe(no_mangle)]
-pub extern "C" fn murgolab_turn(time: u32, ticks: u32) -> TurnReply
+pub fn murgolab_turn(time: u32, ticks: u32) -> TurnReply
     ensures { TurnSays time ticks result }
 {
     scenario::turn(time, ticks)
 }
 
-#[unsafe(no_mangle)]
-pub extern "C" fn murgolab_read_scenario_plain(
+pub fn murgolab_read_scenario_plain(
     file: &[u8],
     slow: &mut [u32],
     cells: &mut [u32],
@@ -163,8 +156,7 @@ pub extern "C" fn murgolab_read_scenario_plain(
     scenario_read::read_scenario(file, slow, cells, begins)
 }
 
-#[unsafe(no_mangle)]
-pub extern "C" fn murgolab_write_scenario_plain(
+pub fn murgolab_write_scenario_plain(
     width: u32,
     height: u32,
     storeys: u32,
@@ -183,8 +175,7 @@ pub extern "C" fn murgolab_write_scenario_plain(
     )
 }
 
-#[unsafe(no_mangle)]
-pub extern "C" fn murgolab_march(
+pub fn murgolab_march(
     width: u32,
     height: u32,
     storeys: u32,
@@ -215,8 +206,7 @@ pub extern "C" fn murgolab_march(
     )
 }
 
-#[unsafe(no_mangle)]
-pub extern "C" fn murgolab_one_round(
+pub fn murgolab_one_round(
     width: u32,
     height: u32,
     storeys: u32,
@@ -249,8 +239,7 @@ pub extern "C" fn murgolab_one_round(
     )
 }
 
-#[unsafe(no_mangle)]
-pub extern "C" fn murgolab_tile_run(
+pub fn murgolab_tile_run(
     width: u32,
     height: u32,
     storeys: u32,
@@ -284,8 +273,7 @@ pub extern "C" fn murgolab_tile_run(
     )
 }
 
-#[unsafe(no_mangle)]
-pub extern "C" fn murgolab_read_scenario(
+pub fn murgolab_read_scenario(
     file: &[u8],
     slow: &mut [u32],
     starts: &mut [Start],
@@ -298,8 +286,7 @@ pub extern "C" fn murgolab_read_scenario(
     answer
 }
 
-#[unsafe(no_mangle)]
-pub extern "C" fn murgolab_write_scenario(
+pub fn murgolab_write_scenario(
     width: u32,
     height: u32,
     storeys: u32,
@@ -331,8 +318,7 @@ pub extern "C" fn murgolab_write_scenario(
     reply
 }
 
-#[unsafe(no_mangle)]
-pub extern "C" fn murgolab_tablet_run(
+pub fn murgolab_tablet_run(
     file: &[u8],
     stride: u32,
     across: u32,
