@@ -273,11 +273,7 @@ pub fn murgolab_tile_run(
     )
 }
 
-pub fn murgolab_read_scenario(
-    file: &[u8],
-    slow: &mut [u32],
-    starts: &mut [Start],
-) -> Scenario
+pub fn murgolab_read_scenario(file: &[u8], slow: &mut [u32], starts: &mut [Start]) -> Scenario
     ensures { Reads file.now slow.old slow.new
         (cells_of starts.old) (cells_of starts.new) (begins_of starts.old) (begins_of starts.new) result }
 {
@@ -318,13 +314,7 @@ pub fn murgolab_write_scenario(
     reply
 }
 
-pub fn murgolab_tablet_run(
-    file: &[u8],
-    stride: u32,
-    across: u32,
-    down: u32,
-    out: &mut [u8],
-) -> u64
+pub fn murgolab_tablet_run(file: &[u8], stride: u32, across: u32, down: u32, out: &mut [u8]) -> u64
     ensures { Tablet-says file.now stride across down out.old out.new result }
 {
     tablet::tablet_run(file, stride, across, down, out)

@@ -53,7 +53,9 @@ pub extern "C" fn murgolab_march_plain(
         (March horizon) [] (length sides.old) (length work.old))
         result (lent times.old sides.old work.old) (lent times.new sides.new work.new) }
 {
-    murgolab::murgolab_march_plain(width, height, storeys, slow, cells, begins, horizon, times, sides, work)
+    murgolab::murgolab_march_plain(
+        width, height, storeys, slow, cells, begins, horizon, times, sides, work,
+    )
 }
 
 #[unsafe(no_mangle)]
@@ -76,7 +78,9 @@ pub extern "C" fn murgolab_one_round_plain(
         (Round across down bound) order.now (length sides.old) (length work.old))
         result (lent times.old sides.old work.old) (lent times.new sides.new work.new) }
 {
-    murgolab::murgolab_one_round_plain(width, height, storeys, slow, cells, begins, across, down, bound, order, times, sides, work)
+    murgolab::murgolab_one_round_plain(
+        width, height, storeys, slow, cells, begins, across, down, bound, order, times, sides, work,
+    )
 }
 
 #[unsafe(no_mangle)]
@@ -100,7 +104,10 @@ pub extern "C" fn murgolab_tile_run_plain(
         (Run across down stride horizon) order.now (length sides.old) (length work.old))
         result (lent times.old sides.old work.old) (lent times.new sides.new work.new) }
 {
-    murgolab::murgolab_tile_run_plain(width, height, storeys, slow, cells, begins, across, down, stride, horizon, order, times, sides, work)
+    murgolab::murgolab_tile_run_plain(
+        width, height, storeys, slow, cells, begins, across, down, stride, horizon, order, times,
+        sides, work,
+    )
 }
 
 #[unsafe(no_mangle)]
@@ -138,7 +145,9 @@ pub extern "C" fn murgolab_write_scenario_plain(
     ensures { Writes (by_lists width height storeys slow.now cells.now begins.now) ticks ground
         out.old out.new result }
 {
-    murgolab::murgolab_write_scenario_plain(width, height, storeys, ticks, ground, slow, cells, begins, out)
+    murgolab::murgolab_write_scenario_plain(
+        width, height, storeys, ticks, ground, slow, cells, begins, out,
+    )
 }
 
 #[unsafe(no_mangle)]
@@ -157,7 +166,9 @@ pub extern "C" fn murgolab_march(
         (March horizon) [] (length sides.old) (length work.old))
         result (lent times.old sides.old work.old) (lent times.new sides.new work.new) }
 {
-    murgolab::murgolab_march(width, height, storeys, slow, starts, horizon, times, sides, work)
+    murgolab::murgolab_march(
+        width, height, storeys, slow, starts, horizon, times, sides, work,
+    )
 }
 
 #[unsafe(no_mangle)]
@@ -179,7 +190,9 @@ pub extern "C" fn murgolab_one_round(
         (Round across down bound) order.now (length sides.old) (length work.old))
         result (lent times.old sides.old work.old) (lent times.new sides.new work.new) }
 {
-    murgolab::murgolab_one_round(width, height, storeys, slow, starts, across, down, bound, order, times, sides, work)
+    murgolab::murgolab_one_round(
+        width, height, storeys, slow, starts, across, down, bound, order, times, sides, work,
+    )
 }
 
 #[unsafe(no_mangle)]
@@ -202,7 +215,10 @@ pub extern "C" fn murgolab_tile_run(
         (Run across down stride horizon) order.now (length sides.old) (length work.old))
         result (lent times.old sides.old work.old) (lent times.new sides.new work.new) }
 {
-    murgolab::murgolab_tile_run(width, height, storeys, slow, starts, across, down, stride, horizon, order, times, sides, work)
+    murgolab::murgolab_tile_run(
+        width, height, storeys, slow, starts, across, down, stride, horizon, order, times, sides,
+        work,
+    )
 }
 
 #[unsafe(no_mangle)]

@@ -11,6 +11,7 @@ use scenario_read::judge::{front_refusal, rest_refusal};
 
 // 15, where nothing was found before: a file that 1 refuses has no head, and sides that 2 refuses have no N. The storeys are
 // not judged yet.
+#[tactic(auto, using(eikonal::proofs::Causes::first))]
 fn size_refusal(so_far: Refusal, file: &[u8]) -> Refusal
     requires { so_far.number ≡ 0 → (first_of (front_causes file.now)).number ≡ 0 }
     ensures { result ≡ or_else so_far (first_of (caused 15 (not (board_small (head_in file.now))) ∷ [])) }

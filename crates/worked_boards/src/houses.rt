@@ -1,10 +1,17 @@
 // Houses: a cell between two storeys, a house of two, and towers.
-use std::io;
 use super::tell::TEN;
 use eikonal::NEVER;
+use std::io;
 
 // What a cell of slowness 10 is given from its left, from above and from under it.
-fn corner(rt: &impl Print, name: &[u8], left: u32, above: u32, under: u32, time: u32) -> io::Result<()> {
+fn corner(
+    rt: &impl Print,
+    name: &[u8],
+    left: u32,
+    above: u32,
+    under: u32,
+    time: u32,
+) -> io::Result<()> {
     let reply = arrival::local_rule(10, 10, left, NEVER, above, NEVER, NEVER, under);
     super::tell::tell_local(rt, name, reply, 0, time, 37)?;
     Ok(())
@@ -36,7 +43,13 @@ pub fn house(rt: &impl Print) -> io::Result<()> {
     let run = murgolab::murgolab_tile_run_plain(
         2, 2, 2, &slow, &cell, &begin, 1, 1, 20, 24, &order, &mut times, &mut sides, &mut work,
     );
-    super::tell::tell_reply(rt, b"house in 1 by 1 tiles, refusal and rounds: ", run, 0, 4)?;
+    super::tell::tell_reply(
+        rt,
+        b"house in 1 by 1 tiles, refusal and rounds: ",
+        run,
+        0,
+        4,
+    )?;
     super::tell::tell(rt, b"its times: ", &times, &want)?;
     super::tell::tell_sides(rt, &sides, &want_sides)?;
     Ok(())
@@ -75,8 +88,26 @@ pub fn towers(rt: &impl Print) -> io::Result<()> {
     let mut nine = [0u32; 9];
     let mut sides8 = [0u8; 8];
     let mut sides9 = [0u8; 9];
-    tower(rt, b"8 storeys: ", 8, &[TEN; 8], &mut eight, &mut sides8, 0, 8)?;
+    tower(
+        rt,
+        b"8 storeys: ",
+        8,
+        &[TEN; 8],
+        &mut eight,
+        &mut sides8,
+        0,
+        8,
+    )?;
     super::tell::tell_sides(rt, &sides8, &[0u8, 32, 32, 32, 32, 32, 32, 32])?;
-    tower(rt, b"9 storeys: ", 9, &[TEN; 9], &mut nine, &mut sides9, 23, 0)?;
+    tower(
+        rt,
+        b"9 storeys: ",
+        9,
+        &[TEN; 9],
+        &mut nine,
+        &mut sides9,
+        23,
+        0,
+    )?;
     Ok(())
 }

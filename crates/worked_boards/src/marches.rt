@@ -1,7 +1,7 @@
 // Marches of flat boards: their starts, the lengths of their sides, the turns of their times.
-use std::io;
 use super::tell::TEN;
 use eikonal::NEVER;
+use std::io;
 
 // A march over 3 by 3 cells of slowness 10 with the given starts.
 fn march(
@@ -84,7 +84,14 @@ pub fn starts(rt: &impl Print) -> io::Result<()> {
 }
 
 // A board of 256 cells, from cell 0 on.
-fn side(rt: &impl Print, name: &[u8], width: u32, height: u32, number: u32, count: u32) -> io::Result<()> {
+fn side(
+    rt: &impl Print,
+    name: &[u8],
+    width: u32,
+    height: u32,
+    number: u32,
+    count: u32,
+) -> io::Result<()> {
     let slow = [TEN; 256];
     let cell = [0u32; 1];
     let begin = [0u32; 1];

@@ -1,12 +1,19 @@
 // Furrows: a cell that is slower down its column than along its row.
-use std::io;
 use eikonal::NEVER;
+use std::io;
 
 // A ploughed field, (10, 20): half as fast across the furrows, which run along the rows.
 const PLOUGHED: u32 = 1310730;
 
 // What a cell is given from its left and from above, with 10 ticks along its row and 20 down its column.
-fn furrow(rt: &impl Print, name: &[u8], left: u32, above: u32, time: u32, sides: u32) -> io::Result<()> {
+fn furrow(
+    rt: &impl Print,
+    name: &[u8],
+    left: u32,
+    above: u32,
+    time: u32,
+    sides: u32,
+) -> io::Result<()> {
     let reply = arrival::local_rule(10, 20, left, NEVER, above, NEVER, NEVER, NEVER);
     super::tell::tell_local(rt, name, reply, 0, time, sides)?;
     Ok(())
@@ -39,7 +46,13 @@ pub fn ploughed(rt: &impl Print) -> io::Result<()> {
     let run = murgolab::murgolab_tile_run_plain(
         3, 3, 1, &slow, &cell, &begin, 2, 2, 20, 51, &order, &mut times, &mut sides, &mut work,
     );
-    super::tell::tell_reply(rt, b"ploughed in 2 by 2 tiles, refusal and rounds: ", run, 0, 5)?;
+    super::tell::tell_reply(
+        rt,
+        b"ploughed in 2 by 2 tiles, refusal and rounds: ",
+        run,
+        0,
+        5,
+    )?;
     super::tell::tell(rt, b"its times: ", &times, &want)?;
     super::tell::tell_sides(rt, &sides, &want_sides)?;
     Ok(())

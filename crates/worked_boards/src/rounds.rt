@@ -1,13 +1,20 @@
 // Single rounds and tile runs.
-use std::io;
 use super::tell::TEN;
 use eikonal::NEVER;
+use std::io;
 
 // The pair (1, 1).
 const ONE: u32 = 65537;
 
 // A round on the board of 3 by 3, slowness 10, start cell 0 at 0, in tiles of 2 by 2.
-fn round(rt: &impl Print, name: &[u8], bound: u32, times: &mut [u32], want: &[u32], want_sides: &[u8]) -> io::Result<()> {
+fn round(
+    rt: &impl Print,
+    name: &[u8],
+    bound: u32,
+    times: &mut [u32],
+    want: &[u32],
+    want_sides: &[u8],
+) -> io::Result<()> {
     let slow = [TEN; 9];
     let cell = [0u32; 1];
     let begin = [0u32; 1];
@@ -39,7 +46,14 @@ pub fn rounds(rt: &impl Print) -> io::Result<()> {
 }
 
 // A round on the board of 4 by 1, slowness 1, start cells 0 at 0 and 3 at 1, in tiles of 1 by 1, bound 10.
-fn narrow_round(rt: &impl Print, name: &[u8], count: u32, times: &mut [u32], want: &[u32], want_sides: &[u8]) -> io::Result<()> {
+fn narrow_round(
+    rt: &impl Print,
+    name: &[u8],
+    count: u32,
+    times: &mut [u32],
+    want: &[u32],
+    want_sides: &[u8],
+) -> io::Result<()> {
     let slow = [ONE; 4];
     let order = [0u32, 1, 2, 3];
     let mut sides = [0u8; 4];

@@ -1,0 +1,5 @@
+use Rattle.sides.proofs.Pass.{whole-legal}
+use Rattle.sides.proofs.find_whole.Goals as goal
+
+pub find-requires : goal.find-requires
+find-requires c = whole-legal c.requires c.fill.ensures c.lay-cols.ensures c.lay-rows.ensures
