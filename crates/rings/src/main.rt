@@ -1,11 +1,15 @@
 // Reads a scenario on standard input and prints the turn at which the front reaches each cell.
 #![tactic(auto)]
 
+ghost use Rattle.std.specs.Prelude.{◌≤◌, length};
+
 use std::io;
 use std::io::{Read, Write};
 
 // Reads until the list is full or the input ends, and says how much was read. A read that fails counts as the end of the input.
-fn read_full<R: Read>(input: &mut R, file: &mut [u8]) -> usize {
+fn read_full<R: Read>(input: &mut R, file: &mut [u8]) -> usize
+    ensures { result ≤ length file.old }
+{
     let mut n = 0;
     while n < file.len() {
         match input.read(&mut file[n..]) {
