@@ -82,20 +82,20 @@ module _ (far m w : ℕ) (ws : List ℕ) (enough : Enough far m w ws) where
       le-leb (square m) (pull w ws f (earliest ws f + far)) (pull-enough far m w ws f (earliest ws f + far) enough (omega arith))
 
   -- it stays never for a wall or where no axis is reached; else it is the least that passes from the earliest on
-  pub data Answers-axes (f : ℕ → ℕ) : Type 0 where
-    stays : (m ≡ 0) ⊎ (earliest ws f ≡ never) → local_axes far m w ws f ≡ never → Answers-axes f
+  pub data AnswersAxes (f : ℕ → ℕ) : Type 0 where
+    stays : (m ≡ 0) ⊎ (earliest ws f ≡ never) → local_axes far m w ws f ≡ never → AnswersAxes f
     comes : 1 ≤ m → earliest ws f ≢ never
-        → Least (λ t. passes_axes m w ws f t) (earliest ws f) (earliest ws f + far) (local_axes far m w ws f) → Answers-axes f
+        → Least (λ t. passes_axes m w ws f t) (earliest ws f) (earliest ws f + far) (local_axes far m w ws f) → AnswersAxes f
 
   pub axes-comes : (f : ℕ → ℕ) → 1 ≤ m → earliest ws f ≢ never → local_axes far m w ws f ≡ least_from far (earliest ws f) (λ t. passes_axes m w ws f t)
   unfolding local_axes
   axes-comes f h k = rw (ne_eqb m 0 (omega arith), ne_eqb (earliest ws f) never k)
 
-  pub axes-answers : (f : ℕ → ℕ) → Answers-axes f
+  pub axes-answers : (f : ℕ → ℕ) → AnswersAxes f
   unfolding local_axes
   axes-answers f = go (eqb m 0) refl (eqb (earliest ws f) never) refl
     where
-      go : (p : Bool) → eqb m 0 ≡ p → (q : Bool) → eqb (earliest ws f) never ≡ q → Answers-axes f
+      go : (p : Bool) → eqb m 0 ≡ p → (q : Bool) → eqb (earliest ws f) never ≡ q → AnswersAxes f
       go true e q d = stays (inl (eqb-true m 0 e)) (rw e)
       go false e true d = stays (inr (eqb-true (earliest ws f) never d)) (rw (e, d))
       go false e false d =
@@ -107,14 +107,14 @@ module _ (far m w : ℕ) (ws : List ℕ) (enough : Enough far m w ws) where
   pub axes-passes : (f : ℕ → ℕ) (v : ℕ) → v < never → local_axes far m w ws f ≤ v → (1 ≤ m) × (passes_axes m w ws f v ≡ true)
   axes-passes f v h k = go (axes-answers f)
     where
-      go : Answers-axes f → (1 ≤ m) × (passes_axes m w ws f v ≡ true)
+      go : AnswersAxes f → (1 ≤ m) × (passes_axes m w ws f v ≡ true)
       go (stays z e) = absurd (omega arith)
       go (comes p n l) = (p, axes-on m w ws f f (local_axes far m w ws f) v (λ i. omega arith) (l.found (axes-step f)))
 
   pub passes-local_axes : (f : ℕ → ℕ) (v : ℕ) → v < never → 1 ≤ m → passes_axes m w ws f v ≡ true → local_axes far m w ws f ≤ v
   passes-local_axes f v h p k = go (axes-answers f) (axes-late m w ws f v p k)
     where
-      go : Answers-axes f → earliest ws f < v → local_axes far m w ws f ≤ v
+      go : AnswersAxes f → earliest ws f < v → local_axes far m w ws f ≤ v
       go (stays (inl z) e) i = absurd (omega arith)
       go (stays (inr z) e) i = absurd (omega arith)
       go (comes q n l) i = least_bound l v (omega arith) k

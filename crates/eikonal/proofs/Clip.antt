@@ -24,8 +24,8 @@ clipped h t = go (leb t h) refl
     go true e = kept (leb-true t h e) (rw e)
     go false e = lost (leb-false t h e) (rw e)
 
-pub clip-keeps : (h t : ℕ) → t ≤ h → clip h t ≡ t
-clip-keeps h t l = go (clipped h t)
+pub clip_keeps : (h t : ℕ) → t ≤ h → clip h t ≡ t
+clip_keeps h t l = go (clipped h t)
   where
     go : Clipped h t → clip h t ≡ t
     go (kept i p) = p
@@ -50,7 +50,7 @@ pub clip_again : (k h x : ℕ) → h ≤ k → clip k (clip h x) ≡ clip h x
 clip_again k h x l = go (clipped h x)
   where
     go : Clipped h x → clip k (clip h x) ≡ clip h x
-    go (kept i p) = rw p (clip-keeps k x (omega arith))
+    go (kept i p) = rw p (clip_keeps k x (omega arith))
     go (lost i p) = rw p (clip-never k)
 
 pub clip-agree : (h t x y : ℕ) → t ≤ never → min t x ≡ min t y → min t (clip h x) ≡ min t (clip h y)

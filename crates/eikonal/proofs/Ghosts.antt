@@ -15,17 +15,17 @@ use Rattle.eikonal.proofs.Lattices.{Sound}
 
 pub tiled_sound : (b : Board) (tw th : ℕ) (ts : List ℕ) → Sound (tiled b tw th ts)
 tiled_sound b tw th ts = record {
-  agree = λ t f g a c e. go-agree t (eqb (tile_of b tw th c) (tile_of b tw th e)) (f e) (g e) (counts_as b ts e) (a e);
-  under = λ f g a c e. go-under (eqb (tile_of b tw th c) (tile_of b tw th e)) (f e) (g e) (counts_as b ts e) (a e);
+  agree = λ t f g a c e. go_agree t (eqb (tile_of b tw th c) (tile_of b tw th e)) (f e) (g e) (counts_as b ts e) (a e);
+  under = λ f g a c e. go_under (eqb (tile_of b tw th c) (tile_of b tw th e)) (f e) (g e) (counts_as b ts e) (a e);
 }
   where
-    go-agree : (t : ℕ) (p : Bool) (x y z : ℕ) → min t x ≡ min t y → min t (cond p x z) ≡ min t (cond p y z)
-    go-agree t true x y z h = h
-    go-agree t false x y z h = refl
+    go_agree : (t : ℕ) (p : Bool) (x y z : ℕ) → min t x ≡ min t y → min t (cond p x z) ≡ min t (cond p y z)
+    go_agree t true x y z h = h
+    go_agree t false x y z h = refl
 
-    go-under : (p : Bool) (x y z : ℕ) → min never x ≤ y → min never (cond p x z) ≤ cond p y z
-    go-under true x y z h = h
-    go-under false x y z h = omega arith
+    go_under : (p : Bool) (x y z : ℕ) → min never x ≤ y → min never (cond p x z) ≤ cond p y z
+    go_under true x y z h = h
+    go_under false x y z h = omega arith
 
 -- a stored time counts as never at a wall, else up to the largest
 clip_late_test : (x : ℕ) → cond (ltb largest x) never x ≡ clip largest x

@@ -9,7 +9,7 @@ use native.Mathlib.Nat.{suc-mod, mod-lt, mod-eq_of_lt, mod_self, zero-mod, div-a
 use lib.Dec.{eqb}
 use lib.ListN.{length}
 use borrow.Author.Tests.{eqb-false, ne_eqb}
-use Rattle.eikonal.specs.Axes.{Axis, place, before, behind, sight, sights, Next, NextOn, here, there, Near, Spans, All-span, also}
+use Rattle.eikonal.specs.Axes.{Axis, place, before, behind, sight, sights, Next, NextOn, here, there, Near, Spans, AllSpan, also}
 use Rattle.eikonal.specs.Axes.{never, earlier, earliest}
 use Rattle.eikonal.proofs.Levels.{order}
 use Rattle.eikonal.proofs.Local.{earlier-min}
@@ -165,7 +165,7 @@ none-near xs q (inr k) = omega (arith, next-some k)
 
 -- the earliest of what a cell sees is no later than any neighbour's time,
 module _ (n : ℕ) (f : ℕ → ℕ) where
-  pub seen-earliest : (a : Axis) (xs : List Axis) (ws : List ℕ) → length ws ≡ length xs → All-span n (a ∷ xs) → (c e : ℕ) → Near (a ∷ xs) c e
+  pub seen-earliest : (a : Axis) (xs : List Axis) (ws : List ℕ) → length ws ≡ length xs → AllSpan n (a ∷ xs) → (c e : ℕ) → Near (a ∷ xs) c e
       → earliest ws (sights (a ∷ xs) c f) ≤ f e
   unfolding earliest
   seen-earliest a xs [] q (also s sp) c e k = go (near_which k)
@@ -185,7 +185,7 @@ module _ (n : ℕ) (f : ℕ → ℕ) where
   pub data Nearest (xs : List Axis) (c t : ℕ) : Type 0 where
     near : (e : ℕ) → e < n → Near xs c e → f e ≤ t → Nearest xs c t
 
-  pub nearest : (a : Axis) (xs : List Axis) (ws : List ℕ) → length ws ≡ length xs → All-span n (a ∷ xs) → (c : ℕ) → c < n
+  pub nearest : (a : Axis) (xs : List Axis) (ws : List ℕ) → length ws ≡ length xs → AllSpan n (a ∷ xs) → (c : ℕ) → c < n
       → earliest ws (sights (a ∷ xs) c f) < never → Nearest (a ∷ xs) c (earliest ws (sights (a ∷ xs) c f))
   unfolding earliest
   nearest a xs [] q (also s sp) c on h = go (which s f c on h)

@@ -7,10 +7,10 @@ use Prim.Native.Nat.{ℕ, zero, suc, ◌+◌, ◌≤◌, ◌<◌, min}
 use native.Mathlib.Omega.{arith}
 use lib.Dec.{ltb}
 use borrow.Author.Tests.{lt-ltb, le-ltb}
-use Rattle.eikonal.specs.Axes.{never, earlier, Axis, sight, sights, Next, Near, Spans, All-span, none, also, earliest, Lattice, given_on, met_on}
+use Rattle.eikonal.specs.Axes.{never, earlier, Axis, sight, sights, Next, Near, Spans, AllSpan, none, also, earliest, Lattice, given_on, met_on}
 use Rattle.eikonal.specs.Promise.{EarlierNoLater, OneSet, Fits}
 use Rattle.eikonal.proofs.Levels.{order, Agree, Under, Causal, Monotone, worked, count_most, one_fixed, reached-limit}
-use Rattle.eikonal.proofs.Axes.{axes-under, axes-agree, axes-late, axes-step, Answers-axes, axes-answers}
+use Rattle.eikonal.proofs.Axes.{axes-under, axes-agree, axes-late, axes-step, AnswersAxes, axes-answers}
 use Rattle.eikonal.proofs.Local.{earlier-min, earlier-agree, earlier-under}
 use Rattle.eikonal.proofs.Grid.{before-by, behind-by, near-here, near-there}
 
@@ -25,7 +25,7 @@ module _ (P : ℕ → ℕ → Type 0) (kept : Kept P) where
   sight-by sp c on f g h = kept.1 _ _ _ _ (before-by sp P kept.0 c on f g h) (behind-by sp P kept.0 c on f g h)
 
   -- what holds of a cell's neighbours holds of what it sees along each axis
-  pub sights-by : {n : ℕ} (xs : List Axis) → All-span n xs → (c : ℕ) → c < n → (f g : ℕ → ℕ) → ((e : ℕ) → e < n → Near xs c e → P (f e) (g e))
+  pub sights-by : {n : ℕ} (xs : List Axis) → AllSpan n xs → (c : ℕ) → c < n → (f g : ℕ → ℕ) → ((e : ℕ) → e < n → Near xs c e → P (f e) (g e))
       → (i : ℕ) → P (sights xs c f i) (sights xs c g i)
   sights-by [] none c on f g h i = kept.0
   sights-by (a ∷ xs) (also s sp) c on f g h zero = sight-by s c on f g (λ e l k. h e l (near-here k))
@@ -70,9 +70,9 @@ pub is-given : (l : Lattice) (c : ℕ) (f : ℕ → ℕ) → Given l c f
 unfolding given_on
 is-given l c f = go (axes-answers _ _ _ _ (l.weights c).enough (sights l.axes c f))
   where
-    go : Answers-axes _ _ _ _ (l.weights c).enough (sights l.axes c f) → Given l c f
-    go (Answers-axes.stays z e) = stays z e
-    go (Answers-axes.comes p n m) =
+    go : AnswersAxes _ _ _ _ (l.weights c).enough (sights l.axes c f) → Given l c f
+    go (AnswersAxes.stays z e) = stays z e
+    go (AnswersAxes.comes p n m) =
         comes p n (axes-late _ _ _ _ _ p (m.found (axes-step _ _ _ _ (l.weights c).enough (sights l.axes c f)))) m.high
 
 -- where every time is never, so is all that is seen

@@ -11,7 +11,7 @@ use borrow.Author.Tests.{ltb-true, ltb-false, le-leb}
 use Rattle.eikonal.specs.Board.{never, earlier, square, passes, local_of, local}
 use Rattle.eikonal.proofs.Least.{Least}
 use Rattle.eikonal.specs.Axes.{earliest, pull, passes_axes, local_axes, Enough}
-use Rattle.eikonal.proofs.Axes.{axes-on, axes-step, Answers-axes, axes-answers, axes-passes, passes-local_axes, bounded, axes-agree}
+use Rattle.eikonal.proofs.Axes.{axes-on, axes-step, AnswersAxes, axes-answers, axes-passes, passes-local_axes, bounded, axes-agree}
 
 -- ---- the earlier of two
 pub earlier-min : (a b : ℕ) → earlier a b ≡ min a b
@@ -146,9 +146,9 @@ pub local-answers : (g h a b z : ℕ) → Answers g h a b z
 unfolding earliest three
 local-answers g h a b z = go (axes-answers (max g h) (g * h) h (others g) (enough g h) (three a b z))
   where
-    go : Answers-axes (max g h) (g * h) h (others g) (enough g h) (three a b z) → Answers g h a b z
-    go (Answers-axes.stays e f) = stays e (local_axes-is g h a b z ∙ f)
-    go (Answers-axes.comes p n l) = comes p n (rw (fun_ext (passes-is g h a b z), local_axes-is g h a b z) l)
+    go : AnswersAxes (max g h) (g * h) h (others g) (enough g h) (three a b z) → Answers g h a b z
+    go (AnswersAxes.stays e f) = stays e (local_axes-is g h a b z ∙ f)
+    go (AnswersAxes.comes p n l) = comes p n (rw (fun_ext (passes-is g h a b z), local_axes-is g h a b z) l)
 
 -- THE LAW: the answer is at most v, before never, just if v passes
 pub local-passes : (g h a b z v : ℕ) → v < never → local_of g h a b z ≤ v → (1 ≤ g * h) × (passes g h a b z v ≡ true)

@@ -15,7 +15,7 @@ use Rattle.eikonal.specs.Refusals.{Handed, on_board, first_off, first_low, board
 use Rattle.eikonal.specs.Refusals.{job_causes, list_causes, nothing_own}
 use Rattle.eikonal.specs.Ledger.{Call, call, call_board, call_causes, own_refusal, own_answer, answer, answered}
 use Rattle.eikonal.specs.Entry.{local_causes}
-use Rattle.eikonal.specs.Promise.{CallsInOrder, LocalInOrder, cell_at, AllOn, AllRise, First-at-fault, PlaceIsFirst}
+use Rattle.eikonal.specs.Promise.{CallsInOrder, LocalInOrder, cell_at, AllOn, AllRise, FirstAtFault, PlaceIsFirst}
 use Rattle.eikonal.specs.Promise.{Steps, AllPlace, EveryPlace}
 use Rattle.eikonal.specs.declared.Start.{Start}
 use Rattle.eikonal.specs.declared.Refusal.{Refusal}
@@ -70,7 +70,7 @@ below-least xs (suc k) h =
 
 module _ (n : ℕ) (xs : List Start) where
   abbrev pub Tells : Refusal → Type 0
-  Tells k = First-at-fault n xs k.number k.place
+  Tells k = FirstAtFault n xs k.number k.place
 
   -- no start is at fault
   abbrev Right : Type 0
@@ -121,10 +121,10 @@ module _ (n : ℕ) (xs : List Start) where
   passes r = record { off = λ q. absurd (omega arith); low = λ q. absurd (omega arith); right = λ q. r; rest = λ a b. refl }
 
   -- THE STARTS, with causes in front of them and behind them: what a list tells
-  starts-tell : (rest : List Cause) → all_plain in_the_rear rest ≡ true
+  starts_tell : (rest : List Cause) → all_plain in_the_rear rest ≡ true
       → Tells (first_of (at_fault 7 (first_off n xs) (length xs) ∷ at_fault 18 (first_low xs) (length xs) ∷ rest))
   unfolding first_of least_at
-  starts-tell rest e = go (ltb (first_off n xs) (length xs)) refl (ltb (first_low xs) (length xs)) refl
+  starts_tell rest e = go (ltb (first_off n xs) (length xs)) refl (ltb (first_low xs) (length xs)) refl
     where
       on : ltb (first_off n xs) (length xs) ≡ false → AllOn n xs (length xs)
       on e i l = ltb-true _ n (before (on_board n) 0 xs i (omega (arith, ltb-false (first_off n xs) (length xs) e)))
@@ -157,15 +157,15 @@ module _ (n : ℕ) (xs : List Start) where
 
   pub tells : (front rest : List Cause) → all_plain in_front front ≡ true → all_plain in_the_rear rest ≡ true
       → Tells (first_of (front ++ (at_fault 7 (first_off n xs) (length xs) ∷ at_fault 18 (first_low xs) (length xs) ∷ rest)))
-  tells front rest a b = past in_front front_says front _ a (starts-tell rest b)
+  tells front rest a b = past in_front front_says front _ a (starts_tell rest b)
 
   -- ---- and the answer
   pub tells_none : (k : Refusal) → k.number ≡ 0 → Tells k → Tells none
   tells_none k z t = passes (t.right (rw z nothing-last))
 
-  pub tells-answer : (k : Refusal) (c : ℕ) → Tells k → First-at-fault n xs (answered k c).number (answered k c).place
+  pub tells_answer : (k : Refusal) (c : ℕ) → Tells k → FirstAtFault n xs (answered k c).number (answered k c).place
   unfolding answer
-  tells-answer k c t = elim (ℕ_discrete k.number 0) [
+  tells_answer k c t = elim (ℕ_discrete k.number 0) [
     | yes z ↦ rw (answered-zero k c z) (tells_none k z t)
     | no d ↦ rw (answered-refused k c d) t
   ]
@@ -174,7 +174,7 @@ module _ (n : ℕ) (xs : List Start) where
 pub place-is-first : PlaceIsFirst
 unfolding PlaceIsFirst own_answer own_refusal call_causes board_causes pair_causes start_causes record_causes job_causes tile_causes list_causes
     all_plain in_front in_the_rear rank rank_in
-place-is-first c ts = tells-answer (size (call_board c)) (call_board c).starts _ _ (go c.handed c.job c.order c.sides c.work)
+place-is-first c ts = tells_answer (size (call_board c)) (call_board c).starts _ _ (go c.handed c.job c.order c.sides c.work)
   where
     go : (p : Handed) (j : Job) (ys : List ℕ) (n w : ℕ)
         → Tells (size p.board) p.board.starts (first_of (call_causes (call p j ys n w) nothing_own (length ts)))

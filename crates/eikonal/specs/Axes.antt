@@ -54,9 +54,9 @@ pub record Spans (cells : ℕ) (a : Axis) : Type 0 where
   pub many : ℕ
   pub whole : cells ≡ many * a.count * a.unit
 
-pub data All-span (cells : ℕ) : List Axis → Type 0 where
-  none : All-span cells []
-  also : {a : Axis} {xs : List Axis} → Spans cells a → All-span cells xs → All-span cells (a ∷ xs)
+pub data AllSpan (cells : ℕ) : List Axis → Type 0 where
+  none : AllSpan cells []
+  also : {a : Axis} {xs : List Axis} → Spans cells a → AllSpan cells xs → AllSpan cells (a ∷ xs)
 
 -- THE LOCAL RULE OVER WEIGHTED AXES: a time passes if the sum of (weight × (time − axis's time))² is at least due². The weights are w and ws, so that
 -- there is one axis at least; f has the axes' times by number
@@ -116,7 +116,7 @@ pub record Lattice : Type 0 where
   pub axes : List Axis
   pub weights : (c : ℕ) → Weights
   pub begins : (c : ℕ) → ℕ
-  pub spans : All-span cells axes
+  pub spans : AllSpan cells axes
   pub begins_most : (c : ℕ) → begins c ≤ never
 
 -- what the rule gives a cell from the times that it sees, and the earlier of that and its start's

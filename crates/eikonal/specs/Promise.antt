@@ -37,7 +37,7 @@ abbrev pub AllRise : List Start → (many : ℕ) → Type 0
 AllRise xs k = (i : ℕ) → suc i < k → cell_at xs i < cell_at xs (suc i)
 
 -- what a number and the place beside it say of the starts xs, on a board of n cells
-pub record First-at-fault (n : ℕ) (xs : List Start) (number place : ℕ) : Type 0 where
+pub record FirstAtFault (n : ℕ) (xs : List Start) (number place : ℕ) : Type 0 where
   -- 7, of the list: the cell there is off the board, and none before it is
   pub off : number ≡ 7 → (place < length xs) × (n ≤ cell_at xs place) × AllOn n xs place
   -- 18: the cell there is not above the one before it, every earlier one is above its own, and none in the list is off the board
@@ -50,7 +50,7 @@ pub record First-at-fault (n : ℕ) (xs : List Start) (number place : ℕ) : Typ
 
 -- what it says in the answer of a call
 abbrev pub Places : Call → Reply → Type 0
-Places c x = First-at-fault (size (call_board c)) (call_board c).starts x.number x.place
+Places c x = FirstAtFault (size (call_board c)) (call_board c).starts x.number x.place
 
 unfoldable pub PlaceIsFirst : Type 0
 PlaceIsFirst = (c : Call) (ts : List ℕ) → Places c (ledger_answer c ts)
@@ -121,13 +121,13 @@ pub record Fits (l : Lattice) (times : ℕ → ℕ) : Type 0 where
   pub on : (c : ℕ) → c < l.cells → times c ≡ met_on l c times
   pub off : (c : ℕ) → l.cells ≤ c → times c ≡ never
 
-pub record Just-one (l : Lattice) : Type 0 where
+pub record JustOne (l : Lattice) : Type 0 where
   pub times : ℕ → ℕ
   pub fits : Fits l times
   pub only : (f : ℕ → ℕ) → Fits l f → (c : ℕ) → f c ≡ times c
 
 unfoldable pub OneSet : Type 0
-OneSet = (l : Lattice) → Just-one l
+OneSet = (l : Lattice) → JustOne l
 
 -- ---- THE SECOND CONDITION: just one set of times meets the rule, and it is the one worked out
 unfoldable pub OneSolution : Type 0

@@ -36,7 +36,7 @@ pub record Fit (s : Shape) (slow : List ℕ) (xs : List Start) (times sides work
   pub room : 4 * s.cells ≤ length work
 
 -- some starts stand in the work list that make it one
-pub record Some-standing (s : Shape) (slow times sides work : List ℕ) : Type 0 where
+pub record SomeStanding (s : Shape) (slow times sides work : List ℕ) : Type 0 where
   pub starts : List Start
   pub fit : Fit s slow starts times sides work
   pub stands : Standing s.cells starts work
@@ -85,7 +85,7 @@ shaped w h s (Run tw th d z) = shape_with w h s tw th
 
 -- ---- THE STEPS
 -- some starts were judged
-pub record Some-judged (slow : List ℕ) (j : Judged) : Type 0 where
+pub record SomeJudged (slow : List ℕ) (j : Judged) : Type 0 where
   pub starts : List Start
   pub is : j ≡ judge slow starts nothing_judged
 
@@ -107,7 +107,7 @@ pub record Sown (t : Task) (xs : List Start) (work work' : List ℕ) : Type 0 wh
 
 -- the job can be done, and is: unless the call is refused; then the refusal is the answer, and the lists are as they were
 abbrev pub Endable : Task → Job → (slow order times sides work : List ℕ) → Type 0
-Endable t j ss xs ts us v = t.refusal.number ≡ 0 → Some-standing t.shape ss ts us v × Doable j t.shape xs
+Endable t j ss xs ts us v = t.refusal.number ≡ 0 → SomeStanding t.shape ss ts us v × Doable j t.shape xs
 
 pub record Ended (t : Task) (j : Job) (slow : List ℕ) (x : Reply) (before after : Sheet) (work work' : List ℕ) : Type 0 where
   pub turned_down : t.refusal.number ≢ 0 → (x ≡ answer t.refusal 0) × (after ≡ before) × (work' ≡ work)

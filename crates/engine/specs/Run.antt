@@ -25,7 +25,7 @@ abbrev pub whole : Shape → (slow : List ℕ) → List Start → Board
 whole s ss xs = board_of s.width s.height s.storeys ss xs
 
 -- after j rounds, with the work list at hand
-pub record At-round (s : Shape) (slow : List ℕ) (xs : List Start) (stride horizon j : ℕ) (times : List ℕ) (work : Work) : Type 0 where
+pub record AtRound (s : Shape) (slow : List ℕ) (xs : List Start) (stride horizon j : ℕ) (times : List ℕ) (work : Work) : Type 0 where
   pub held : Held s.cells work
   pub between : Between (whole s slow xs) s.across s.down stride horizon j times (tentative work.list s.cells) (keys work)
 
@@ -33,14 +33,14 @@ pub record At-round (s : Shape) (slow : List ℕ) (xs : List Start) (stride hori
 pub record Amid (s : Shape) (slow : List ℕ) (stride horizon j : ℕ) (times : List ℕ) (work : Work) : Type 0 where
   pub starts : List Start
   pub good : Good (whole s slow starts)
-  pub at : At-round s slow starts stride horizon j times work
+  pub at : AtRound s slow starts stride horizon j times work
 
 -- ONE ROUND MORE, in which m cells were taken: none just if the round alters nothing
-pub record One-round (s : Shape) (slow : List ℕ) (xs : List Start) (stride horizon j m : ℕ) (times times' : List ℕ) (work work' : Work) : Type 0 where
+pub record OneRound (s : Shape) (slow : List ℕ) (xs : List Start) (stride horizon j m : ℕ) (times times' : List ℕ) (work work' : Work) : Type 0 where
   pub long : length times' ≡ length times
   pub kept : length work'.list ≡ length work.list
   pub past : (i : ℕ) → 4 * s.cells ≤ i → get_or work'.list i 0 ≡ get_or work.list i 0
-  pub next : At-round s slow xs stride horizon (suc j) times' work'
+  pub next : AtRound s slow xs stride horizon (suc j) times' work'
   pub idle : m ≡ 0 → after_rounds (suc j) (whole s slow xs) s.across s.down stride horizon
       ≡ after_rounds j (whole s slow xs) s.across s.down stride horizon
   pub busy : 1 ≤ m → altered (after_rounds j (whole s slow xs) s.across s.down stride horizon)
@@ -61,7 +61,7 @@ pub record Ran (s : Shape) (slow : List ℕ) (xs : List Start) (stride horizon l
 
 -- WHATEVER STARTS the work list stands for: one round more, and a run with a limit
 abbrev pub RoundsOn : Shape → (slow : List ℕ) → (stride horizon j m : ℕ) → (times times' : List ℕ) → (work work' : Work) → Type 0
-RoundsOn s ss S H j m ts ts' v v' = (xs : List Start) → Good (whole s ss xs) → At-round s ss xs S H j ts v → One-round s ss xs S H j m ts ts' v v'
+RoundsOn s ss S H j m ts ts' v v' = (xs : List Start) → Good (whole s ss xs) → AtRound s ss xs S H j ts v → OneRound s ss xs S H j m ts ts' v v'
 
 abbrev pub Runs : Shape → (slow : List ℕ) → (stride horizon limit r : ℕ) → (times times' : List ℕ) → (work : Work) → (work' : List ℕ) → Type 0
-Runs s ss S H limit r ts ts' v v' = (xs : List Start) → Good (whole s ss xs) → At-round s ss xs S H 0 ts v → Ran s ss xs S H limit r ts ts' v.list v'
+Runs s ss S H limit r ts ts' v v' = (xs : List Start) → Good (whole s ss xs) → AtRound s ss xs S H 0 ts v → Ran s ss xs S H limit r ts ts' v.list v'

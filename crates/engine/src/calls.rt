@@ -8,7 +8,7 @@ ghost use Rattle.eikonal.specs.Ledger.{sheet, call};
 ghost use Rattle.eikonal.specs.Entry.{lent, Counts};
 ghost use Rattle.refusals.specs.Judge.{judge, nothing_judged};
 ghost use Rattle.eikonal.specs.declared.Start.{Start};
-ghost use Rattle.engine.specs.Calls.{shape_with, shaped, Some-judged, Opened, Sowable, Sown, Endable, Ended, Clearable, Clear};
+ghost use Rattle.engine.specs.Calls.{shape_with, shaped, SomeJudged, Opened, Sowable, Sown, Endable, Ended, Clearable, Clear};
 
 use call_refusals::call_refusal;
 use eikonal::{Job, Own, Refusal, Reply, house_size};
@@ -74,7 +74,7 @@ pub fn begin(
     sides: usize,
     work: &mut [u32],
 ) -> Task
-    requires { Some-judged slow.now judged }
+    requires { SomeJudged slow.now judged }
     ensures { (xs : List Start) → judged ≡ judge slow.now xs nothing_judged
         → Opened (call (handed (board_of width height storeys slow.now xs) (eqb cells begins)) job order.now sides
         (length work.old)) own times result work.old work.new }

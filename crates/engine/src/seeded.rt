@@ -5,7 +5,7 @@ ghost use Rattle.eikonal.specs.Refusals.{order_good};
 ghost use Rattle.eikonal.specs.Ledger.{sheet};
 ghost use Rattle.front.specs.Board.{land};
 ghost use Rattle.eikonal.specs.declared.Job.TheVariants.{March, Round, Run};
-ghost use Rattle.engine.specs.Calls.{Some-standing, Doable, Goes};
+ghost use Rattle.engine.specs.Calls.{SomeStanding, Doable, Goes};
 
 use eikonal::{Job, NEVER};
 use front::Shape;
@@ -23,7 +23,7 @@ fn march(
     sides: &mut [u8],
     work: &mut [u32],
 ) -> u32
-    requires { Some-standing shape slow.now times.old sides.old work.old × (shape.width ≤ shape.across) × (shape.height ≤ shape.down)
+    requires { SomeStanding shape slow.now times.old sides.old work.old × (shape.width ≤ shape.across) × (shape.height ≤ shape.down)
         × (horizon ≤ largest) }
     ensures { Goes (March horizon) shape slow.now result times.old sides.old
         (sheet times.new sides.new) work.old work.new }
@@ -51,7 +51,7 @@ fn tile_run(
     sides: &mut [u8],
     work: &mut [u32],
 ) -> u32
-    requires { Some-standing shape slow.now times.old sides.old work.old × (1 ≤ stride) × (stride ≤ largest) × (horizon ≤ largest) }
+    requires { SomeStanding shape slow.now times.old sides.old work.old × (1 ≤ stride) × (stride ≤ largest) × (horizon ≤ largest) }
     ensures { Goes (Run shape.across shape.down stride horizon) shape slow.now result times.old sides.old
         (sheet times.new sides.new) work.old work.new }
 {
@@ -81,7 +81,7 @@ fn one_round(
     sides: &mut [u8],
     work: &mut [u32],
 ) -> u32
-    requires { Some-standing shape slow.now times.old sides.old work.old × (bound ≤ largest)
+    requires { SomeStanding shape slow.now times.old sides.old work.old × (bound ≤ largest)
         × (order_good (land shape []) shape.across shape.down order.now ≡ true) }
     ensures { Goes (Round shape.across shape.down bound) shape slow.now result times.old sides.old
         (sheet times.new sides.new) work.old work.new }
@@ -110,7 +110,7 @@ pub fn job(
     sides: &mut [u8],
     work: &mut [u32],
 ) -> u32
-    requires { Some-standing shape slow.now times.old sides.old work.old × Doable job shape order.now }
+    requires { SomeStanding shape slow.now times.old sides.old work.old × Doable job shape order.now }
     ensures { Goes job shape slow.now result times.old sides.old
         (sheet times.new sides.new) work.old work.new }
 {

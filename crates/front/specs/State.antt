@@ -79,16 +79,16 @@ abbrev pub Apart : Shape → (slow : List ℕ) → (lo hi : ℕ) → Type 0
 Apart s ss lo hi = (c d : ℕ) → Among lo hi c → d < s.cells → NotAmong lo hi d → Out d (near (land s ss) s.across s.down inside c)
 
 -- these cells are ready for a drain, and no other is pending
-pub record Ready-among (s : Shape) (slow stored : List ℕ) (lo hi : ℕ) (v : Work) : Type 0 where
+pub record ReadyAmong (s : Shape) (slow stored : List ℕ) (lo hi : ℕ) (v : Work) : Type 0 where
   pub ready : Ready s.cells (among lo hi (rule_at s slow stored)) v
   pub within : (c : ℕ) → c < s.cells → keys v c < never → Among lo hi c
   pub apart : Apart s slow lo hi
 
 -- the same, whichever the cells are
-pub record Some-ready (s : Shape) (slow stored : List ℕ) (v : Work) : Type 0 where
+pub record SomeReady (s : Shape) (slow stored : List ℕ) (v : Work) : Type 0 where
   pub lo : ℕ
   pub hi : ℕ
-  pub is : Ready-among s slow stored lo hi v
+  pub is : ReadyAmong s slow stored lo hi v
 
 -- what a drain leaves that took m cells: every key is past the bound
 pub record Drained (n bound m : ℕ) (L : ℕ → (ℕ → ℕ) → ℕ) (v v' : Work) : Type 0 where

@@ -5,7 +5,7 @@ ghost use Rattle.queue.specs.Heap.{key};
 ghost use Rattle.front.specs.Seams.{inside, near};
 ghost use Rattle.front.specs.Front.{among};
 ghost use Rattle.front.specs.Board.{land, rule_at, at, Ground};
-ghost use Rattle.front.specs.State.{Held, Took, Drained, Ready-among, Some-ready};
+ghost use Rattle.front.specs.State.{Held, Took, Drained, ReadyAmong, SomeReady};
 
 use super::Shape;
 use super::seams::{INSIDE, is_house};
@@ -104,9 +104,9 @@ pub fn drain(
     shape: Shape,
     bound: u32,
 ) -> Taken
-    requires { Ground shape slow.now times.now cols.now rows.now × Some-ready shape slow.now times.now (at work.old size)
+    requires { Ground shape slow.now times.now cols.now rows.now × SomeReady shape slow.now times.now (at work.old size)
         × (bound < never) }
-    ensures { (lo hi : ℕ) → Ready-among shape slow.now times.now lo hi (at work.old size)
+    ensures { (lo hi : ℕ) → ReadyAmong shape slow.now times.now lo hi (at work.old size)
         → Drained shape.cells bound result.cells (among lo hi (rule_at shape slow.now times.now)) (at work.old size)
         (at work.new result.pending) }
 {

@@ -69,7 +69,7 @@ late_round_calls p q tw th bound u v w z os us x y l m n o ss T says-p says-q x0
 
 -- ---- SINGLE ROUNDS with a tile run's bounds
 -- what the last of some calls leaves in the sides that it is lent
-record Left-last (c : Call) (ts ss : List ℕ) : Type 0 where
+record LeftLast (c : Call) (ts ss : List ℕ) : Type 0 where
   lent : List ℕ
   is : ss ≡ sides_left c ts lent
 
@@ -86,7 +86,7 @@ some_left (d ∷ cs) c [] ts l = absurd (omega arith)
 some_left (d ∷ cs) c (u ∷ us) ts l = omega arith
 
 last-sides : (cs : List Call) (c : Call) (us : List (List ℕ)) (zs : List Reply) (ts : List ℕ) → length us ≡ suc (length cs)
-    → Left-last c (ledger cs zs ts).times (last_left (ledger_sides (cs ++ c ∷ []) us ts))
+    → LeftLast c (ledger cs zs ts).times (last_left (ledger_sides (cs ++ c ∷ []) us ts))
 unfolding ledger book ledger_sides last_left
 last-sides [] c [] zs ts l = absurd (omega arith)
 last-sides [] c (u ∷ us) zs ts l = record { lent = u; is = refl }

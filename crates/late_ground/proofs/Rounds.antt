@@ -19,7 +19,7 @@ use Rattle.eikonal.proofs.Lattices.{plain, plain_sound}
 use Rattle.eikonal.proofs.Passes.{never-time, solved_by}
 use Rattle.eikonal.proofs.Ghosts.{tiled_sound, stored, stored-late}
 use Rattle.eikonal.proofs.Rounds.{whole-tiles, after-whole}
-use Rattle.late_ground.specs.LateGround.{Late, NoLower, retouched, Raised, DifferLate, Same-early}
+use Rattle.late_ground.specs.LateGround.{Late, NoLower, retouched, Raised, DifferLate, SameEarly}
 use Rattle.late_ground.specs.Promise.{march_sheet, run_sheet, round_sheet}
 use Rattle.late_ground.proofs.TwoBoards.{AsWas, SeeAlike, level, sheets_agree, sheets_early, uncut, as_was}
 
@@ -35,7 +35,7 @@ late-ghost u x y s r top a late low = go (eqb s 0) (eqb r 0) refl refl late low
     go false false d e l n = a
 
 -- before the first round nothing is early
-pub none-early : (n T : ℕ) (p q : Sheet) → ((c : ℕ) → time p.times c ≡ never) → ((c : ℕ) → time q.times c ≡ never) → Same-early n T p q
+pub none-early : (n T : ℕ) (p q : Sheet) → ((c : ℕ) → time p.times c ≡ never) → ((c : ℕ) → time q.times c ≡ never) → SameEarly n T p q
 none-early n T p q left right = record {
   same_times = λ c on e. absurd (e.1 (left c));
   same_sides = λ c on e. absurd (e.1 (left c));
@@ -54,7 +54,7 @@ module _ (b : Board) (ss : List ℕ) (gb : Good b) (gd : Good (retouched b ss)) 
         as_was b ss gb gd raised T (level T h) (time (marched b h)) (time (solved b))
         (λ c l. uncut T h (time (solved b) c) far (rw (cut-time h (solved b) c (omega arith)) at l)) late
 
-    pub march_early : Same-early (size b) T (march_sheet b h) (march_sheet second h)
+    pub march_early : SameEarly (size b) T (march_sheet b h) (march_sheet second h)
     unfolding marched march_sides solved solved_by
     march_early = sheets_early b ss gb gd plain plain plain_sound plain_sound T h far was_solved (λ v i f g a c. a) h (omega arith)
 
@@ -103,13 +103,13 @@ module _ (b : Board) (ss : List ℕ) (gb : Good b) (gd : Good (retouched b ss)) 
       unfolding round solved_in_tiles solved_by
       next_agree = sheets_agree b ss gb gd _ _ (tiled_sound b tw th ts) (tiled_sound second tw th us) T h far tiles-was see m low
 
-      next-early : Same-early (size b) T (round_sheet b tw th m ts) (round_sheet second tw th m us)
+      next-early : SameEarly (size b) T (round_sheet b tw th m ts) (round_sheet second tw th m us)
       unfolding round solved_in_tiles solved_by round_sides
       next-early = sheets_early b ss gb gd _ _ (tiled_sound b tw th ts) (tiled_sound second tw th us) T h far tiles-was see m low
 
     -- ---- A SINGLE ROUND
     pub round-early : (m : ℕ) → m ≤ largest → (ts : List ℕ) → DifferLate b ss T (counts_as b ts) → DifferLate b ss T (time (round b tw th m ts))
-        → Same-early (size b) T (round_sheet b tw th m ts) (round_sheet second tw th m ts)
+        → SameEarly (size b) T (round_sheet b tw th m ts) (round_sheet second tw th m ts)
     unfolding round solved_in_tiles solved_by
     round-early m far ts late-stored late =
         next-early m far ts ts (λ c. refl)
@@ -144,7 +144,7 @@ module _ (b : Board) (ss : List ℕ) (gb : Good b) (gd : Good (retouched b ss)) 
       held-agree zero = λ c. rw (never-time b c, never-time second c)
       held-agree (suc k) = next_agree h far (held k) _ (held-agree k) (held-stored k) (held-tiles k) (min (suc k * s) h) (omega arith)
 
-      pub run-early : (k : ℕ) → Same-early (size b) T (run_sheet k b tw th s h) (run_sheet k second tw th s h)
+      pub run-early : (k : ℕ) → SameEarly (size b) T (run_sheet k b tw th s h) (run_sheet k second tw th s h)
       unfolding after_rounds sides_after
       run-early zero = none-early (size b) T _ _ (never-time b) (never-time second)
       run-early (suc k) = next-early h far (held k) _ (held-agree k) (held-stored k) (held-tiles k) (min (suc k * s) h) (omega arith)

@@ -27,7 +27,7 @@ use Rattle.eikonal.proofs.Passes.{rule, rule-on, rule-off, solved_by, solved_fix
 use Rattle.eikonal.proofs.CutRule.{cut-meets}
 use Rattle.eikonal.proofs.Sides.{seen-agree, sides-found}
 use Rattle.eikonal.proofs.Promises.{quicker_no_later}
-use Rattle.late_ground.specs.LateGround.{Late, Early, NoLower, retouched, Raised, DifferLate, Same-early}
+use Rattle.late_ground.specs.LateGround.{Late, Early, NoLower, retouched, Raised, DifferLate, SameEarly}
 
 -- ---- ONE CELL. A slowness that is no lower makes its cell no quicker; by `omega`, so that a statement that allows a lower one fails at numbers
 quicker : (g h x y : ℕ) → g ≤ x → h ≤ y → (y * (g * h) ≤ h * (x * y)) × (x * (g * h) ≤ g * (x * y))
@@ -163,7 +163,7 @@ module _ (b : Board) (ss : List ℕ) (gb : Good b) (gd : Good (retouched b ss)) 
       ∙ found_alike b ss gb m c (time left.times c) on _ _ seen
       ∙ sym (sheet-sides b gb k sound m (omega arith) c on)
 
-  pub sheets_early : Same-early (size b) T left right
+  pub sheets_early : SameEarly (size b) T left right
   sheets_early =
       let before : (c : ℕ) → Early T (time left.times c) → time left.times c < level T h =
       λ c e. before-level T h _ (up_to m h (solved_by b k) c low far) e in

@@ -27,7 +27,7 @@ abbrev pub DifferLate : Board → (slow : List ℕ) → (T : ℕ) → (times : �
 DifferLate b ss T f = (c : ℕ) → c < size b → slowness b c ≢ slowness (retouched b ss) c → Late T (f c)
 
 -- THE SAME EARLY: each cell earlier than T has the same time and sides on both sheets, and no other cell of the second comes before T
-pub record Same-early (cells T : ℕ) (p q : Sheet) : Type 0 where
+pub record SameEarly (cells T : ℕ) (p q : Sheet) : Type 0 where
   pub same_times : (c : ℕ) → c < cells → Early T (time p.times c) → time q.times c ≡ time p.times c
   pub same_sides : (c : ℕ) → c < cells → Early T (time p.times c) → get_or q.sides c 0 ≡ get_or p.sides c 0
   pub others_late : (c : ℕ) → c < cells → Late T (time p.times c) → Late T (time q.times c)

@@ -11,7 +11,7 @@ use Rattle.eikonal.specs.declared.Reply.{Reply}
 use Rattle.eikonal.specs.declared.Job.{Job}
 use Rattle.eikonal.specs.declared.Job.TheVariants.{March, Round, Run}
 use Rattle.scenario.specs.Turns.{turn_of}
-use Rattle.late_ground.specs.LateGround.{Late, Early, retouched, Raised, DifferLate, Same-early}
+use Rattle.late_ground.specs.LateGround.{Late, Early, retouched, Raised, DifferLate, SameEarly}
 
 -- A MARCH
 abbrev pub march_sheet : Board → (horizon : ℕ) → Sheet
@@ -21,7 +21,7 @@ unfoldable pub LateMarch : Type 0
 LateMarch =
     (b : Board) (ss : List ℕ) (h T : ℕ) → board_good b ≡ true → board_good (retouched b ss) ≡ true → h ≤ largest →
     Raised b ss → DifferLate b ss T (time (marched b h)) →
-    Same-early (size b) T (march_sheet b h) (march_sheet (retouched b ss) h)
+    SameEarly (size b) T (march_sheet b h) (march_sheet (retouched b ss) h)
 
 -- A TILE RUN, after each round, whatever tiles and stride the two runs share
 abbrev pub run_sheet : (k : ℕ) → Board → (tw th stride horizon : ℕ) → Sheet
@@ -31,7 +31,7 @@ unfoldable pub LateRun : Type 0
 LateRun =
     (b : Board) (ss : List ℕ) (tw th s h k T : ℕ) → board_good b ≡ true → board_good (retouched b ss) ≡ true → 1 ≤ s → h ≤ largest →
     Raised b ss → DifferLate b ss T (time (marched b h)) →
-    Same-early (size b) T (run_sheet k b tw th s h) (run_sheet k (retouched b ss) tw th s h)
+    SameEarly (size b) T (run_sheet k b tw th s h) (run_sheet k (retouched b ss) tw th s h)
 
 -- A SINGLE ROUND with the same tiles and bound, on the same stored times: every cell that differs is late both as its stored time counts and in the
 -- first board's round
@@ -42,7 +42,7 @@ unfoldable pub LateRound : Type 0
 LateRound =
     (b : Board) (ss : List ℕ) (tw th m T : ℕ) (stored : List ℕ) → board_good b ≡ true → board_good (retouched b ss) ≡ true → m ≤ largest →
     Raised b ss → DifferLate b ss T (counts_as b stored) → DifferLate b ss T (time (round b tw th m stored)) →
-    Same-early (size b) T (round_sheet b tw th m stored) (round_sheet (retouched b ss) tw th m stored)
+    SameEarly (size b) T (round_sheet b tw th m stored) (round_sheet (retouched b ss) tw th m stored)
 
 -- IN RINGS, the turns of so many ticks that are printed: with T = r × ticks + 1 the cells of rings up to r are the early ones
 unfoldable pub RingsAreEarly : Type 0
@@ -64,7 +64,7 @@ LateCalls =
     (c d : Call) (x y : Reply) (l m n o : Lent) (ss : List ℕ) (h T : ℕ) → Says c x l m → Says d y n o → x.number ≡ 0 → y.number ≡ 0 →
     GoesTo h c.job → GoesTo h d.job → call_board d ≡ retouched (call_board c) ss →
     Raised (call_board c) ss → DifferLate (call_board c) ss T (time m.sheet.times) →
-    Same-early (size (call_board c)) T m.sheet o.sheet
+    SameEarly (size (call_board c)) T m.sheet o.sheet
 
 -- two accepted single rounds with the same tiles and bound, on the same stored times: the first leaves m, the second o
 unfoldable pub LateRoundCalls : Type 0
@@ -73,7 +73,7 @@ LateRoundCalls =
     Says (call p (Round tw th bound) os u v) x l m → Says (call q (Round tw th bound) us w z) y n o → x.number ≡ 0 → y.number ≡ 0 →
     n.sheet.times ≡ l.sheet.times → q.board ≡ retouched p.board ss →
     Raised p.board ss → DifferLate p.board ss T (counts_as p.board l.sheet.times) → DifferLate p.board ss T (time m.sheet.times) →
-    Same-early (size p.board) T m.sheet o.sheet
+    SameEarly (size p.board) T m.sheet o.sheet
 
 -- j single rounds with a tile run's bounds, from all never, leave the times ts and us, and the last of them the sides that it leaves in whatever list it
 -- was lent: what the two runs hold after round j
@@ -90,4 +90,4 @@ LateSingleRounds =
     Steps (all_never p.board) (single_rounds j p tw th s h os n w) xs es bs ts →
     Steps (all_never q.board) (single_rounds j q tw th s h ps k v) ys cs ds us →
     q.board ≡ retouched p.board ss → Raised p.board ss → DifferLate p.board ss T (time (marched p.board h)) →
-    Same-early (size p.board) T (sheet ts (last_left bs)) (sheet us (last_left ds))
+    SameEarly (size p.board) T (sheet ts (last_left bs)) (sheet us (last_left ds))

@@ -9,7 +9,7 @@ ghost use Rattle.eikonal.specs.Entry.{lent, Says, LocalSays, DiagonalSays};
 ghost use Rattle.eikonal.specs.declared.Job.TheVariants.{March, Round, Run};
 ghost use Rattle.scenario.specs.Calls.{Reads, Writes};
 ghost use Rattle.scenario.specs.Turns.{TurnSays};
-ghost use Rattle.tablet.specs.Tablet.{Tablet-says};
+ghost use Rattle.tablet.specs.Tablet.{TabletSays};
 
 use eikonal::{LocalReply, Reply, Start, march_job, nothing_own, round_job, run_job};
 use scenario::{Scenario, TurnReply};
@@ -315,7 +315,7 @@ pub fn murgolab_write_scenario(
 }
 
 pub fn murgolab_tablet_run(file: &[u8], stride: u32, across: u32, down: u32, out: &mut [u8]) -> u64
-    ensures { Tablet-says file.now stride across down out.old out.new result }
+    ensures { TabletSays file.now stride across down out.old out.new result }
 {
     tablet::tablet_run(file, stride, across, down, out)
 }

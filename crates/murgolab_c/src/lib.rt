@@ -8,7 +8,7 @@ ghost use Rattle.eikonal.specs.Entry.{lent, Says, LocalSays, DiagonalSays};
 ghost use Rattle.eikonal.specs.declared.Job.TheVariants.{March, Round, Run};
 ghost use Rattle.scenario.specs.Calls.{Reads, Writes};
 ghost use Rattle.scenario.specs.Turns.{TurnSays};
-ghost use Rattle.tablet.specs.Tablet.{Tablet-says};
+ghost use Rattle.tablet.specs.Tablet.{TabletSays};
 
 use eikonal::{LocalReply, Reply, Start};
 use scenario::{Scenario, TurnReply};
@@ -258,7 +258,7 @@ pub extern "C" fn murgolab_tablet_run(
     down: u32,
     out: &mut [u8],
 ) -> u64
-    ensures { Tablet-says file.now stride across down out.old out.new result }
+    ensures { TabletSays file.now stride across down out.old out.new result }
 {
     murgolab::murgolab_tablet_run(file, stride, across, down, out)
 }

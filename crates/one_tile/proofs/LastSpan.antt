@@ -14,7 +14,7 @@ use Rattle.eikonal.specs.Inner.Clip.{clip}
 use Rattle.eikonal.proofs.Levels.{order}
 use Rattle.eikonal.proofs.Good.{and-true, or-false}
 use Rattle.eikonal.proofs.Up.{up-enough, up-short}
-use Rattle.eikonal.proofs.Clip.{Clipped, kept, lost, clipped, clip-keeps, clip_loses}
+use Rattle.eikonal.proofs.Clip.{Clipped, kept, lost, clipped, clip_keeps, clip_loses}
 use Rattle.one_tile.specs.Rounds.{strides, span_start, some_within, exact_rounds}
 
 -- ---- K = k + 1 strides come to the horizon, fewer do not
@@ -52,19 +52,19 @@ still s h zero t low is (inr past) = clip_loses (min (1 * s) h) t (omega arith)
 still s h (suc k) t low is (inl early) =
     let short = before s h (suc k) low is (suc k) (omega arith) (omega arith) in
     let ahead = ((start_splits s (suc k) t).0 early).1 in
-    clip-keeps (min (suc (suc k) * s) h) t (omega arith) ∙ sym (clip-keeps (min (suc k * s) h) t (omega arith))
+    clip_keeps (min (suc (suc k) * s) h) t (omega arith) ∙ sym (clip_keeps (min (suc k * s) h) t (omega arith))
 still s h (suc k) t low is (inr past) =
     clip_loses (min (suc (suc k) * s) h) t (omega arith) ∙ sym (clip_loses (min (suc k * s) h) t (omega arith))
 
 -- and alters one in it
 pub moves : (s h k t : ℕ) → 1 ≤ s → h < never → suc k ≡ strides s h → span_start s (suc k) ≤ t → t ≤ h → time_after s h k t ≢ time_after s h (suc k) t
 unfolding time_after
-moves s h zero t low far is from to same = omega (arith, clip-keeps (min (1 * s) h) t (omega (arith, comes s h 0 low is)))
+moves s h zero t low far is from to same = omega (arith, clip_keeps (min (1 * s) h) t (omega (arith, comes s h 0 low is)))
 moves s h (suc k) t low far is from to same =
     omega (
       arith,
       clip_loses (min (suc k * s) h) t (omega (arith, (start_splits s (suc k) t).1 from (omega arith))),
-      clip-keeps (min (suc (suc k) * s) h) t (omega (arith, comes s h (suc k) low is)),
+      clip_keeps (min (suc (suc k) * s) h) t (omega (arith, comes s h (suc k) low is)),
     )
 
 -- ---- SOME TIME of a list is in a span

@@ -113,8 +113,8 @@ module _ (w w' : List ℕ) (m n : ℕ) (h : (j : ℕ) → j < 2 * n → get_or w
   unfolding place
   same_place c l = ap (λ x. x / 65536) (h (2 * c + 1) (omega arith))
 
-  heap-keeps : Heap w m n → Heap w' m n
-  heap-keeps hp = record {
+  heap_keeps : Heap w m n → Heap w' m n
+  heap_keeps hp = record {
     few = hp.few;
     fits = hp.fits;
     cells = λ i l. omega (arith, same-cell i (omega (arith, hp.fits)), hp.cells i l);
@@ -134,14 +134,14 @@ module _ (w w' : List ℕ) (m n : ℕ) (h : (j : ℕ) → j < 2 * n → get_or w
 
 keys-keep : (w w' : List ℕ) (m n : ℕ) → ((j : ℕ) → j < 2 * n → get_or w' j 0 ≡ get_or w j 0) → Heap w m n → (d : ℕ) → keys w' m d ≡ keys w m d
 keys-keep w w' m n h hp d =
-    keys-same hp (heap-keeps w w' m n h hp) d (λ y. sits-kept w w' m n h hp.fits) (λ y. sits-kept w' w m n (λ j l. sym (h j l)) hp.fits)
+    keys-same hp (heap_keeps w w' m n h hp) d (λ y. sits-kept w w' m n h hp.fits) (λ y. sits-kept w' w m n (λ j l. sym (h j l)) hp.fits)
 
 module _ (w : List ℕ) (m n i x : ℕ) (l : 2 * n ≤ i) (hp : Heap w m n) where
   kept : (j : ℕ) → j < 2 * n → get_or (set w i x) j 0 ≡ get_or w j 0
   kept j b = get_or-set_other w i j x 0 (omega arith)
 
   pub heap-past : Heap (set w i x) m n
-  heap-past = heap-keeps w (set w i x) m n kept hp
+  heap-past = heap_keeps w (set w i x) m n kept hp
 
   pub keys_past : (d : ℕ) → keys (set w i x) m d ≡ keys w m d
   keys_past = keys-keep w (set w i x) m n kept hp

@@ -56,8 +56,8 @@ module _ (f : List ℕ) (count : ℕ) (old : List Start) where
         go zero g = refl
         go (suc k) g = length-take-le (suc k) (starts_in f) (omega (arith, count-starts f, (g (omega arith)).1))
 
-    pub read-long : (i : ℕ) → length (read_to i) ≡ length old
-    read-long i = same_length all old i (omega (arith, all-long, room))
+    pub read_long : (i : ℕ) → length (read_to i) ≡ length old
+    read_long i = same_length all old i (omega (arith, all-long, room))
 
     pub read_done : (i : ℕ) → count ≤ i → read_to i ≡ take count (starts_in f) ++ drop count old
     read_done i h = all-filled all old i (omega (arith, all-long)) ∙ ap (λ (k : ℕ). all ++ drop k old) all-long

@@ -11,7 +11,7 @@ use Rattle.eikonal.specs.declared.Refusal.{Refusal}
 use Rattle.eikonal.proofs.Causes.{NoneMet, none-met, unrefused, number_is}
 use Rattle.tablet.specs.Small.{small_causes, small_refusal}
 use Rattle.rings_lines.specs.Put.{Put}
-use Rattle.rings_lines.specs.Rings.{refused_line, rings_causes, rings_refusal, board_lines, lines, room, Rings-says}
+use Rattle.rings_lines.specs.Rings.{refused_line, rings_causes, rings_refusal, board_lines, lines, room, RingsSays}
 
 pub small-file : (f : List ℕ) → (rings_refusal f).number ≡ 0 → (small_refusal f).number ≡ 0
 unfolding NoneMet rings_refusal rings_causes small_refusal
@@ -27,10 +27,10 @@ unfolding lines
 lines-refused f k e n = rw (← e, ne_eqb k.number 0 n) refl
 
 -- ---- the answer
-pub says-short : (f out : List ℕ) → length out < room → Rings-says f out out 0
+pub says-short : (f out : List ℕ) → length out < room → RingsSays f out out 0
 says-short f out h = let e = lt-ltb (length out) room h in record { answers = rw e refl; leaves = rw e refl; within = omega arith; counts = refl }
 
-pub says-lines : (f : List ℕ) {out now xs : List ℕ} {r : ℕ} → room ≤ length out → xs ≡ lines f → Put out 0 xs now r → r ≤ length out → Rings-says f out now r
+pub says-lines : (f : List ℕ) {out now xs : List ℕ} {r : ℕ} → room ≤ length out → xs ≡ lines f → Put out 0 xs now r → r ≤ length out → RingsSays f out now r
 says-lines f {out} {now} {xs} {r} h e p m =
     let fits : 0 + length xs ≤ length out = omega (arith, p.place) in
     let none : 0 + length xs ≡ length xs = omega arith in

@@ -54,7 +54,7 @@ abbrev pub room : ℕ
 room = 11300
 
 -- a list with that much room begins with the lines, and its later bytes stay; a shorter one stays whole, and the answer is 0
-pub record Rings-says (f out out-now : List ℕ) (r : ℕ) : Type 0 where
+pub record RingsSays (f out out-now : List ℕ) (r : ℕ) : Type 0 where
   pub answers : r ≡ cond (ltb (length out) room) 0 (length (lines f))
   pub leaves : out-now ≡ cond (ltb (length out) room) out (lines f ++ drop (length (lines f)) out)
   -- these two follow from the others: whoever lends the first r bytes on finds them here

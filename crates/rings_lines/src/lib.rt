@@ -8,7 +8,7 @@ ghost use Rattle.eikonal.specs.Board.{marched};
 ghost use Rattle.scenario.specs.File.{held, ticks_good};
 ghost use Rattle.tablet.specs.Small.{horizon, small_refusal};
 ghost use Rattle.rings_lines.specs.Put.{Put};
-ghost use Rattle.rings_lines.specs.Rings.{turn_text, behind, rows, head_line, refused_line, rings_refusal, board_lines, room, Rings-says};
+ghost use Rattle.rings_lines.specs.Rings.{turn_text, behind, rows, head_line, refused_line, rings_refusal, board_lines, room, RingsSays};
 
 use eikonal::{NEVER, Refusal, cause};
 use scenario::heads::{board_size, head_of};
@@ -120,7 +120,7 @@ fn put_board(out: &mut [u8], file: &[u8]) -> usize
 
 // Writes the lines of a file and answers their length; later bytes stay. A list under 11,300 bytes is left as it was.
 pub fn rings_lines(file: &[u8], out: &mut [u8]) -> usize
-    ensures { Rings-says file.now out.old out.new result }
+    ensures { RingsSays file.now out.old out.new result }
 {
     if out.len() < 11300 {
         return 0;

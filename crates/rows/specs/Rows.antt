@@ -33,7 +33,7 @@ pub record Pillar (wide high top bottom left right c : ℕ) : Type 0 where
   pub right_most : c % wide < right
 
 -- those of them in the rows before one
-pub record Pillar-before (wide high top bottom left right row c : ℕ) : Type 0 where
+pub record PillarBefore (wide high top bottom left right row c : ℕ) : Type 0 where
   pub is : Pillar wide high top bottom left right c
   pub before : c / wide < row
 

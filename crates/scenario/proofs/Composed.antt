@@ -27,7 +27,7 @@ use Rattle.scenario.proofs.Slows.{good-among, ground_alone}
 use Rattle.scenario.proofs.Painted.{painted-among}
 use Rattle.scenario.proofs.Causes.{pass_ticks, Given, gives, board-taken, Accepted, accepted}
 use Rattle.scenario.proofs.Answers.{reader-number, reader-zero, filled_in}
-use Rattle.scenario.proofs.Reading.{slow_length, count-starts, count-cells, count-begins, read-zero}
+use Rattle.scenario.proofs.Reading.{slow_length, count-starts, count-cells, count-begins, read_zero}
 use Rattle.scenario.proofs.Writing.{Taken, causes, took}
 use Rattle.scenario.proofs.Accepted.{accepted-is-file_of}
 use Rattle.scenario.proofs.Written.{file_of-is-accepted}
@@ -88,7 +88,7 @@ read f slow slow-now cells cells-now begins begins-now x r z =
     let q = min (length cells) (length begins) in
     let k = reader_refusal f (length slow) q in
     let none : k.number ≡ 0 = sym (reader-number k f) ∙ ap (λ u. u.number) (sym r.answers) ∙ z in
-    let e = (read-zero f (length slow) q none).0 in
+    let e = (read_zero f (length slow) q none).0 in
     record {
       accepted = e;
       is = r.answers ∙ reader-zero k f none;

@@ -9,10 +9,10 @@ use lib.Dec.{ltb}
 use Rattle.eikonal.specs.Board.{size}
 use Rattle.eikonal.specs.Order.{Cause, caused, cause, none, first_of, rank, rank_in, follows, InOrder}
 use Rattle.eikonal.specs.Refusals.{Handed, board_causes, pair_causes, record_causes, start_causes}
-use Rattle.eikonal.specs.Promise.{First-at-fault}
+use Rattle.eikonal.specs.Promise.{FirstAtFault}
 use Rattle.eikonal.specs.declared.Start.{Start}
 use Rattle.eikonal.specs.declared.Refusal.{Refusal}
-use Rattle.eikonal.proofs.Places.{all_plain, in_front, in_the_rear, Tells, tells, tells_none, tells-answer}
+use Rattle.eikonal.proofs.Places.{all_plain, in_front, in_the_rear, Tells, tells, tells_none, tells_answer}
 use Rattle.scenario.specs.File.{held, ticks_good, front_causes, rest_causes, file_causes}
 use Rattle.scenario.specs.Turns.{turn_refusal}
 use Rattle.scenario.specs.Calls.{scenario, scenario_of, reader_causes, reader_refusal, reader_answer, written, writer_causes, writer_refusal}
@@ -36,7 +36,7 @@ reader_place f slow slow-now cells cells-now begins begins-now x r =
     xs : List Start
     xs = (held f).starts
 
-    answers : (k : Refusal) → Tells n xs k → First-at-fault n xs (reader_answer k f).number (reader_answer k f).place
+    answers : (k : Refusal) → Tells n xs k → FirstAtFault n xs (reader_answer k f).number (reader_answer k f).place
     answers k t = elim (ℕ_discrete k.number 0) [
       | yes z ↦ rw (reader-zero k f z) (tells_none n xs k z t)
       | no d ↦ rw (reader-refused k f d) t
@@ -64,4 +64,4 @@ writer_in_order p t g n = in_order p g (ltb n (length (written p t g))) (not (ti
 pub writer_place : WriterPlace
 unfolding WriterPlace writer_refusal writer_causes turn_refusal first_of by-ticks
 writer_place p t g out out-now y w =
-    rw w.answers (tells-answer _ _ _ _ (says p g (ltb (length out) (length (written p t g))) (not (ticks_good t))))
+    rw w.answers (tells_answer _ _ _ _ (says p g (ltb (length out) (length (written p t g))) (not (ticks_good t))))

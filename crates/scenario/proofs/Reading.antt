@@ -46,25 +46,25 @@ module _ (f : List ℕ) (x : Head) (e : x ≡ head_in f) where
   pub file_long : Headed f → length f ≡ file_size x.runs x.starts
   file_long h = rw e h.long
 
-  pub sides-read : Headed f → (x.width ≤ 256) × (x.height ≤ 256)
-  sides-read h = let s = sides-within _ _ h.sides in rw e (s.1, s.3)
+  pub sides_read : Headed f → (x.width ≤ 256) × (x.height ≤ 256)
+  sides_read h = let s = sides-within _ _ h.sides in rw e (s.1, s.3)
 
-  pub cells-read : (n : ℕ) → n ≡ x.width * x.height * x.storeys → n ≡ size (held f)
+  pub cells_read : (n : ℕ) → n ≡ x.width * x.height * x.storeys → n ≡ size (held f)
   unfolding held size
-  cells-read n p = rw e at p
+  cells_read n p = rw e at p
 
-  pub runs-read : (n : ℕ) → n ≡ x.runs → records run_size run_in n (drop head_size f) ≡ runs_in f
+  pub runs_read : (n : ℕ) → n ≡ x.runs → records run_size run_in n (drop head_size f) ≡ runs_in f
   unfolding runs_in
-  runs-read n p = rw (p, e)
+  runs_read n p = rw (p, e)
 
-  pub starts-read : (n base : ℕ) → n ≡ x.starts → base ≡ runs_end x.runs → records start_size start_in n (drop base f) ≡ starts_in f
+  pub starts_read : (n base : ℕ) → n ≡ x.starts → base ≡ runs_end x.runs → records start_size start_in n (drop base f) ≡ starts_in f
   unfolding starts_in
-  starts-read n base p q = rw (p, q, e)
+  starts_read n base p q = rw (p, q, e)
 
 -- ---- the call
-pub read-zero : (f : List ℕ) (n q : ℕ) → (reader_refusal f n q).number ≡ 0 → ((file_refusal f).number ≡ 0) × (room_good (head_in f) n q ≡ true)
+pub read_zero : (f : List ℕ) (n q : ℕ) → (reader_refusal f n q).number ≡ 0 → ((file_refusal f).number ≡ 0) × (room_good (head_in f) n q ≡ true)
 unfolding reader_refusal reader_causes file_refusal NoneMet
-read-zero f n q e =
+read_zero f n q e =
     let r = neither _ _ (sym (number_is (first-append (file_causes f) (caused 14 _ ∷ []))) ∙ e) in
     (r.0, not-false _ (none-met (caused 14 _ ∷ []) r.1).0)
 
@@ -77,7 +77,7 @@ pub record Room (f : List ℕ) (n q : ℕ) : Type 0 where
 pub room : (f : List ℕ) (n q : ℕ) (x : Scenario) → x ≡ reader_answer (reader_refusal f n q) f → x.number ≡ 0 → Room f n q
 unfolding room_good held size
 room f n q x e z =
-    let r = read-zero f n q (sym (reader-number (reader_refusal f n q) f) ∙ ap (λ u. u.number) (sym e) ∙ z) in
+    let r = read_zero f n q (sym (reader-number (reader_refusal f n q) f) ∙ ap (λ u. u.number) (sym e) ∙ z) in
     let s = and-true (leb (size (held f)) n) (leb (start_count f) q) r.1 in
     record { accepted = r.0; slows = leb-true (size (held f)) n s.0; starts = leb-true (start_count f) q s.1 }
 

@@ -4,7 +4,7 @@ use Rattle.eikonal.specs.Board.{Board, size, largest}
 use Rattle.eikonal.specs.Order.{InOrder, none}
 use Rattle.eikonal.specs.Refusals.{Handed, house_refusal, board_refusal, by_lists}
 use Rattle.eikonal.specs.Ledger.{answer}
-use Rattle.eikonal.specs.Promise.{First-at-fault}
+use Rattle.eikonal.specs.Promise.{FirstAtFault}
 use Rattle.eikonal.specs.declared.Reply.{Reply}
 use Rattle.scenario.specs.Bytes.{Bytes}
 use Rattle.scenario.specs.File.{file_of, head_in, held, ticks_good, file_refusal}
@@ -60,12 +60,12 @@ WriterInOrder = (p : Handed) (t g out : ℕ) → InOrder (writer_causes p t g ou
 unfoldable pub ReaderPlace : Type 0
 ReaderPlace =
     (f slow slow-now cells cells-now begins begins-now : List ℕ) (x : Scenario) → Reads f slow slow-now cells cells-now begins begins-now x →
-    First-at-fault (size (held f)) (held f).starts x.number x.place
+    FirstAtFault (size (held f)) (held f).starts x.number x.place
 
 unfoldable pub WriterPlace : Type 0
 WriterPlace =
     (p : Handed) (t g : ℕ) (out out-now : List ℕ) (y : Reply) → Writes p t g out out-now y →
-    First-at-fault (size p.board) p.board.starts y.number y.place
+    FirstAtFault (size p.board) p.board.starts y.number y.place
 
 -- THE TURN OF A TIME that is not never closes then, or less than a turn later: turn × ticks is exactly the time and the ticks to go
 unfoldable pub TurnCloses : Type 0

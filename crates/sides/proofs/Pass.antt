@@ -28,8 +28,8 @@ use Rattle.front.specs.declared.Shape.{Shape}
 use Rattle.front.proofs.Theory.Reading.{place-behind, place_ahead, measured}
 use Rattle.front.proofs.Theory.Reading.{cells-most, cells-size, lines-most, rows_whole, storey_most}
 use Rattle.sides.specs.Row.{flat, Even}
-use Rattle.sides.specs.Pass.{Off, Lines, Seen-row, Legal, seen_at, flat_at, stack_at, found_at, Done, Some-land, Found-whole, Ghosts}
-use Rattle.sides.specs.Pass.{own_part, far_part, Laid, Found-round}
+use Rattle.sides.specs.Pass.{Off, Lines, SeenRow, Legal, seen_at, flat_at, stack_at, found_at, Done, SomeLand, FoundWhole, Ghosts}
+use Rattle.sides.specs.Pass.{own_part, far_part, Laid, FoundRound}
 use Rattle.sides.proofs.Seen.{row_ends, house_is, flat-all}
 
 -- ---- A ROW of a legal board, its lists lent in parts
@@ -100,7 +100,7 @@ module _ {s : Shape} {own far off cols rows sides : List ℕ} (lg : Legal s own 
         under q (inr k) = omega (arith, k)
 
   -- its part of the sides goes with its own times and two rows beside it
-  pub even : {m k a b : ℕ} {up dn : List ℕ} → Seen-row m own far a s.width up → Seen-row k own far b s.width dn
+  pub even : {m k a b : ℕ} {up dn : List ℕ} → SeenRow m own far a s.width up → SeenRow k own far b s.width dn
       → Even (length (take (stop - start) (drop start sides))) (take (stop - start) (drop start own)) up dn
   even p q =
       let e = ends in
@@ -239,10 +239,10 @@ off-take {w} v l h = record {
 abbrev covered : Shape → Shape
 covered s = record { width = s.width; height = s.height; storeys = s.storeys; across = 256; down = 256; cells = s.cells }
 
-pub land-wide : {s : Shape} {times work sides : List ℕ} → Some-land s times work sides → s.width ≤ length work
+pub land-wide : {s : Shape} {times work sides : List ℕ} → SomeLand s times work sides → s.width ≤ length work
 land-wide {s} la = omega (arith, la.room, wide-few s la.good la.cells)
 
-module _ {s : Shape} {times work sides now : List ℕ} (la : Some-land s times work sides) (fi : Filled 0 s.width never work now) where
+module _ {s : Shape} {times work sides now : List ℕ} (la : SomeLand s times work sides) (fi : Filled 0 s.width never work now) where
   pub whole-legal : {cols rows : List ℕ} → Marked s.width 256 1 cols → Marked s.height 256 s.storeys rows
       → Legal (covered s) times times (take s.width now) cols rows sides
   whole-legal lc lr = record {
@@ -263,7 +263,7 @@ module _ {s : Shape} {times work sides now : List ℕ} (la : Some-land s times w
   }
 
   pub whole-found : {m : ℕ} {found : List ℕ} → Done (found_at (covered s) times times m) 0 s.cells sides found
-      → Found-whole s m times work now sides found
+      → FoundWhole s m times work now sides found
   whole-found {m} d = record {
     kept = fi.long;
     rest = λ j l. fi.outside j (inr l);
@@ -336,7 +336,7 @@ module _ {s : Shape} {slow stored cols rows work now then : List ℕ} (gr : Grou
   as_stored d e = counts_as (land s slow) stored e
 
   pub round-found : {m : ℕ} {sides found : List ℕ} → Done (found_at s (own_part s then) (far_part s then) m) 0 s.cells sides found
-      → Found-round s slow stored m work then sides found
+      → FoundRound s slow stored m work then sides found
   unfolding tile_of sides_by sides_seen
   round-found {m} d = record {
     kept = gh.long ∙ fi.long;

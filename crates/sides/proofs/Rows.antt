@@ -21,7 +21,7 @@ use Rattle.front.specs.Seams.{seam, edge, inside, across}
 use Rattle.front.specs.Board.{Marked}
 use Rattle.front.proofs.Theory.Seams.{seam-edge, seam-border, seam-inside}
 use Rattle.front.proofs.Theory.Reading.{across-inside}
-use Rattle.sides.specs.Row.{flat, Even, Set, Set-inner, left_of, right_of, on_storey, Part, Set-ends, Found-flat}
+use Rattle.sides.specs.Row.{flat, Even, Set, SetInner, left_of, right_of, on_storey, Part, SetEnds, FoundFlat}
 
 -- ---- entries worked out from the front: those before i are, those from i on are as they were
 pub record Worked (f : ℕ → ℕ) (i : ℕ) (old new : List ℕ) : Type 0 where
@@ -76,7 +76,7 @@ module _ {own above below : List ℕ} (sides : List ℕ) (e : Even (length sides
   pub inner-set : {bound : ℕ} {part : List ℕ}
       → Set bound (inner (length own) own) (take (length own - 2) own) (mid_of 2 (length own - 2) own) (inner (length own) above) (inner (length own) below)
       (inner (length own) sides) part
-      → Set-inner bound own above below sides (put_mid 1 (length own - 1 - 1) sides part)
+      → SetInner bound own above below sides (put_mid 1 (length own - 1 - 1) sides part)
   inner-set {bound} {part} r =
       let n = length own in
       let here = mid_len 1 (n - 1) sides (omega (arith, e.own)) in
@@ -167,7 +167,7 @@ flat_of u d e p q o = cc
 
 module _ {s m : ℕ} {own far above below sides : List ℕ} {from last : ℕ} where
   pub ends_one : {x : ℕ} → from ≡ last → from < length sides → x ≡ on_storey s m own far above below from
-      → Set-ends s m own far above below from last sides (set sides from x)
+      → SetEnds s m own far above below from last sides (set sides from x)
   ends_one {x} q l e = record {
     long = length-set sides from x;
     first = there;
@@ -179,7 +179,7 @@ module _ {s m : ℕ} {own far above below sides : List ℕ} {from last : ℕ} wh
       there = get_or-set_same sides from x 0 l ∙ e
 
   pub ends_two : {x y : ℕ} → from ≢ last → from < length sides → last < length sides → x ≡ on_storey s m own far above below from
-      → y ≡ on_storey s m own far above below last → Set-ends s m own far above below from last sides (set (set sides from x) last y)
+      → y ≡ on_storey s m own far above below last → SetEnds s m own far above below from last sides (set (set sides from x) last y)
   ends_two {x} {y} q l h e f =
       let once = set sides from x in
       record {
@@ -190,7 +190,7 @@ module _ {s m : ℕ} {own far above below sides : List ℕ} {from last : ℕ} wh
       }
 
 -- ---- PART AFTER PART: the cells before `col` have their sides, and so have those that see their own tile alone
-pub record Found-before (s m : ℕ) (own far above below : List ℕ) (col : ℕ) (sides : List ℕ) : Type 0 where
+pub record FoundBefore (s m : ℕ) (own far above below : List ℕ) (col : ℕ) (sides : List ℕ) : Type 0 where
   pub upto : col ≤ length own
   pub begins : col < length own → col % s ≡ 0
   pub long : length sides ≡ length own
@@ -199,7 +199,7 @@ pub record Found-before (s m : ℕ) (own far above below : List ℕ) (col : ℕ)
       → get_or sides i 0 ≡ on_storey s m own far above below i
 
 module _ {s m : ℕ} {own far above below : List ℕ} where
-  pub found_none : {old sides : List ℕ} → length old ≡ length own → Set-inner m own above below old sides → Found-before s m own far above below 0 sides
+  pub found_none : {old sides : List ℕ} → length old ≡ length own → SetInner m own above below old sides → FoundBefore s m own far above below 0 sides
   found_none {old} {sides} e r = record {
     upto = omega arith;
     begins = λ l. zero-mod s;
@@ -216,8 +216,8 @@ module _ {s m : ℕ} {own far above below : List ℕ} where
           let back : suc i - 1 ≡ i = omega arith in
           rw (across-inside _ (get_or own (suc i - 1) 0) _ a, across-inside _ (get_or own (suc (suc i)) 0) _ b, back) (r.each i (omega (arith, e, more)))
 
-  module _ {col end : ℕ} {old sides : List ℕ} (f : Found-before s m own far above below col old) (some : 1 ≤ s) (l : col < length own)
-      (e : end ≡ min (col + s) (length own)) (r : Set-ends s m own far above below col (end - 1) old sides) where
+  module _ {col end : ℕ} {old sides : List ℕ} (f : FoundBefore s m own far above below col old) (some : 1 ≤ s) (l : col < length own)
+      (e : end ≡ min (col + s) (length own)) (r : SetEnds s m own far above below col (end - 1) old sides) where
     -- a cell at neither end is as it was
     at : (i : ℕ) → (i ≢ col → i ≢ end - 1 → get_or old i 0 ≡ on_storey s m own far above below i) → get_or sides i 0 ≡ on_storey s m own far above below i
     at i h = elim (ℕ_discrete i col) [
@@ -228,7 +228,7 @@ module _ {s m : ℕ} {own far above below : List ℕ} where
       ]
     ]
 
-    pub found-more : Found-before s m own far above below end sides
+    pub found-more : FoundBefore s m own far above below end sides
     found-more = record {
       upto = omega arith;
       begins = next-begins some l (f.begins l) e;
@@ -245,6 +245,6 @@ module _ {s m : ℕ} {own far above below : List ℕ} where
         go i h p q (inr k) =
             f.within i (omega arith) (part.within i (omega (arith, p)) (omega arith)) (part.within (suc i) (omega arith) (omega (arith, q)))
 
-  pub found : {col : ℕ} {old sides : List ℕ} → length old ≡ length own → length own ≤ col → Found-before s m own far above below col sides
-      → Found-flat s m own far above below old sides
+  pub found : {col : ℕ} {old sides : List ℕ} → length old ≡ length own → length own ≤ col → FoundBefore s m own far above below col sides
+      → FoundFlat s m own far above below old sides
   found e l f = record { long = f.long ∙ sym e; each = λ i h. f.before i (omega (arith, e)) }

@@ -27,20 +27,20 @@ use Rattle.front.proofs.Theory.Seams.{seam-edge, columns_straight, rows_straight
 use Rattle.front.proofs.Theory.Reading.{across-edge, across-inside, across-border, place-behind, marked-back, marked-on, measured}
 use Rattle.front.proofs.Theory.Reading.{rows_whole, column-at, line_at, under_mark, over_mark}
 use Rattle.sides.specs.Row.{shown, left_of, right_of, on_storey}
-use Rattle.sides.specs.Pass.{Off, Seen-row, flat_at, stack_at, found_at}
+use Rattle.sides.specs.Pass.{Off, SeenRow, flat_at, stack_at, found_at}
 
 -- ---- WHAT A ROW SEES across a seam: never, a part of its own tile's times, or a part of those beyond borders
 module _ {own far : List ℕ} {m e w : ℕ} where
-  pub row-off : {off : List ℕ} → m ≡ edge → Off w off → Seen-row m own far e w (take w off)
+  pub row-off : {off : List ℕ} → m ≡ edge → Off w off → SeenRow m own far e w (take w off)
   row-off {off} q o = record {
     long = length-take-le w off o.long;
     each = λ i l. get_or-take w off i 0 l ∙ o.never i l ∙ sym (across-edge m _ _ q);
   }
 
-  pub row-own : m ≡ 2 → e + w ≤ length own → Seen-row m own far e w (take (e + w - e) (drop e own))
+  pub row-own : m ≡ 2 → e + w ≤ length own → SeenRow m own far e w (take (e + w - e) (drop e own))
   row-own q l = record { long = part-long own e w l; each = λ i h. part_at own e w i h ∙ sym (across-inside m _ _ q) }
 
-  pub row-far : m ≢ edge → m ≢ 2 → e + w ≤ length far → Seen-row m own far e w (take (e + w - e) (drop e far))
+  pub row-far : m ≢ edge → m ≢ 2 → e + w ≤ length far → SeenRow m own far e w (take (e + w - e) (drop e far))
   row-far p q l = record { long = part-long far e w l; each = λ i h. part_at far e w i h ∙ sym (across-border m _ _ p q) }
 
 -- what is seen across a seam, from entries that matter only where it is not the edge
@@ -142,18 +142,18 @@ module _ {s : Shape} {slow own cols rows : List ℕ} (gr : Ground s slow own col
             part_at v from w (suc i) (omega (arith, l, some)) ∙ ap (λ (u : ℕ). get_or v u 0) at
 
     -- in a row that is seen across a seam, from e on
-    row_seen : {k e d : ℕ} {r : List ℕ} → Seen-row k own far e w r → (k ≢ edge → e + i ≡ d) → get_or r i 0 ≡ across k (time_of d) (ghost c d)
+    row_seen : {k e d : ℕ} {r : List ℕ} → SeenRow k own far e w r → (k ≢ edge → e + i ≡ d) → get_or r i 0 ≡ across k (time_of d) (ghost c d)
     row_seen {k} sr h =
         sr.each i l ∙ across-same k _ _ _ _ (λ q. (ap (λ (u : ℕ). get_or own u 0) (h q), ap (λ (u : ℕ). get_or far u 0) (h q)))
 
-    above-seen : {r : List ℕ} → Seen-row (get_or rows row 0) own far (from + 0 - w) w r → get_or r i 0 ≡ before (row_axis board) c seen
+    above-seen : {r : List ℕ} → SeenRow (get_or rows row 0) own far (from + 0 - w) w r → get_or r i 0 ≡ before (row_axis board) c seen
     above-seen sr =
         row_seen sr (λ q. omega (arith, mul-le-mul_right w (place-behind gr.lines line q)))
         ∙ ap (λ (k : ℕ). across k (time_of (c - w)) (ghost c (c - w)))
         (marked-back (cut (row_axis board) s.down) c gr.lines (line_at gr measured site) line)
         ∙ sees_back (rows_straight gr.good s.across s.down gr.across gr.down) c ghost time_of
 
-    below-seen : {r : List ℕ} → Seen-row (get_or rows (row + 1) 0) own far (from + w - 0) w r → get_or r i 0 ≡ behind (row_axis board) c seen
+    below-seen : {r : List ℕ} → SeenRow (get_or rows (row + 1) 0) own far (from + w - 0) w r → get_or r i 0 ≡ behind (row_axis board) c seen
     below-seen sr =
         row_seen sr (λ q. omega arith)
         ∙ ap (λ (k : ℕ). across k (time_of (c + w)) (ghost c (c + w)))
@@ -188,7 +188,7 @@ module _ {s : Shape} {slow own cols rows : List ℕ} (gr : Ground s slow own col
               let past : s.cells ≤ from + area = omega (arith, mul-le-mul_right w k, turned, rows_whole gr) in
               rw (le-ltb (from + area) s.cells past, le-ltb (c + area) s.cells (omega (arith, past)))
 
-      under-seen : {r : List ℕ} → Seen-row (mark_under area from) own far (from + 0 - area) w r → get_or r i 0 ≡ before (storey_axis board) c seen
+      under-seen : {r : List ℕ} → SeenRow (mark_under area from) own far (from + 0 - area) w r → get_or r i 0 ≡ before (storey_axis board) c seen
       under-seen sr =
           row_seen sr (λ q. omega (arith, past q))
           ∙ ap (λ (k : ℕ). across k (time_of (c - area)) (ghost c (c - area))) (under-row ∙ under_mark gr measured site storey)
@@ -202,7 +202,7 @@ module _ {s : Shape} {slow own cols rows : List ℕ} (gr : Ground s slow own col
               go (inl k) = absurd (q (rw (lt-ltb from area k)))
               go (inr k) = k
 
-      over-seen : {r : List ℕ} → Seen-row (mark_over s.cells area from) own far (from + area - 0) w r → get_or r i 0 ≡ behind (storey_axis board) c seen
+      over-seen : {r : List ℕ} → SeenRow (mark_over s.cells area from) own far (from + area - 0) w r → get_or r i 0 ≡ behind (storey_axis board) c seen
       over-seen sr =
           row_seen sr (λ q. omega arith)
           ∙ ap (λ (k : ℕ). across k (time_of (c + area)) (ghost c (c + area))) (over-row ∙ over_mark gr measured site storey)
@@ -210,14 +210,14 @@ module _ {s : Shape} {slow own cols rows : List ℕ} (gr : Ground s slow own col
           ∙ sees-on (storeys_straight gr.good s.across s.down gr.across gr.down) c ghost time_of
 
     -- ---- so its sides on its storey
-    pub flat-is : {up dn : List ℕ} → Seen-row (get_or rows row 0) own far (from + 0 - w) w up → Seen-row (get_or rows (row + 1) 0) own far (from + w - 0) w dn
+    pub flat-is : {up dn : List ℕ} → SeenRow (get_or rows row 0) own far (from + 0 - w) w up → SeenRow (get_or rows (row + 1) 0) own far (from + w - 0) w dn
         → on_storey s.across m (part own) (part far) up dn i ≡ flat_at s own far m c
     unfolding tile_of
     flat-is above below = rw (left-seen, right-seen, above-seen above, below-seen below, own_at)
 
     -- its side between storeys
-    pub stack_is : {area : ℕ} {ov un : List ℕ} → area ≡ s.width * s.height → Seen-row (mark_over s.cells area from) own far (from + area - 0) w ov
-        → Seen-row (mark_under area from) own far (from + 0 - area) w un
+    pub stack_is : {area : ℕ} {ov un : List ℕ} → area ≡ s.width * s.height → SeenRow (mark_over s.cells area from) own far (from + area - 0) w ov
+        → SeenRow (mark_under area from) own far (from + 0 - area) w un
         → side (get_or ov i 0) (get_or un i 0) (shown m (get_or (part own) i 0)) ≡ stack_at s own far m c
     unfolding tile_of
     stack_is storey over under = rw (over-seen storey over, under-seen storey under, own_at)

@@ -25,7 +25,7 @@ pub record Lines (seam : ℕ) (own far : List ℕ) (c less more w : ℕ) : Type 
   pub far_fits : seam ≢ edge → c + more + w ≤ length far + less
 
 -- what is seen there, cell by cell
-pub record Seen-row (seam : ℕ) (own far : List ℕ) (e w : ℕ) (row : List ℕ) : Type 0 where
+pub record SeenRow (seam : ℕ) (own far : List ℕ) (e w : ℕ) (row : List ℕ) : Type 0 where
   pub long : length row ≡ w
   pub each : (i : ℕ) → i < w → get_or row i 0 ≡ across seam (get_or own (e + i) 0) (get_or far (e + i) 0)
 
@@ -74,7 +74,7 @@ pub record Done (f : ℕ → ℕ) (lo hi : ℕ) (old new : List ℕ) : Type 0 wh
   pub others : (c : ℕ) → NotAmong lo hi c → get_or new c 0 ≡ get_or old c 0
 
 -- ---- A WHOLE BOARD, as if one tile covered it
-pub record Some-land (s : Shape) (times work sides : List ℕ) : Type 0 where
+pub record SomeLand (s : Shape) (times work sides : List ℕ) : Type 0 where
   pub slow : List ℕ
   pub good : Good (land s slow)
   pub cells : s.cells ≡ s.width * s.height * s.storeys
@@ -82,7 +82,7 @@ pub record Some-land (s : Shape) (times work sides : List ℕ) : Type 0 where
   pub room : 4 * s.cells ≤ length work
   pub long : length sides ≡ s.cells
 
-pub record Found-whole (s : Shape) (bound : ℕ) (times work work' sides sides' : List ℕ) : Type 0 where
+pub record FoundWhole (s : Shape) (bound : ℕ) (times work work' sides sides' : List ℕ) : Type 0 where
   pub kept : length work' ≡ length work
   pub rest : (j : ℕ) → s.width ≤ j → get_or work' j 0 ≡ get_or work j 0
   pub long : length sides' ≡ length sides
@@ -112,7 +112,7 @@ pub record Laid (s : Shape) (work cols rows sides : List ℕ) : Type 0 where
   pub off : (i : ℕ) → i < s.width → get_or work i 0 ≡ never
   pub long : length sides ≡ s.cells
 
-pub record Found-round (s : Shape) (slow stored : List ℕ) (bound : ℕ) (work work' sides sides' : List ℕ) : Type 0 where
+pub record FoundRound (s : Shape) (slow stored : List ℕ) (bound : ℕ) (work work' sides sides' : List ℕ) : Type 0 where
   pub kept : length work' ≡ length work
   pub rest : (j : ℕ) → 2 * s.cells ≤ j → get_or work' j 0 ≡ get_or work j 0
   pub long : length sides' ≡ length sides

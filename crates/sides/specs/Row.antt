@@ -25,7 +25,7 @@ pub record Set (bound : ℕ) (own left right above below sides sides' : List ℕ
       → get_or sides' i 0 ≡ flat (get_or left i 0) (get_or right i 0) (get_or above i 0) (get_or below i 0) (shown bound (get_or own i 0))
 
 -- all but the first and the last of a row see their own tile's times
-pub record Set-inner (bound : ℕ) (own above below sides sides' : List ℕ) : Type 0 where
+pub record SetInner (bound : ℕ) (own above below sides sides' : List ℕ) : Type 0 where
   pub long : length sides' ≡ length sides
   pub each : (i : ℕ) → suc (suc i) < length sides
       → get_or sides' (suc i) 0 ≡ flat (get_or own i 0) (get_or own (suc (suc i)) 0) (get_or above (suc i) 0) (get_or below (suc i) 0) (shown bound (get_or own (suc i) 0))
@@ -50,13 +50,13 @@ pub record Part (side w from last : ℕ) : Type 0 where
   pub within : (i : ℕ) → from < i → i ≤ last → seam w side i ≡ inside
 
 -- the cells at both its ends have their sides, all others are as they were
-pub record Set-ends (side bound : ℕ) (own far above below : List ℕ) (from last : ℕ) (sides sides' : List ℕ) : Type 0 where
+pub record SetEnds (side bound : ℕ) (own far above below : List ℕ) (from last : ℕ) (sides sides' : List ℕ) : Type 0 where
   pub long : length sides' ≡ length sides
   pub first : get_or sides' from 0 ≡ on_storey side bound own far above below from
   pub end : get_or sides' last 0 ≡ on_storey side bound own far above below last
   pub kept : (i : ℕ) → i ≢ from → i ≢ last → get_or sides' i 0 ≡ get_or sides i 0
 
-pub record Found-flat (side bound : ℕ) (own far above below sides sides' : List ℕ) : Type 0 where
+pub record FoundFlat (side bound : ℕ) (own far above below sides sides' : List ℕ) : Type 0 where
   pub long : length sides' ≡ length sides
   pub each : (i : ℕ) → i < length sides → get_or sides' i 0 ≡ on_storey side bound own far above below i
 

@@ -7,8 +7,8 @@ mod row;
 ghost use Rattle.std.specs.Prelude.{◌≡◌, ℕ, ◌+◌, ◌*◌, ◌-◌, ◌≤◌, ◌<◌, length, get_or};
 ghost use Rattle.front.specs.Front.{Among};
 ghost use Rattle.front.specs.Board.{Ground};
-ghost use Rattle.sides.specs.Pass.{Off, Lines, Seen-row, Legal, Stacked, flat_at, stack_at, found_at, Done, Some-land, Found-whole};
-ghost use Rattle.sides.specs.Pass.{Ghosts, own_part, far_part, Laid, Found-round};
+ghost use Rattle.sides.specs.Pass.{Off, Lines, SeenRow, Legal, Stacked, flat_at, stack_at, found_at, Done, SomeLand, FoundWhole};
+ghost use Rattle.sides.specs.Pass.{Ghosts, own_part, far_part, Laid, FoundRound};
 
 use eikonal::NEVER;
 use front::Shape;
@@ -28,7 +28,7 @@ fn row_at<'a>(
     w: usize,
 ) -> &'a [u32]
     requires { Off w off.now × Lines seam own.now far.now c less more w }
-    ensures { Seen-row seam own.now far.now (c + more - less) w result.now }
+    ensures { SeenRow seam own.now far.now (c + more - less) w result.now }
 {
     if seam == EDGE {
         return &off[..w];
@@ -147,8 +147,8 @@ fn find<'a>(
 // The same of times at the end of a march or a tile run, as if one tile covered the board: then nothing lies beyond a border. Of the work list the
 // front is used.
 pub fn find_whole(times: &[u32], work: &mut [u32], shape: Shape, bound: u32, sides: &mut [u8])
-    requires { Some-land shape times.now work.old sides.old }
-    ensures { Found-whole shape bound times.now work.old work.new sides.old sides.new }
+    requires { SomeLand shape times.now work.old sides.old }
+    ensures { FoundWhole shape bound times.now work.old work.new sides.old sides.new }
 {
     let w = shape.width;
     queue::lists::fill(work, 0, w, NEVER);
@@ -222,7 +222,7 @@ pub fn find_round(
 )
     requires { Ground shape slow.now times.now cols.now rows.now × (shape.across ≤ 256) × (4 * shape.cells ≤ length work.old)
         × (length sides.old ≡ shape.cells) }
-    ensures { Found-round shape slow.now times.now bound work.old work.new
+    ensures { FoundRound shape slow.now times.now bound work.old work.new
         sides.old sides.new }
 {
     queue::lists::fill(work, 0, shape.width, NEVER);

@@ -3,7 +3,7 @@ ghost use Rattle.std.specs.Prelude.{◌≡◌, cond, ℕ, ◌+◌, ◌-◌, ◌�
 ghost use Rattle.eikonal.specs.Board.{never};
 ghost use Rattle.front.specs.Seams.{edge};
 ghost use Rattle.front.specs.Board.{Marked};
-ghost use Rattle.sides.specs.Row.{Even, Set, Set-inner, Part, Set-ends, Found-flat, Added};
+ghost use Rattle.sides.specs.Row.{Even, Set, SetInner, Part, SetEnds, FoundFlat, Added};
 
 use arrival::{flat_sides, shown, side};
 use eikonal::NEVER;
@@ -36,7 +36,7 @@ fn set(
 // All cells but the first and the last, as if none were at a border.
 fn set_inner(sides: &mut [u8], own: &[u32], above: &[u32], below: &[u32], bound: u32)
     requires { Even (length sides.old) own.now above.now below.now }
-    ensures { Set-inner bound own.now above.now below.now sides.old sides.new }
+    ensures { SetInner bound own.now above.now below.now sides.old sides.new }
 {
     let w = own.len();
     if w < 3 {
@@ -89,7 +89,7 @@ fn set_ends(
 )
     requires { Even (length sides.old) own.now above.now below.now × (length far.now ≡ length sides.old)
         × Marked (length sides.old) across 1 cols.now × Part across (length sides.old) from last }
-    ensures { Set-ends across bound own.now far.now above.now below.now from last
+    ensures { SetEnds across bound own.now far.now above.now below.now from last
         sides.old sides.new }
 {
     let left = beyond_left(far, cols, from);
@@ -117,7 +117,7 @@ pub fn find_flat(
 )
     requires { Even (length sides.old) own.now above.now below.now × (length far.now ≡ length sides.old)
         × Marked (length sides.old) across 1 cols.now × (1 ≤ across) × (across ≤ 4294967295) }
-    ensures { Found-flat across bound own.now far.now above.now below.now
+    ensures { FoundFlat across bound own.now far.now above.now below.now
         sides.old sides.new }
 {
     set_inner(sides, own, above, below, bound);

@@ -15,7 +15,7 @@ use Rattle.eikonal.proofs.Good.{and-true}
 use Rattle.scenario.specs.File.{held}
 use Rattle.scenario.proofs.Answers.{kept, part-entered}
 use Rattle.tablet.specs.Small.{horizon, small_causes, small_refusal, Tiled}
-use Rattle.tablet.specs.Tablet.{tablet_causes, tablet_refusal, tablet_answer, times_bytes, Tablet-says}
+use Rattle.tablet.specs.Tablet.{tablet_causes, tablet_refusal, tablet_answer, times_bytes, TabletSays}
 
 pub record Taken (f : List ℕ) (s tw th n : ℕ) : Type 0 where
   pub accepted : (small_refusal f).number ≡ 0
@@ -35,7 +35,7 @@ taken f s tw th n e =
     }
 
 module _ (f : List ℕ) (s tw th : ℕ) (out : List ℕ) (k : Refusal) (e : k ≡ tablet_refusal f s tw th (length out)) where
-  pub says_refused : k.number ≢ 0 → Tablet-says f s tw th out out k.number
+  pub says_refused : k.number ≢ 0 → TabletSays f s tw th out out k.number
   unfolding tablet_answer
   says_refused n = record {
     answers = rw (← e, ne_eqb k.number 0 n) refl;
@@ -43,7 +43,7 @@ module _ (f : List ℕ) (s tw th : ℕ) (out : List ℕ) (k : Refusal) (e : k �
   }
 
   pub says-done : (r n : ℕ) (part : List ℕ) → k.number ≡ 0 → r ≡ rounds (held f) tw th s horizon → part ≡ times_bytes f
-      → length (times_bytes f) ≡ n → Tablet-says f s tw th out (part ++ drop n out) (r * 256)
+      → length (times_bytes f) ≡ n → TabletSays f s tw th out (part ++ drop n out) (r * 256)
   unfolding tablet_answer
   says-done r n part z q p l = record {
     answers = rw (← e, eq-eqb k.number 0 z) (ap (λ u. u * 256) q);

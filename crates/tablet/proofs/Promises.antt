@@ -19,7 +19,7 @@ use Rattle.scenario.specs.File.{held, front_causes, rest_causes}
 use Rattle.scenario.proofs.Causes.{board-taken}
 use Rattle.scenario.proofs.Composed.{held-given}
 use Rattle.tablet.specs.Small.{horizon, small_causes}
-use Rattle.tablet.specs.Tablet.{tablet_causes, tablet_refusal, tablet_answer, Tablet-says}
+use Rattle.tablet.specs.Tablet.{tablet_causes, tablet_refusal, tablet_answer, TabletSays}
 use Rattle.tablet.specs.Promise.{SmallInOrder, TabletInOrder, OneTileTabletCounts, OneTileTabletBeforehand}
 use Rattle.tablet.proofs.SmallFiles.{small, cells-few}
 use Rattle.tablet.proofs.Answers.{taken}
@@ -45,7 +45,7 @@ module _ (f : List ℕ) (s tw th n : ℕ) (e : (tablet_refusal f s tw th n).numb
   low : 1 ≤ s
   low = (taken f s tw th n e).tiles.least
 
-answers : (f : List ℕ) (s tw th : ℕ) (out out-now : List ℕ) (x : ℕ) → Tablet-says f s tw th out out-now x → (tablet_refusal f s tw th (length out)).number ≡ 0
+answers : (f : List ℕ) (s tw th : ℕ) (out out-now : List ℕ) (x : ℕ) → TabletSays f s tw th out out-now x → (tablet_refusal f s tw th (length out)).number ≡ 0
     → x ≡ rounds (held f) tw th s horizon * 256
 unfolding tablet_answer
 answers f s tw th out out-now x says e = says.answers ∙ rw e

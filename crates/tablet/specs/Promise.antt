@@ -6,7 +6,7 @@ use Rattle.eikonal.specs.Order.{InOrder}
 use Rattle.one_tile.specs.Rounds.{strides, exact_rounds}
 use Rattle.scenario.specs.File.{held}
 use Rattle.tablet.specs.Small.{horizon, small_causes}
-use Rattle.tablet.specs.Tablet.{tablet_causes, tablet_refusal, Tablet-says}
+use Rattle.tablet.specs.Tablet.{tablet_causes, tablet_refusal, TabletSays}
 
 -- THE CAUSES of a small file, and those of the call, follow the one order
 unfoldable pub SmallInOrder : Type 0
@@ -19,7 +19,7 @@ TabletInOrder = (f : List ℕ) (s tw th out : ℕ) → InOrder (tablet_causes f 
 unfoldable pub OneTileTabletCounts : Type 0
 OneTileTabletCounts =
     (f : List ℕ) (s tw th : ℕ) (out out-now : List ℕ) (x : ℕ) →
-    Tablet-says f s tw th out out-now x → (tablet_refusal f s tw th (length out)).number ≡ 0 →
+    TabletSays f s tw th out out-now x → (tablet_refusal f s tw th (length out)).number ≡ 0 →
     (held f).wide ≤ tw → (held f).high ≤ th →
     (x ≡ exact_rounds s horizon (solved (held f)) * 256) × (x ≡ exact_rounds s horizon (marched (held f) horizon) * 256)
 
@@ -27,5 +27,5 @@ OneTileTabletCounts =
 unfoldable pub OneTileTabletBeforehand : Type 0
 OneTileTabletBeforehand =
     (f : List ℕ) (s tw th : ℕ) (out out-now : List ℕ) (x : ℕ) →
-    Tablet-says f s tw th out out-now x → (tablet_refusal f s tw th (length out)).number ≡ 0 →
+    TabletSays f s tw th out out-now x → (tablet_refusal f s tw th (length out)).number ≡ 0 →
     (held f).wide ≤ tw → (held f).high ≤ th → s ≤ 810815 → x ≡ strides s horizon * 256

@@ -27,6 +27,6 @@ tablet_answer f s tw th k = cond (eqb k.number 0) (rounds (held f) tw th s horiz
 unfoldable pub times_bytes : List ℕ → List ℕ
 times_bytes f = bytes_of four_bytes (marched (held f) horizon)
 
-pub record Tablet-says (f : List ℕ) (stride across down : ℕ) (out out-now : List ℕ) (x : ℕ) : Type 0 where
+pub record TabletSays (f : List ℕ) (stride across down : ℕ) (out out-now : List ℕ) (x : ℕ) : Type 0 where
   pub answers : x ≡ tablet_answer f stride across down (tablet_refusal f stride across down (length out))
   pub leaves : out-now ≡ filled (tablet_refusal f stride across down (length out)).number (times_bytes f) out

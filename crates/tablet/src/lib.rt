@@ -10,7 +10,7 @@ ghost use Rattle.eikonal.specs.Order.{caused, or_else, first_of};
 ghost use Rattle.scenario.specs.Bytes.{four_bytes, bytes_of};
 ghost use Rattle.scenario.specs.File.{held};
 ghost use Rattle.tablet.specs.Small.{small_refusal};
-ghost use Rattle.tablet.specs.Tablet.{tablet_refusal, Tablet-says};
+ghost use Rattle.tablet.specs.Tablet.{tablet_refusal, TabletSays};
 
 use eikonal::{LARGEST, Refusal, cause};
 use refusals::board::sides_good;
@@ -54,7 +54,7 @@ fn put_times(out: &mut [u8], times: &[u32])
 // Runs the board of a file with the tiles in rising order, up to the horizon 6,000,000. Answers the rounds × 256 and writes N times of
 // 4 bytes; later bytes stay. A refused call answers the bare number and leaves the output as it was.
 pub fn tablet_run(file: &[u8], stride: u32, across: u32, down: u32, out: &mut [u8]) -> u64
-    ensures { Tablet-says file.now stride across down out.old out.new result }
+    ensures { TabletSays file.now stride across down out.old out.new result }
 {
     let refusal = tablet_refusal(file, stride, across, down, out.len());
     if refusal.number != 0 {

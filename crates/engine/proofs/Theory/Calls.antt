@@ -29,11 +29,11 @@ use Rattle.front.specs.Front.{ghosted, heard, Tied, Upheld, Drift}
 use Rattle.front.specs.Board.{land, rule_by, rule_at, tentative, Work, keys, Marked, Ground}
 use Rattle.front.specs.State.{Standing, Gathered, Worked}
 use Rattle.front.proofs.Theory.Reading.{time-at}
-use Rattle.sides.specs.Pass.{Some-land, Found-whole, Found-round}
+use Rattle.sides.specs.Pass.{SomeLand, FoundWhole, FoundRound}
 use Rattle.rows.specs.Rows.{Wrote}
 use Rattle.queue.specs.Lists.{Filled}
 use Rattle.rows.specs.Lists.{due, Finished}
-use Rattle.engine.specs.Run.{starts, whole, At-round, Ran}
+use Rattle.engine.specs.Run.{starts, whole, AtRound, Ran}
 use Rattle.engine.specs.Calls.{Fit, Through}
 use Rattle.front.specs.declared.Shape.{Shape}
 use Rattle.engine.proofs.Theory.Clearing.{sides-clip}
@@ -127,10 +127,10 @@ module _ {s : Shape} {slow : List ℕ} {xs : List Start} {times sides work : Lis
   on c l = rw size_is at l
 
   -- ---- THE SIDES of a whole board, by times that are the march's
-  pub land-fits : (ts v us : List ℕ) → length ts ≡ n → 4 * n ≤ length v → length us ≡ n → Some-land s ts v us
+  pub land-fits : (ts v us : List ℕ) → length ts ≡ n → 4 * n ≤ length v → length us ≡ n → SomeLand s ts v us
   land-fits ts v us l r k = record { slow = slow; good = good-land; cells = fit.size; many = l; room = r; long = k }
 
-  whole-sides : {h : ℕ} {us v v' ss : List ℕ} → us ≡ marched b h → length us ≡ n → Found-whole s h us v v' sides ss → (c : ℕ) → c < n
+  whole-sides : {h : ℕ} {us v v' ss : List ℕ} → us ≡ marched b h → length us ≡ n → FoundWhole s h us v v' sides ss → (c : ℕ) → c < n
       → get_or ss c 0 ≡ sides_by b h c (λ e. time (marched b h) e) (time us c)
   unfolding sides_by sides_seen
   whole-sides {h} {us} is l fo c k =
@@ -165,7 +165,7 @@ module _ {s : Shape} {slow : List ℕ} {xs : List Start} {times sides work : Lis
             let l : e < n = rw size_is on in
             pick (eqb (tile_of b tw th c) (tile_of b tw th e)) e _ _ (gathered_silent be.placed ga e l (omega arith, l)) (ghost-never e)
 
-    pub run-start : At-round s slow xs S H 0 ts v
+    pub run-start : AtRound s slow xs S H 0 ts v
     unfolding after_rounds
     run-start = record {
       held = gathered_held be.placed ga;
@@ -181,7 +181,7 @@ module _ {s : Shape} {slow : List ℕ} {xs : List Start} {times sides work : Lis
 
     -- and goes through
     pub run_through : 1 ≤ S → S ≤ largest → H ≤ largest → (us ss v2 v3 v4 : List ℕ) (limit r : ℕ) → 1000000000 ≤ limit
-        → Ran s slow xs S H limit r ts us v.list v2 → Found-whole s H us v2 v3 sides ss → Filled 0 (4 * n) 0 v3 v4
+        → Ran s slow xs S H limit r ts us v.list v2 → FoundWhole s H us v2 v3 sides ss → Filled 0 (4 * n) 0 v3 v4
         → length ts ≡ n → Through b (Run tw th S H) times n r (sheet us ss) work v4
     unfolding counted entered
     run_through low high horizon us ss v2 v3 v4 limit r beyond ran fo fi l = record {
@@ -223,7 +223,7 @@ module _ {s : Shape} {slow : List ℕ} {xs : List Start} {times sides work : Lis
         go false e r = rw (lt-leb never h l, r)
 
     pub march_through : Standing n xs work → (us ss v v1 w : List ℕ) (h r : ℕ) → h ≤ largest → Worked n (rule_at s slow times) h 0 n work v
-        → Finished h n v us r → Found-whole s h us v v1 sides ss → Filled 0 (4 * n) 0 v1 w
+        → Finished h n v us r → FoundWhole s h us v v1 sides ss → Filled 0 (4 * n) 0 v1 w
         → Through b (March h) times n r (sheet us ss) work w
     unfolding marched counted entered
     march_through be us ss v v1 w h r i ba fin fo fi = record {
@@ -243,7 +243,7 @@ module _ {s : Shape} {slow : List ℕ} {xs : List Start} {times sides work : Lis
 
   -- ---- A SINGLE ROUND
   module _ (be : Standing n xs work) (us ss v v1 w : List ℕ) (h r : ℕ) (i : h ≤ largest) (ba : Worked n (rule_at s slow times) h 0 n work v)
-      (fo : Found-round s slow times h v v1 sides ss) (wr : Wrote s h v1 times us r) where
+      (fo : FoundRound s slow times h v v1 sides ss) (wr : Wrote s h v1 times us r) where
     -- the pass for the sides leaves the tentative times
     written : (c : ℕ) → c < n → time us c ≡ due h v n c
     written c l = wr.each c l ∙ ap (clip h) (fo.rest (2 * n + c) (omega arith))

@@ -13,7 +13,7 @@ use Rattle.eikonal.specs.Board.{Board, never, largest, size, met, time}
 use Rattle.eikonal.specs.Tiles.{tile_of, counts_as, tiled, round, altered, after_rounds}
 use Rattle.eikonal.specs.Inner.Good.{Good}
 use Rattle.eikonal.specs.Inner.Clip.{clip}
-use Rattle.eikonal.proofs.Clip.{Clipped, kept, lost, clipped, clip-keeps, clip_loses, clip-never}
+use Rattle.eikonal.proofs.Clip.{Clipped, kept, lost, clipped, clip_keeps, clip_loses, clip-never}
 use Rattle.eikonal.proofs.Rule.{arrival-same, met_capped}
 use Rattle.eikonal.proofs.Passes.{never-time}
 use Rattle.eikonal.proofs.Altered.{altered-same}
@@ -77,12 +77,12 @@ module _ {n : ℕ} {stored y k now : ℕ → ℕ} {t m : ℕ} {note : ℕ → �
             z ∙ sym (ap (clip bound) s ∙ clip-never bound)
         quiet o e (inr z) =
             let s : stored c ≡ y c = omega (arith, dr.low c l, dr.others c l o e) in
-            s ∙ sym (clip-keeps bound (y c) (omega arith))
+            s ∙ sym (clip_keeps bound (y c) (omega arith))
 
         go : Listed m note c → now c ≡ clip bound (y c)
         go (here i q e) =
             let s = dr.noted i q in
-            subst (λ u. now u ≡ clip bound (y u)) e (wr.new i q ∙ sym (clip-keeps bound (y (note i)) (omega (arith, s.past))))
+            subst (λ u. now u ≡ clip bound (y u)) e (wr.new i q ∙ sym (clip_keeps bound (y (note i)) (omega (arith, s.past))))
         go (out o) = elim (ℕ_discrete (k c) never) [
           | yes e ↦ wr.old c l o ∙ quiet o e (low c l)
           | no e ↦ wr.old c l o ∙ ⊎_elim
@@ -102,29 +102,29 @@ module _ {n : ℕ} {stored y k now : ℕ → ℕ} {t m : ℕ} {note : ℕ → �
     -- a new round has nothing taken yet
     pub written-drift : (note' : ℕ → ℕ) → Drift n now y k 0 0 note'
     written-drift note' = record {
-      low = λ c l. go-low c l (listed m note c);
-      waits = λ c l p. go-waits c l p (listed m note c);
+      low = λ c l. go_low c l (listed m note c);
+      waits = λ c l p. go_waits c l p (listed m note c);
       floor = λ c l. omega arith;
       noted = λ i l. absurd (omega arith);
-      others = λ c l o e. go-others c l e (listed m note c);
+      others = λ c l o e. go_others c l e (listed m note c);
       count = sym (total-none n _ zero-at);
     }
       where
-        go-low : (c : ℕ) → c < n → Listed m note c → y c ≤ now c
-        go-low c l (here i q e) = subst (λ u. y u ≤ now u) e (omega (arith, wr.new i q))
-        go-low c l (out o) = omega (arith, wr.old c l o, dr.low c l)
+        go_low : (c : ℕ) → c < n → Listed m note c → y c ≤ now c
+        go_low c l (here i q e) = subst (λ u. y u ≤ now u) e (omega (arith, wr.new i q))
+        go_low c l (out o) = omega (arith, wr.old c l o, dr.low c l)
 
-        go-waits : (c : ℕ) → c < n → k c < never → Listed m note c → y c < now c
-        go-waits c l p (here i q e) = absurd (omega (arith, (dr.noted i q).key, ap k e))
-        go-waits c l p (out o) = omega (arith, wr.old c l o, dr.waits c l p)
+        go_waits : (c : ℕ) → c < n → k c < never → Listed m note c → y c < now c
+        go_waits c l p (here i q e) = absurd (omega (arith, (dr.noted i q).key, ap k e))
+        go_waits c l p (out o) = omega (arith, wr.old c l o, dr.waits c l p)
 
-        go-others : (c : ℕ) → c < n → k c ≡ never → Listed m note c → now c ≤ y c
-        go-others c l e (here i q z) = subst (λ u. now u ≤ y u) z (omega (arith, wr.new i q))
-        go-others c l e (out o) = omega (arith, wr.old c l o, dr.others c l o e)
+        go_others : (c : ℕ) → c < n → k c ≡ never → Listed m note c → now c ≤ y c
+        go_others c l e (here i q z) = subst (λ u. now u ≤ y u) z (omega (arith, wr.new i q))
+        go_others c l e (out o) = omega (arith, wr.old c l o, dr.others c l o e)
 
         zero-at : (c : ℕ) → c < n → min 1 (now c - y c) - min 1 (never - k c) ≡ 0
         zero-at c l = elim (ℕ_discrete (k c) never) [
-          | yes q ↦ omega (arith, go-others c l q (listed m note c))
+          | yes q ↦ omega (arith, go_others c l q (listed m note c))
           | no q ↦ ⊎_elim (λ z. absurd (q z)) (λ z. omega (arith, ti.small c l)) (ti.tied c l)
         ]
 

@@ -24,8 +24,8 @@ use Rattle.eikonal.proofs.Rounds.{after-length, rounds-low, rounds-few, rounds-l
 use Rattle.front.specs.Front.{Settled, Upheld, Drift, Written}
 use Rattle.front.specs.Seams.{border, near}
 use Rattle.front.specs.Board.{land, rule_by, rule_at, tentative, noted, Work, keys, Ground}
-use Rattle.front.specs.State.{Ready-among, Drained, Drifted, Announced}
-use Rattle.engine.specs.Run.{starts, Between, whole, At-round, One-round, Leapt, Ran}
+use Rattle.front.specs.State.{ReadyAmong, Drained, Drifted, Announced}
+use Rattle.engine.specs.Run.{starts, Between, whole, AtRound, OneRound, Leapt, Ran}
 use Rattle.front.specs.declared.Shape.{Shape}
 use Rattle.front.proofs.Theory.Sight.{gives_lawful}
 use Rattle.front.proofs.Theory.Drift.{notes-fit}
@@ -107,7 +107,7 @@ ground-kept q gr = record {
 }
 
 module _ {s : Shape} {slow ts cols rows : List ℕ} {v : Work} {xs : List Start} {S H j : ℕ}
-    (gr : Ground s slow ts cols rows) (at : At-round s slow xs S H j ts v) where
+    (gr : Ground s slow ts cols rows) (at : AtRound s slow xs S H j ts v) where
   abbrev n : ℕ
   n = s.cells
 
@@ -127,7 +127,7 @@ module _ {s : Shape} {slow ts cols rows : List ℕ} {v : Work} {xs : List Start}
   drift0 note = subst (λ q. Drift q (time ts) (tentative v.list n) (keys v) 0 0 note) (sym size_is) (at.between.drift note)
 
   -- the front between rounds is ready for a drain
-  pub ready : Ready-among s slow ts 0 n v
+  pub ready : ReadyAmong s slow ts 0 n v
   unfolding arrival slowness tile_of counts_as
   ready = all-ready gr (record {
     held = at.held;
@@ -165,7 +165,7 @@ module _ {s : Shape} {slow ts cols rows : List ℕ} {v : Work} {xs : List Start}
       unfolding arrival slowness tile_of counts_as near size
       announced_at = subst (λ q. Announced q (rule_by b tw th us) (time us) (noted v1.list q) (λ c. near b tw th border c) m v1 v2) size_is an
 
-      pub one-round : One-round s slow xs S H j m ts us v v2
+      pub one-round : OneRound s slow xs S H j m ts us v v2
       one-round = record {
         long = long;
         kept = announced_long an ∙ dr.long;
@@ -180,11 +180,11 @@ module _ {s : Shape} {slow ts cols rows : List ℕ} {v : Work} {xs : List Start}
       }
 
 -- ---- A RUN after `done` rounds, of which none was the last
-pub record Mid-run (s : Shape) (slow : List ℕ) (xs : List Start) (S H done : ℕ) (ts₀ ts : List ℕ) (v₀ v : Work) : Type 0 where
+pub record MidRun (s : Shape) (slow : List ℕ) (xs : List Start) (S H done : ℕ) (ts₀ ts : List ℕ) (v₀ v : Work) : Type 0 where
   pub long : length ts ≡ length ts₀
   pub kept : length v.list ≡ length v₀.list
   pub past : (i : ℕ) → 4 * s.cells ≤ i → get_or v.list i 0 ≡ get_or v₀.list i 0
-  pub at : At-round s slow xs S H done ts v
+  pub at : AtRound s slow xs S H done ts v
   pub more : (k : ℕ) → 1 ≤ k → k ≤ done → last_round (whole s slow xs) s.across s.down S H k ≡ false
 
 module _ (s : Shape) (slow : List ℕ) (xs : List Start) (good : Good (whole s slow xs)) (S H : ℕ) (stride : 1 ≤ S) (stride-high : S ≤ largest)
@@ -213,7 +213,7 @@ module _ (s : Shape) (slow : List ℕ) (xs : List Start) (good : Good (whole s s
         size-most good,
       )
 
-  module _ {done : ℕ} {ts₀ ts : List ℕ} {v₀ v : Work} (md : Mid-run s slow xs S H done ts₀ ts v₀ v) where
+  module _ {done : ℕ} {ts₀ ts : List ℕ} {v₀ v : Work} (md : MidRun s slow xs S H done ts₀ ts v₀ v) where
     -- there is a round more
     rounds-left : done < total_rounds
     rounds-left = go (order done total_rounds)
@@ -231,7 +231,7 @@ module _ (s : Shape) (slow : List ℕ) (xs : List Start) (good : Good (whole s s
     pub run_stops : {limit : ℕ} → limit ≡ done → Ran s slow xs S H limit done ts₀ ts v₀.list v.list
     run_stops e = record { counted = omega (arith, rounds-left); holds = md.at.between.is; long = md.long; kept = md.kept; past = md.past }
 
-    module _ {m : ℕ} {ts' : List ℕ} {v' : Work} (one : One-round s slow xs S H done m ts ts' v v') where
+    module _ {m : ℕ} {ts' : List ℕ} {v' : Work} (one : OneRound s slow xs S H done m ts ts' v v') where
       -- the last one: at the horizon, and it took no cell
       pub run_ends : m ≡ 0 → leb H (suc done * S) ≡ true → {limit : ℕ} → done < limit → Ran s slow xs S H limit (suc done) ts₀ ts' v₀.list v'.list
       run_ends e l below =
@@ -266,7 +266,7 @@ module _ (s : Shape) (slow : List ℕ) (xs : List Start) (good : Good (whole s s
                 let e : suc done ≡ r = omega (arith, lp.up) in
                 subst (λ k. Between bd across down S H k ts' (tentative v'.list s.cells) (keys v')) e one.next.between
 
-        pub run-goes_on : Mid-run s slow xs S H r ts₀ ts' v₀ v'
+        pub run-goes_on : MidRun s slow xs S H r ts₀ ts' v₀ v'
         run-goes_on = record {
           long = one.long ∙ md.long;
           kept = one.kept ∙ md.kept;
@@ -289,7 +289,7 @@ module _ (s : Shape) (slow : List ℕ) (xs : List Start) (good : Good (whole s s
       pub run-busy : m ≢ 0 → last_round bd across down S H (suc done) ≡ false
       run-busy q = not_last bd across down S H done (one.busy (omega (arith, q)))
 
-  pub run-begins : {ts : List ℕ} {v : Work} → At-round s slow xs S H 0 ts v → Mid-run s slow xs S H 0 ts ts v v
+  pub run-begins : {ts : List ℕ} {v : Work} → AtRound s slow xs S H 0 ts v → MidRun s slow xs S H 0 ts ts v v
   run-begins at = record { long = refl; kept = refl; past = λ i l. refl; at = at; more = λ k a b. absurd (omega arith) }
 
   -- a limit that no board's rounds pass never binds: all rounds, and the march's times

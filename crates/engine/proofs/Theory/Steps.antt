@@ -54,14 +54,14 @@ module _ (b : Board) (xs : List ℕ) (wide : b.wide ≤ 256) (high : b.high ≤ 
   tiles-sided (Run tw th d z) e s is = let r = (run-can b xs tw th d z e).3 in rw is (r.across_low, r.across_high, r.down_low, r.down_high)
 
 -- the board is in its shape
-record In-shape (b : Board) (s : Shape) : Type 0 where
+record InShape (b : Board) (s : Shape) : Type 0 where
   wide : s.width ≡ b.wide
   high : s.height ≡ b.high
   storeys : s.storeys ≡ b.storeys
   whole : s.cells ≡ s.width * s.height * s.storeys
   cells : s.cells ≡ size b
 
-in_shape : (b : Board) (j : Job) (s : Shape) → s ≡ shaped b.wide b.high b.storeys j → In-shape b s
+in_shape : (b : Board) (j : Job) (s : Shape) → s ≡ shaped b.wide b.high b.storeys j → InShape b s
 unfolding size
 in_shape b (March z) s is = rw is (record { wide = refl; high = refl; storeys = refl; whole = refl; cells = refl })
 in_shape b (Round tw th m) s is = rw is (record { wide = refl; high = refl; storeys = refl; whole = refl; cells = refl })

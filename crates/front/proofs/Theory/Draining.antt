@@ -11,7 +11,7 @@ use Rattle.queue.proofs.Heap.{heap-past, keys_past, keys-small, first-least}
 use Rattle.front.specs.Front.{Among, NotAmong, among, ghosted, Out, Settled, Midway, Upheld, Drift, weight}
 use Rattle.front.specs.Seams.{inside, near}
 use Rattle.front.specs.Board.{land, rule_at, tentative, noted, Work, at, keys, Ground}
-use Rattle.front.specs.State.{Held, Popped, Took, Drifting, Drifted, Ready, Ready-among, Drained}
+use Rattle.front.specs.State.{Held, Popped, Took, Drifting, Drifted, Ready, ReadyAmong, Drained}
 use Rattle.front.specs.declared.Shape.{Shape}
 use Rattle.front.proofs.Theory.Front.{Lawful, popped, total_lt}
 use Rattle.front.proofs.Theory.Among.{which, among_lawful, among_same, told-among, told-within}
@@ -133,7 +133,7 @@ module _ {n m : ℕ} {L : ℕ → (ℕ → ℕ) → ℕ} {es : ℕ → List ℕ}
           notes = fun_ext (λ i. sym (told-rest tk.told (3 * n + i) (omega arith)))
 
 -- ---- A DRAIN after m cells
-pub record Mid-drain (n : ℕ) (L : ℕ → (ℕ → ℕ) → ℕ) (bound m : ℕ) (v₀ v : Work) : Type 0 where
+pub record MidDrain (n : ℕ) (L : ℕ → (ℕ → ℕ) → ℕ) (bound m : ℕ) (v₀ v : Work) : Type 0 where
   pub held : Held n v
   pub long : length v.list ≡ length v₀.list
   pub past : (j : ℕ) → 4 * n ≤ j → get_or v.list j 0 ≡ get_or v₀.list j 0
@@ -144,7 +144,7 @@ pub record Mid-drain (n : ℕ) (L : ℕ → (ℕ → ℕ) → ℕ) (bound m : �
       → Drifted n bound stored (tentative v.list n) (keys v) m (noted v.list n)
 
 module _ {n bound : ℕ} {L : ℕ → (ℕ → ℕ) → ℕ} where
-  drain_begins : {v : Work} → Ready n L v → Mid-drain n L bound 0 v v
+  drain_begins : {v : Work} → Ready n L v → MidDrain n L bound 0 v v
   drain_begins {v} re = record {
     held = re.held;
     long = refl;
@@ -156,13 +156,13 @@ module _ {n bound : ℕ} {L : ℕ → (ℕ → ℕ) → ℕ} where
   }
 
   -- there is room for the next note
-  pub drain_room : {m : ℕ} {v₀ v : Work} → Mid-drain n L bound m v₀ v → 0 < v.size → m < n
+  pub drain_room : {m : ℕ} {v₀ v : Work} → MidDrain n L bound m v₀ v → 0 < v.size → m < n
   drain_room md l =
       let le = first-least md.held.heap l in
       room-left md.held.tied md.drifting.drift _ le.on le.pending (λ d i. le.least d)
 
-  drain_goes_on : {m : ℕ} {es : ℕ → List ℕ} {v₀ v v' : Work} → Lawful n L → ((c : ℕ) → c < n → Blind n L c (es c)) → Mid-drain n L bound m v₀ v
-      → 0 < v.size → key v.list 0 ≤ bound → Took n m L es v v' → Mid-drain n L bound (suc m) v₀ v'
+  drain_goes_on : {m : ℕ} {es : ℕ → List ℕ} {v₀ v v' : Work} → Lawful n L → ((c : ℕ) → c < n → Blind n L c (es c)) → MidDrain n L bound m v₀ v
+      → 0 < v.size → key v.list 0 ≤ bound → Took n m L es v v' → MidDrain n L bound (suc m) v₀ v'
   drain_goes_on {es = es} {v = v} law blinds md some low tk = record {
     held = took_held md.held tk;
     long = took_long md.held tk ∙ md.long;
@@ -185,7 +185,7 @@ module _ {n bound : ℕ} {L : ℕ → (ℕ → ℕ) → ℕ} where
           let le = first-least md.held.heap some in
           omega (arith, tk.popped.least (cell v.list 0) le.on, le.top)
 
-  pub drain_ends : {m : ℕ} {v₀ v : Work} → Mid-drain n L bound m v₀ v → ((c : ℕ) → bound < keys v c) → Drained n bound m L v₀ v
+  pub drain_ends : {m : ℕ} {v₀ v : Work} → MidDrain n L bound m v₀ v → ((c : ℕ) → bound < keys v c) → Drained n bound m L v₀ v
   drain_ends md high = record {
     held = md.held;
     long = md.long;
@@ -197,8 +197,8 @@ module _ {n bound : ℕ} {L : ℕ → (ℕ → ℕ) → ℕ} where
   }
 
 -- the same of the cells from lo on and below hi: they alone are pending
-pub record Mid-among (s : Shape) (slow ts : List ℕ) (lo hi bound m : ℕ) (v₀ v : Work) : Type 0 where
-  pub mid : Mid-drain s.cells (among lo hi (rule_at s slow ts)) bound m v₀ v
+pub record MidAmong (s : Shape) (slow ts : List ℕ) (lo hi bound m : ℕ) (v₀ v : Work) : Type 0 where
+  pub mid : MidDrain s.cells (among lo hi (rule_at s slow ts)) bound m v₀ v
   pub within : (c : ℕ) → c < s.cells → keys v c < never → Among lo hi c
 
 -- ---- on a board: a cell that does not hear of c within the tile does not see c as it is
@@ -228,17 +228,17 @@ module _ {s : Shape} {slow ts cols rows : List ℕ} (gr : Ground s slow ts cols 
         | no q ↦ rw (same e (rw (cells-size gr) on) q)
       ]
 
-  module _ {lo hi bound : ℕ} {v₀ : Work} (re : Ready-among s slow ts lo hi v₀) where
-    pub among-begins : Mid-among s slow ts lo hi bound 0 v₀ v₀
+  module _ {lo hi bound : ℕ} {v₀ : Work} (re : ReadyAmong s slow ts lo hi v₀) where
+    pub among-begins : MidAmong s slow ts lo hi bound 0 v₀ v₀
     among-begins = record { mid = drain_begins re.ready; within = re.within }
 
-    module _ {m : ℕ} {v v' : Work} (ma : Mid-among s slow ts lo hi bound m v₀ v)
+    module _ {m : ℕ} {v v' : Work} (ma : MidAmong s slow ts lo hi bound m v₀ v)
         (tk : Took s.cells m (rule_at s slow ts) (near (land s slow) s.across s.down inside) v v') where
       -- none but them hears of the cell that is taken
       hear : (d : ℕ) → d < s.cells → NotAmong lo hi d → Out d (near (land s slow) s.across s.down inside tk.cell)
       hear d = re.apart tk.cell d (ma.within tk.cell tk.popped.on tk.popped.pending)
 
-      pub among-goes_on : 0 < v.size → key v.list 0 ≤ bound → Mid-among s slow ts lo hi bound (suc m) v₀ v'
+      pub among-goes_on : 0 < v.size → key v.list 0 ≤ bound → MidAmong s slow ts lo hi bound (suc m) v₀ v'
       among-goes_on some low = record {
         mid = drain_goes_on {es = near (land s slow) s.across s.down inside} (among_lawful lo hi (rule_at s slow ts) lawful)
             (λ c l d m o f g same. among_same lo hi (rule_at s slow ts) d f g (blind l d m o f g same)) ma.mid some low

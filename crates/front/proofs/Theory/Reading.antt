@@ -356,36 +356,36 @@ module _ {s : Shape} {slow ts cols rows : List ℕ} (gr : Ground s slow ts cols 
           let there : c + x.axis.unit - 0 ≡ c + x.axis.unit = omega arith in
           e ∙ sees st c ghost f (rw (here, mb)) (rw (there, mo))
 
-      pub columns-read : (f : ℕ → ℕ) {z : ℕ} → z ≡ both_seen board ts f c 1 (get_or cols col 0) (get_or cols (col + 1) 0)
+      pub columns_read : (f : ℕ → ℕ) {z : ℕ} → z ≡ both_seen board ts f c 1 (get_or cols col 0) (get_or cols (col + 1) 0)
           → z ≡ sight (column_axis board) c (seen f)
-      columns-read f =
+      columns_read f =
           read (columns_straight gr.good s.across s.down gr.across gr.down)
           (marked-back (cut (column_axis board) s.across) c gr.columns column-at column)
           (marked-on (cut (column_axis board) s.across) c gr.columns column-at column) f
 
-      pub rows-read : (f : ℕ → ℕ) {z : ℕ} → z ≡ both_seen board ts f c w (get_or rows row 0) (get_or rows (row + 1) 0)
+      pub rows_read : (f : ℕ → ℕ) {z : ℕ} → z ≡ both_seen board ts f c w (get_or rows row 0) (get_or rows (row + 1) 0)
           → z ≡ sight (row_axis board) c (seen f)
-      rows-read f e =
+      rows_read f e =
           read (rows_straight gr.good s.across s.down gr.across gr.down)
           (marked-back (cut (row_axis board) s.down) c gr.lines line_at line) (marked-on (cut (row_axis board) s.down) c gr.lines line_at line) f
           (e ∙ ap (λ (k : ℕ). both_seen board ts f c k (get_or rows row 0) (get_or rows (row + 1) 0)) me.width)
 
-      pub stack-read : (f : ℕ → ℕ) {area z : ℕ} → area ≡ s.width * s.height → z ≡ both_seen board ts f c area (mark_under area c) (mark_over n area c)
+      pub stack_read : (f : ℕ → ℕ) {area z : ℕ} → area ≡ s.width * s.height → z ≡ both_seen board ts f c area (mark_under area c) (mark_over n area c)
           → z ≡ sight (storey_axis board) c (seen f)
-      stack-read f {area} q e =
+      stack_read f {area} q e =
           read (storeys_straight gr.good s.across s.down gr.across gr.down) (under_mark q) (over_mark q) f
           (e ∙ ap (λ (k : ℕ). both_seen board ts f c k (mark_under area c) (mark_over n area c)) q)
 
       -- on a flat board nothing
-      pub flat-read : (f : ℕ → ℕ) → s.storeys ≡ 1 → never ≡ sight (storey_axis board) c (seen f)
+      pub flat_read : (f : ℕ → ℕ) → s.storeys ≡ 1 → never ≡ sight (storey_axis board) c (seen f)
       unfolding sight place
-      flat-read f e =
+      flat_read f e =
           let first : c / (s.width * s.height) % s.storeys ≡ 0 = ap (λ (u : ℕ). c / (s.width * s.height) % u) e ∙ mod-one (c / (s.width * s.height)) in
           sym (rw (eq-eqb _ 0 first, eq-eqb _ _ (ap suc first ∙ sym e)) (earlier-min never never))
 
       -- THE RULE from what code reads along the axes
-      pub rule-read : (f : ℕ → ℕ) {x y z : ℕ} → x ≡ sight (column_axis board) c (seen f) → y ≡ sight (row_axis board) c (seen f)
+      pub rule_read : (f : ℕ → ℕ) {x y z : ℕ} → x ≡ sight (column_axis board) c (seen f) → y ≡ sight (row_axis board) c (seen f)
           → z ≡ sight (storey_axis board) c (seen f)
           → min never (local_of (along_row (get_or slow c 0)) (down_column (get_or slow c 0)) x y z) ≡ rule_at s slow ts c f
       unfolding arrival slowness
-      rule-read f ex ey ez = rw (ex, ey, ez) refl
+      rule_read f ex ey ez = rw (ex, ey, ez) refl

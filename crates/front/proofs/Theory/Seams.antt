@@ -61,9 +61,9 @@ pub record Straight (b : Board) (tw th : ℕ) (x : Cut) : Type 0 where
   pub apart : (c : ℕ) → suc (place x.axis c) ≢ x.axis.count → suc (place x.axis c) % x.side ≡ 0
       → tile_of b tw th (c + x.axis.unit) ≢ tile_of b tw th c
 
-pub data All-straight (b : Board) (tw th : ℕ) : List Cut → Type 0 where
-  none : All-straight b tw th []
-  also : {x : Cut} {xs : List Cut} → Straight b tw th x → All-straight b tw th xs → All-straight b tw th (x ∷ xs)
+pub data AllStraight (b : Board) (tw th : ℕ) : List Cut → Type 0 where
+  none : AllStraight b tw th []
+  also : {x : Cut} {xs : List Cut} → Straight b tw th x → AllStraight b tw th xs → AllStraight b tw th (x ∷ xs)
 
 module _ {b : Board} (good : Good b) (tw th : ℕ) (tw1 : 1 ≤ tw) (th1 : 1 ≤ th) where
   -- a step along a row keeps the row, a step down the column keeps the column
@@ -140,7 +140,7 @@ module _ {b : Board} (good : Good b) (tw th : ℕ) (tw1 : 1 ≤ tw) (th1 : 1 ≤
           let low : suc (place (storey_axis b) c) < b.storeys = omega (arith, place-low (storeys-span good) c, q) in
           absurd (omega (arith, e, mod-eq_of_lt {n = suc (place (storey_axis b) c)} {m = b.storeys} low))
 
-  pub all_straight : All-straight b tw th (cuts b tw th)
+  pub all_straight : AllStraight b tw th (cuts b tw th)
   all_straight = also columns_straight (also rows_straight (also storeys_straight none))
 
 -- ---- what lies between a cell and a neighbour
@@ -226,7 +226,7 @@ module _ {b : Board} {tw th : ℕ} (k c d : ℕ) where
       by (subst (λ u. Kind b tw th (seam_back x c) c u) e (back_kind st c (next-first st.spans n))) (hit (size b) k _ d _ o e)
   unlike {x} st (inr n) o p = by (subst (λ u. Kind b tw th (seam_on x c) c u) n.step (on_kind st c n.inner)) (hit (size b) k _ d _ p n.step)
 
-  untold : (xs : List Cut) → All-straight b tw th xs → Near (map (λ x. x.axis) xs) d c → Out d (near_on xs (size b) k c) → Unlike b tw th k c d
+  untold : (xs : List Cut) → AllStraight b tw th xs → Near (map (λ x. x.axis) xs) d c → Out d (near_on xs (size b) k c) → Unlike b tw th k c d
   untold [] none n o = absurd (none-near [] refl n)
   untold (x ∷ xs) (also st ss) n o = go (near_which n) (untold xs ss)
     where

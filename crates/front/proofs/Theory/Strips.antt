@@ -12,7 +12,7 @@ use Rattle.one_tile.proofs.March.{same-tile}
 use Rattle.front.specs.Front.{Among, among, ghosted, heard, Out, Midway, Upheld}
 use Rattle.front.specs.Seams.{Cut, cut, stack_cut, seam, seam_back, seam_on, inside, hearer, near}
 use Rattle.front.specs.Board.{land, rule_at, tentative, Work, keys, Ground}
-use Rattle.front.specs.State.{Held, Told, all, Placed, Gathered, Ready, Apart, Ready-among, Drained, Inner, Woken, Parted, Strip, Worked}
+use Rattle.front.specs.State.{Held, Told, all, Placed, Gathered, Ready, Apart, ReadyAmong, Drained, Inner, Woken, Parted, Strip, Worked}
 use Rattle.front.specs.declared.Shape.{Shape}
 use Rattle.front.proofs.Theory.Front.{Lawful, ended}
 use Rattle.front.proofs.Theory.Among.{which, among_in, among-out, among_lawful, told-among, told-within}
@@ -98,7 +98,7 @@ module _ {s : Shape} {slow ts cols rows : List ℕ} (gr : Ground s slow ts cols 
       held : Held n w
       held = told-held (gathered_held pl ga) told
 
-      pub strip_ready : Ready-among s slow ts lo hi w
+      pub strip_ready : ReadyAmong s slow ts lo hi w
       strip_ready = record {
         ready = record {
           held = held;
@@ -335,7 +335,7 @@ module _ {s : Shape} {slow ts cols rows : List ℕ} (gr : Ground s slow ts cols 
   all_apart c d i l o = absurd (o (omega arith, l))
 
   -- ---- all cells of a board: the rule for them is the rule
-  pub all-ready : {v : Work} → Ready n L v → Ready-among s slow ts 0 n v
+  pub all-ready : {v : Work} → Ready n L v → ReadyAmong s slow ts 0 n v
   all-ready {v} re = record {
     ready = record {
       held = re.held;

@@ -4,7 +4,7 @@ use lib.Seq.{length-take-le}
 use Rattle.eikonal.specs.Refusals.{sides_good}
 use Rattle.scenario.specs.File.{head_in}
 use Rattle.scenario.specs.declared.Head.{Head}
-use Rattle.scenario.proofs.Reading.{cells-read, sides-read}
+use Rattle.scenario.proofs.Reading.{cells_read, sides_read}
 use Rattle.tablet.specs.Small.{small_refusal}
 use Rattle.tablet.proofs.Parts.{back}
 use Rattle.tablet.proofs.SmallFiles.{small, cells-few}
@@ -14,10 +14,10 @@ pub head_of-requires : goal.head_of-requires
 head_of-requires c = (small c.args.file.now c.requires.1).taken.front.head
 
 pub board_size-n-requires : goal.board_size-n-requires
-board_size-n-requires c = sides-read _ _ c.head_of.ensures (small c.args.file.now c.requires.1).taken.front
+board_size-n-requires c = sides_read _ _ c.head_of.ensures (small c.args.file.now c.requires.1).taken.front
 
 cells-most : (f : List ℕ) (x : Head) (n : ℕ) → (small_refusal f).number ≡ 0 → x ≡ head_in f → n ≡ x.width * x.height * x.storeys → n ≤ 1024
-cells-most f x n e h p = omega (arith, cells-read f x h n p, cells-few f (small f e))
+cells-most f x n e h p = omega (arith, cells_read f x h n p, cells-few f (small f e))
 
 -- there is an entry for each cell
 fits : (f : List ℕ) (x : Head) (n : ℕ) (l : List ℕ) → (small_refusal f).number ≡ 0 → x ≡ head_in f → n ≡ x.width * x.height * x.storeys
@@ -36,7 +36,7 @@ pub run_file-requires-clause-board : goal.run_file-requires-clause-board
 run_file-requires-clause-board c = (
   c.requires.1,
   length-take-le _ c.entries-times.result (fits _ _ _ _ c.requires.1 c.head_of.ensures c.board_size-n.ensures c.entries-times.ensures)
-      ∙ cells-read _ _ c.head_of.ensures _ c.board_size-n.ensures,
+      ∙ cells_read _ _ c.head_of.ensures _ c.board_size-n.ensures,
 )
 
 -- tiles of 8 by 8, stride 65,536

@@ -25,7 +25,7 @@ use Rattle.eikonal.proofs.Good.{and-true}
 use Rattle.eikonal.proofs.Grid.{quotient_low}
 use Rattle.front.specs.Board.{land}
 use Rattle.rows.specs.Lists.{due}
-use Rattle.rows.specs.Rows.{Entered, Block, Pillar, Pillar-before, tile_in, Fitting, Wrote}
+use Rattle.rows.specs.Rows.{Entered, Block, Pillar, PillarBefore, tile_in, Fitting, Wrote}
 use Rattle.front.specs.declared.Shape.{Shape}
 use Rattle.front.proofs.Theory.Reading.{time-at}
 
@@ -78,15 +78,15 @@ fewer_rows l b = record { top_most = b.top_most; bottom_most = omega (arith, b.b
 
 -- ---- the same rows of each storey
 module _ {w h top bottom left right : ℕ} where
-  pub no_storeys : {c : ℕ} → Pillar-before w h top bottom left right 0 c → ⊥
+  pub no_storeys : {c : ℕ} → PillarBefore w h top bottom left right 0 c → ⊥
   no_storeys p = omega (arith, p.before)
 
   -- a storey more
-  pub one_storey_more : (h1 : 1 ≤ h) {first c : ℕ} → first % h ≡ 0 → Pillar-before w h top bottom left right (first + h) c
-      → Pillar-before w h top bottom left right first c ⊎ Block w (first + top) (first + bottom) left right c
+  pub one_storey_more : (h1 : 1 ≤ h) {first c : ℕ} → first % h ≡ 0 → PillarBefore w h top bottom left right (first + h) c
+      → PillarBefore w h top bottom left right first c ⊎ Block w (first + top) (first + bottom) left right c
   one_storey_more h1 {first} {c} e p = go (order (c / w) first)
     where
-      go : (c / w < first) ⊎ (first ≤ c / w) → Pillar-before w h top bottom left right first c ⊎ Block w (first + top) (first + bottom) left right c
+      go : (c / w < first) ⊎ (first ≤ c / w) → PillarBefore w h top bottom left right first c ⊎ Block w (first + top) (first + bottom) left right c
       go (inl l) = inl record { is = p.is; before = l }
       go (inr l) = inr record {
         top_most = omega (arith, row, p.is.top_most);
@@ -123,9 +123,9 @@ parts_long times work n a e h k m =
     let q = mid_len (2 * n + a) (2 * n + e) work k in
     (omega arith, omega arith)
 
-pub part-read : (bound n a e : ℕ) (work : List ℕ) (j : ℕ) → j < e - a
+pub part_read : (bound n a e : ℕ) (work : List ℕ) (j : ℕ) → j < e - a
     → clip bound (get_or (tentatives n a e work) j 0) ≡ due bound work n (a + j)
-part-read bound n a e work j l =
+part_read bound n a e work j l =
     let s : 2 * n + a + j ≡ 2 * n + (a + j) = omega arith in
     ap (clip bound)
     (get_or-take (2 * n + e - (2 * n + a)) (drop (2 * n + a) work) j 0 (omega arith)

@@ -9,7 +9,7 @@ use Rattle.scenario.specs.Runs.{painted}
 use Rattle.scenario.specs.File.{runs_in, held}
 use Rattle.scenario.proofs.Causes.{accepted}
 use Rattle.scenario.proofs.Answers.{part-entered}
-use Rattle.scenario.proofs.Reading.{slow_length, file_long, sides-read, cells-read}
+use Rattle.scenario.proofs.Reading.{slow_length, file_long, sides_read, cells_read}
 use Rattle.scenario_read.proofs.fill_slow.Goals.{After-board_size-n}
 use Rattle.scenario_read.proofs.fill_slow.Goals as goal
 
@@ -17,11 +17,11 @@ pub head_of-head-requires : goal.head_of-head-requires
 head_of-head-requires c = (accepted _ c.requires.0).front.head
 
 pub board_size-n-requires : goal.board_size-n-requires
-board_size-n-requires c = sides-read _ _ c.head_of-head.ensures (accepted _ c.requires.0).front
+board_size-n-requires c = sides_read _ _ c.head_of-head.ensures (accepted _ c.requires.0).front
 
 -- the part is as long as the board has cells
 cells : (c : After-board_size-n) → c.board_size-n.result ≡ size (held c.args.file.now)
-cells c = cells-read _ _ c.head_of-head.ensures _ c.board_size-n.ensures
+cells c = cells_read _ _ c.head_of-head.ensures _ c.board_size-n.ensures
 
 fits : (c : After-board_size-n) → c.board_size-n.result ≤ length c.args.slow.now
 fits c = omega (arith, c.requires.1, cells c)

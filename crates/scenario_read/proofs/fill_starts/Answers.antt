@@ -8,7 +8,7 @@ use Rattle.scenario.specs.Bytes.{records}
 use Rattle.scenario.specs.File.{start_size, start_in, start_count, starts_in}
 use Rattle.scenario.proofs.Causes.{accepted}
 use Rattle.scenario.proofs.Answers.{part-entered}
-use Rattle.scenario.proofs.Reading.{count-cells, count-begins, file_long, starts-read}
+use Rattle.scenario.proofs.Reading.{count-cells, count-begins, file_long, starts_read}
 use Rattle.scenario_read.proofs.fill_starts.Goals.{After-wide-q}
 use Rattle.scenario_read.proofs.fill_starts.Goals as goal
 
@@ -36,7 +36,7 @@ read_starts-requires c =
 -- the starts that were read
 all : (c : After-wide-q) → let a = c.args in let n = length (take c.wide-q.result a.cells.now) in
     records start_size start_in n (drop c.starts_base-base.result a.file.now) ≡ starts_in a.file.now
-all c = starts-read _ _ c.head_of-head.ensures _ _ ((parts c).0 ∙ c.wide-q.ensures) c.starts_base-base.ensures
+all c = starts_read _ _ c.head_of-head.ensures _ _ ((parts c).0 ∙ c.wide-q.ensures) c.starts_base-base.ensures
 
 pub returns-clause-cells : goal.returns-clause-cells
 returns-clause-cells c =

@@ -1,7 +1,7 @@
 use Rattle.std.proofs.Common.{refl, arith}
 use Rattle.eikonal.specs.Order.{first_of}
 use Rattle.eikonal.proofs.Causes.{first, next}
-use Rattle.scenario.proofs.Reading.{cells-read, sides-read}
+use Rattle.scenario.proofs.Reading.{cells_read, sides_read}
 use Rattle.tablet.proofs.SmallFiles.{small, cells-few}
 use Rattle.tablet.proofs.room_refusal.Goals as goal
 
@@ -13,15 +13,15 @@ pub head_of-requires : goal.head_of-requires
 head_of-requires c = (small _ (c.requires c.if-so_far-ne0.false)).taken.front.head
 
 pub board_size-requires : goal.board_size-requires
-board_size-requires c = sides-read _ _ c.head_of.ensures (small _ (c.requires c.if-so_far-ne0.false)).taken.front
+board_size-requires c = sides_read _ _ c.head_of.ensures (small _ (c.requires c.if-so_far-ne0.false)).taken.front
 
 pub overflow_mul-board_size : goal.overflow_mul-board_size
 overflow_mul-board_size c =
     let f = c.args.file.now in
-    record { fits = omega (arith, cells-few f (small f (c.requires c.if-so_far-ne0.false)), cells-read f _ c.head_of.ensures _ c.board_size.ensures) }
+    record { fits = omega (arith, cells-few f (small f (c.requires c.if-so_far-ne0.false)), cells_read f _ c.head_of.ensures _ c.board_size.ensures) }
 
 pub returns : goal.returns
 unfolding first_of
 returns c =
-    let cells = cells-read c.args.file.now _ c.head_of.ensures _ c.board_size.ensures in
+    let cells = cells_read c.args.file.now _ c.head_of.ensures _ c.board_size.ensures in
     next _ _ _ c.if-so_far-ne0.false (rw (c.when.ensures, c.cause.ensures, c.below-short.ensures, cells) refl)

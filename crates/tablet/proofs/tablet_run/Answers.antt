@@ -4,7 +4,7 @@ use Rattle.eikonal.specs.Board.{size}
 use Rattle.eikonal.specs.declared.Refusal.{Refusal}
 use Rattle.scenario.specs.Bytes.{four_bytes, bytes_of}
 use Rattle.scenario.specs.File.{held}
-use Rattle.scenario.proofs.Reading.{cells-read, sides-read}
+use Rattle.scenario.proofs.Reading.{cells_read, sides_read}
 use Rattle.tablet.specs.Tablet.{tablet_refusal, times_bytes}
 use Rattle.tablet.proofs.Parts.{back}
 use Rattle.tablet.proofs.SmallFiles.{small, cells-few}
@@ -32,23 +32,23 @@ head_of-requires c =
 pub board_size-n-requires : goal.board_size-n-requires
 board_size-n-requires c =
     let g = good _ _ _ _ _ _ c.tablet_refusal-refusal.ensures c.if-refusal-ne0.false in
-    sides-read _ _ c.head_of.ensures (small _ g.accepted).taken.front
+    sides_read _ _ c.head_of.ensures (small _ g.accepted).taken.front
 
 pub slice_bounds-times-end : goal.slice_bounds-times-end
 slice_bounds-times-end c =
     let g = good _ _ _ _ _ _ c.tablet_refusal-refusal.ensures c.if-refusal-ne0.false in
-    fits _ g (cells-read _ _ c.head_of.ensures _ c.board_size-n.ensures) c.entries-times.ensures
+    fits _ g (cells_read _ _ c.head_of.ensures _ c.board_size-n.ensures) c.entries-times.ensures
 
 -- the times that are lent on
 pub slice_bounds-run_file-end : goal.slice_bounds-run_file-end
 slice_bounds-run_file-end c =
     let g = good _ _ _ _ _ _ c.tablet_refusal-refusal.ensures c.if-refusal-ne0.false in
-    sym (length-take-le _ c.entries-times.result (fits _ g (cells-read _ _ c.head_of.ensures _ c.board_size-n.ensures) c.entries-times.ensures))
+    sym (length-take-le _ c.entries-times.result (fits _ g (cells_read _ _ c.head_of.ensures _ c.board_size-n.ensures) c.entries-times.ensures))
 
 pub run_file-rounds-requires-clause-board : goal.run_file-rounds-requires-clause-board
 run_file-rounds-requires-clause-board c =
     let g = good _ _ _ _ _ _ c.tablet_refusal-refusal.ensures c.if-refusal-ne0.false in
-    let cells = cells-read c.args.file.now _ c.head_of.ensures _ c.board_size-n.ensures in
+    let cells = cells_read c.args.file.now _ c.head_of.ensures _ c.board_size-n.ensures in
     (g.accepted, length-take-le _ c.entries-times.result (fits _ g cells c.entries-times.ensures) ∙ cells)
 
 pub run_file-rounds-requires-clause-tiles : goal.run_file-rounds-requires-clause-tiles
@@ -61,35 +61,35 @@ room g e = omega (arith, g.room, e)
 pub overflow_mul-bytes : goal.overflow_mul-bytes
 overflow_mul-bytes c =
     let g = good _ _ _ _ _ _ c.tablet_refusal-refusal.ensures c.if-refusal-ne0.false in
-    let r = fits _ g (cells-read _ _ c.head_of.ensures _ c.board_size-n.ensures) c.entries-times.ensures in
+    let r = fits _ g (cells_read _ _ c.head_of.ensures _ c.board_size-n.ensures) c.entries-times.ensures in
     record { fits = omega (arith, r, c.entries-times.ensures) }
 
 pub slice_bounds-put_times-end : goal.slice_bounds-put_times-end
 slice_bounds-put_times-end c =
-    room (good _ _ _ _ _ _ c.tablet_refusal-refusal.ensures c.if-refusal-ne0.false) (cells-read _ _ c.head_of.ensures _ c.board_size-n.ensures)
+    room (good _ _ _ _ _ _ c.tablet_refusal-refusal.ensures c.if-refusal-ne0.false) (cells_read _ _ c.head_of.ensures _ c.board_size-n.ensures)
 
 pub slice_bounds-put_times-end-2 : goal.slice_bounds-put_times-end-2
 slice_bounds-put_times-end-2 c =
     let g = good _ _ _ _ _ _ c.tablet_refusal-refusal.ensures c.if-refusal-ne0.false in
-    sym (length-take-le _ c.args.out.now (room g (cells-read _ _ c.head_of.ensures _ c.board_size-n.ensures)))
+    sym (length-take-le _ c.args.out.now (room g (cells_read _ _ c.head_of.ensures _ c.board_size-n.ensures)))
 
 -- and the times that came back
 pub slice_bounds-times-end-2 : goal.slice_bounds-times-end-2
 slice_bounds-times-end-2 c =
     let g = good _ _ _ _ _ _ c.tablet_refusal-refusal.ensures c.if-refusal-ne0.false in
-    let f = fits _ g (cells-read _ _ c.head_of.ensures _ c.board_size-n.ensures) c.entries-times.ensures in
+    let f = fits _ g (cells_read _ _ c.head_of.ensures _ c.board_size-n.ensures) c.entries-times.ensures in
     (back _ c.entries-times.result _ f c.run_file-rounds.auto.times).fits
 
 pub slice_bounds-put_times-end-3 : goal.slice_bounds-put_times-end-3
 slice_bounds-put_times-end-3 c =
     let g = good _ _ _ _ _ _ c.tablet_refusal-refusal.ensures c.if-refusal-ne0.false in
-    let f = fits _ g (cells-read _ _ c.head_of.ensures _ c.board_size-n.ensures) c.entries-times.ensures in
+    let f = fits _ g (cells_read _ _ c.head_of.ensures _ c.board_size-n.ensures) c.entries-times.ensures in
     (back _ c.entries-times.result _ f c.run_file-rounds.auto.times).count
 
 pub put_times-requires : goal.put_times-requires
 put_times-requires c =
     let g = good _ _ _ _ _ _ c.tablet_refusal-refusal.ensures c.if-refusal-ne0.false in
-    let cells = cells-read c.args.file.now _ c.head_of.ensures _ c.board_size-n.ensures in
+    let cells = cells_read c.args.file.now _ c.head_of.ensures _ c.board_size-n.ensures in
     let b = back _ c.entries-times.result _ (fits _ g cells c.entries-times.ensures) c.run_file-rounds.auto.times in
     length-take-le _ c.args.out.now (room g cells) ∙ ap (λ u. 4 * u) b.count
 
@@ -99,7 +99,7 @@ returns c =
     let k = c.tablet_refusal-refusal in
     let a = c.args in
     let g = good _ _ _ _ _ _ k.ensures c.if-refusal-ne0.false in
-    let cells = cells-read a.file.now _ c.head_of.ensures _ c.board_size-n.ensures in
+    let cells = cells_read a.file.now _ c.head_of.ensures _ c.board_size-n.ensures in
     let b = back _ c.entries-times.result _ (fits _ g cells c.entries-times.ensures) c.run_file-rounds.auto.times in
     let now = c.put_times.ensures ∙ ap (bytes_of four_bytes) (b.same ∙ c.run_file-rounds.ensures.times) in
     let long = sym (ap length now) ∙ c.put_times.auto.out ∙ length-take-le _ a.out.now (room g cells) in

@@ -1,4 +1,4 @@
--- `engine::run::run` meets its contract: what holds after some rounds, no more than the limit, is Mid-run, of whatever starts the board
+-- `engine::run::run` meets its contract: what holds after some rounds, no more than the limit, is MidRun, of whatever starts the board
 -- began with.
 use Prim.Native.Nat.{◌*◌, ◌-◌, ◌≤◌, ◌<◌}
 use native.Mathlib.Omega.{arith}
@@ -12,17 +12,17 @@ use borrow.Author.Rules.{rules}
 use Rattle.eikonal.specs.declared.Start.{Start}
 use Rattle.eikonal.specs.Inner.Good.{Good}
 use Rattle.front.specs.Board.{at}
-use Rattle.engine.specs.Run.{whole, At-round, One-round, Leapt}
+use Rattle.engine.specs.Run.{whole, AtRound, OneRound, Leapt}
 use Rattle.engine.proofs.Theory.Rounds.{leap_short}
-use Rattle.engine.proofs.Theory.Running.{ground-kept, Mid-run, run_short, run-begins, run_stops, run_ends, run-goes_on, run-early, run-busy}
+use Rattle.engine.proofs.Theory.Running.{ground-kept, MidRun, run_short, run-begins, run_stops, run_ends, run-goes_on, run-early, run-busy}
 use Rattle.engine.proofs.run.run.Statement.{statement}
 use Rattle.engine.proofs.run.run.Tie as tie
 
 abbrev invariant-loop : tie.invariant-loop
 invariant-loop slow times₀ work₀ size cols rows shape stride horizon limit n pending₀ done₀ times work pending done =
     (done ≤ limit)
-    × ((xs : List Start) → Good (whole shape slow xs) → At-round shape slow xs stride horizon 0 times₀ (at work₀ size)
-    → Mid-run shape slow xs stride horizon done times₀ times (at work₀ size) (at work pending))
+    × ((xs : List Start) → Good (whole shape slow xs) → AtRound shape slow xs stride horizon 0 times₀ (at work₀ size)
+    → MidRun shape slow xs stride horizon done times₀ times (at work₀ size) (at work pending))
 
 abbrev decreases-loop : tie.decreases-loop
 decreases-loop slow times₀ work₀ size cols rows shape stride horizon limit n pending₀ done₀ times work pending done = limit - done
@@ -42,7 +42,7 @@ abbrev some : tie.At-loop invariant-loop decreases-loop → List Start
 some c = (start c).requires.1.starts
 
 going : (c : tie.At-loop invariant-loop decreases-loop) → let a = (start c).args in
-    Mid-run a.shape a.slow.now (some c) a.stride a.horizon c.loop.done a.times.now c.loop.times
+    MidRun a.shape a.slow.now (some c) a.stride a.horizon c.loop.done a.times.now c.loop.times
     (at a.work.now a.size) (at c.loop.work c.loop.pending)
 going c = let o = (start c).requires.1 in c.loop.invariant.1 o.starts o.good o.at
 
@@ -53,7 +53,7 @@ short c =
     run_short a.shape a.slow.now (some c) p.pre.1.good a.stride a.horizon p.pre.2 p.pre.3 p.pre.4 (going c)
 
 more : (r : tie.After-round invariant-loop decreases-loop) → let l = (turn r).before in let a = (start l).args in
-    One-round a.shape a.slow.now (some l) a.stride a.horizon l.loop.done r.round.result.cells l.loop.times r.round.new.1.0
+    OneRound a.shape a.slow.now (some l) a.stride a.horizon l.loop.done r.round.result.cells l.loop.times r.round.new.1.0
     (at l.loop.work l.loop.pending) (at r.round.new.1.1.0 r.round.result.pending)
 more r = let l = (turn r).before in r.round.ensures (some l) (start l).pre.1.good (going l).at
 

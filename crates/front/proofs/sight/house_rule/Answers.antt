@@ -14,10 +14,10 @@ use Rattle.front.proofs.Theory.Reading.{
   over-some,
   fits-back,
   fits_on,
-  columns-read,
-  rows-read,
-  stack-read,
-  rule-read,
+  columns_read,
+  rows_read,
+  stack_read,
+  rule_read,
 }
 use Rattle.front.specs.Board.{Sees, Ground, Measures, tentative}
 use Rattle.front.specs.declared.Shape.{Shape}
@@ -75,7 +75,7 @@ returns c =
     let si = c.requires.2 in
     let f = tentative c.args.work.now c.args.n in
     let stack =
-    stack-read g me si f (storey g me c.storey_rows.ensures).0 (rw (c.seam_under.ensures, c.seam_over.ensures) at c.along-stack.ensures) in
-    let read = rule-read g me si f (columns-read g me si f c.along-across.ensures) (rows-read g me si f c.along-down.ensures) stack in
+    stack_read g me si f (storey g me c.storey_rows.ensures).0 (rw (c.seam_under.ensures, c.seam_over.ensures) at c.along-stack.ensures) in
+    let read = rule_read g me si f (columns_read g me si f c.along-across.ensures) (rows_read g me si f c.along-down.ensures) stack in
     let is = alike _ _ _ _ _ _ _ (g.good.level c.requires.4 c.args.c) c.of_three.ensures in
     omega (arith, is, read, c.ranges.limit.fits)

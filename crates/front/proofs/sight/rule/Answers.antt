@@ -4,7 +4,7 @@ use Rattle.eikonal.specs.Board.{never, slowness, along_row, down_column, local_o
 use Rattle.eikonal.specs.Inner.Good.{Pair}
 use Rattle.eikonal.proofs.FirstPass.{alike}
 use Rattle.eikonal.proofs.Walls.{unequal}
-use Rattle.front.proofs.Theory.Reading.{slow-long, within, flat, sees-columns, sees-rows, columns-read, rows-read, flat-read, rule-read}
+use Rattle.front.proofs.Theory.Reading.{slow-long, within, flat, sees-columns, sees-rows, columns_read, rows_read, flat_read, rule_read}
 use Rattle.front.specs.Board.{land, rule_at, both_seen, tentative, Ground, Measures, Site}
 use Rattle.front.specs.declared.Shape.{Shape}
 use Rattle.front.proofs.sight.rule.Goals as goal
@@ -41,7 +41,7 @@ by_pair : {s : Shape} {slow ts cols rows : List ℕ} (g : Ground s slow ts cols 
     → z ≡ min limit (rule_at s slow ts c (tentative work n))
 by_pair g {n} me si work l h ex ey e =
     let f = tentative work n in
-    let read = rule-read g me si f (columns-read g me si f ex) (rows-read g me si f ey) (flat-read g me si f (flat g h)) in
+    let read = rule_read g me si f (columns_read g me si f ex) (rows_read g me si f ey) (flat_read g me si f (flat g h)) in
     omega (arith, e, read, l)
 
 pub of_equal-requires : goal.of_equal-requires

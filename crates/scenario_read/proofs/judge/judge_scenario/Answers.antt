@@ -6,7 +6,7 @@ use Rattle.eikonal.proofs.Causes.{number_is, both}
 use Rattle.scenario.specs.File.{file_causes, file_refusal}
 use Rattle.scenario.specs.Calls.{scenario_of, reader_causes, reader_refusal, reader_answer}
 use Rattle.scenario.proofs.Causes.{accepted}
-use Rattle.scenario.proofs.Reading.{read-zero}
+use Rattle.scenario.proofs.Reading.{read_zero}
 use Rattle.scenario.proofs.Answers.{reader-zero, reader-refused}
 use Rattle.scenario_read.proofs.judge.judge_scenario.Goals.{After-room_refusal-refusal, Else-refusal-ne0}
 use Rattle.scenario_read.proofs.judge.judge_scenario.Goals as goal
@@ -26,7 +26,7 @@ fine : (c : Else-refusal-ne0) → (reader_refusal c.args.file.now c.args.slows c
 fine c = sym (number_is (refusal (goal.at.Else-refusal-ne0 c).After-room_refusal-refusal)) ∙ c.if-refusal-ne0.false
 
 pub head_of-requires : goal.head_of-requires
-head_of-requires c = (accepted _ (read-zero _ _ _ (fine (goal.at.head_of-requires c).Else-refusal-ne0)).0).front.head
+head_of-requires c = (accepted _ (read_zero _ _ _ (fine (goal.at.head_of-requires c).Else-refusal-ne0)).0).front.head
 
 pub returns : goal.returns
 returns c = c.scenario_of.ensures ∙ ap scenario_of c.head_of.ensures ∙ sym (reader-zero _ _ (fine (goal.at.returns c).Else-refusal-ne0))

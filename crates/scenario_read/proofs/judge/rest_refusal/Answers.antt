@@ -16,7 +16,7 @@ use Rattle.scenario.specs.File.{head_in, runs_in, starts_in, held, ticks_good, r
 use Rattle.scenario.specs.Inner.Walk.{Fits, runs_by, starts_by, wall_among}
 use Rattle.scenario.proofs.Causes.{Headed, headed}
 use Rattle.scenario.proofs.GoodRuns.{slows_of}
-use Rattle.scenario.proofs.Reading.{file_long, sides-read, starts-read}
+use Rattle.scenario.proofs.Reading.{file_long, sides_read, starts_read}
 use Rattle.scenario_read.proofs.StartWalk.{walls_found}
 use Rattle.scenario_read.proofs.judge.rest_refusal.Goals.{Else-so_far-ne0, After-head_of-head, After-records_refusal-records}
 use Rattle.scenario_read.proofs.judge.rest_refusal.Goals as goal
@@ -35,7 +35,7 @@ fits : (c : After-head_of-head) → Fits c.head_of-head.result c.args.file.now
 fits c =
     let e = c.head_of-head.ensures in
     let h = front (goal.at.After-head_of-head c).Else-so_far-ne0 in
-    let s = sides-read _ _ e h in
+    let s = sides_read _ _ e h in
     record { head = e; long = file_long _ _ e h; wide = s.0; high = s.1 }
 
 pub pairs_refusal-pairs-requires : goal.pairs_refusal-pairs-requires
@@ -82,7 +82,7 @@ passed c z =
 pub walls_refusal-requires-clause-rise : goal.walls_refusal-requires-clause-rise
 walls_refusal-requires-clause-rise c =
     let r = (goal.at.walls_refusal-requires-clause-rise c).After-records_refusal-records in
-    λ z. ap (starts_rise _ 0) (starts-read _ _ c.head_of-head.ensures _ _ refl refl) ∙ (passed r z).1
+    λ z. ap (starts_rise _ 0) (starts_read _ _ c.head_of-head.ensures _ _ refl refl) ∙ (passed r z).1
 
 pub returns : goal.returns
 unfolding rest_causes start_causes pair_causes held runs_in starts_in size

@@ -4,7 +4,7 @@ use Rattle.eikonal.specs.Order.{first_of}
 use Rattle.eikonal.proofs.Causes.{first, next}
 use Rattle.scenario.specs.Calls.{room_good}
 use Rattle.scenario.proofs.Causes.{accepted}
-use Rattle.scenario.proofs.Reading.{sides-read}
+use Rattle.scenario.proofs.Reading.{sides_read}
 use Rattle.scenario_read.proofs.judge.room_refusal.Goals as goal
 
 pub returns-then-so_far-ne0 : goal.returns-then-so_far-ne0
@@ -15,7 +15,7 @@ pub head_of-head-requires : goal.head_of-head-requires
 head_of-head-requires c = (accepted _ (c.requires c.if-so_far-ne0.false)).front.head
 
 pub board_size-requires : goal.board_size-requires
-board_size-requires c = sides-read _ _ c.head_of-head.ensures (accepted _ (c.requires c.if-so_far-ne0.false)).front
+board_size-requires c = sides_read _ _ c.head_of-head.ensures (accepted _ (c.requires c.if-so_far-ne0.false)).front
 
 pub returns : goal.returns
 unfolding first_of room_good

@@ -8,14 +8,14 @@ use Rattle.scenario.specs.declared.Head.{Head}
 use Rattle.scenario.specs.Runs.{painted, runs_good}
 use Rattle.scenario.specs.File.{head_in, runs_in}
 use Rattle.scenario.specs.Inner.Walk.{runs_onward}
-use Rattle.scenario.proofs.Reading.{runs-read}
+use Rattle.scenario.proofs.Reading.{runs_read}
 use Rattle.scenario.proofs.RunWalk.{runs-all}
 use Rattle.scenario_read.proofs.Painting.{painting_none, painting_fits, painting_more, painting_end}
 use Rattle.scenario_read.proofs.paint.read_slow.Goals as goal
 
 -- all runs of the file
 all : (f : List ℕ) (x : Head) (n : ℕ) → x ≡ head_in f → n ≡ x.runs → runs_in f ≡ runs_onward f n 0
-all f x n e w = sym (runs-read f x e n w) ∙ runs-all f n
+all f x n e w = sym (runs_read f x e n w) ∙ runs-all f n
 
 pub loop-i-init : goal.loop-i-init
 loop-i-init c =

@@ -6,7 +6,7 @@ use Rattle.eikonal.specs.Refusals.{by_lists, handed_refusal, cells_of, begins_of
 use Rattle.scenario.specs.Bytes.{records}
 use Rattle.scenario.specs.File.{head_in, start_size, start_in, starts_in, runs_end, held}
 use Rattle.scenario.specs.declared.Head.{Head}
-use Rattle.scenario.proofs.Reading.{file_long, starts-read}
+use Rattle.scenario.proofs.Reading.{file_long, starts_read}
 use Rattle.scenario.proofs.Composed.{held_lists}
 use Rattle.tablet.specs.Small.{horizon, small_refusal}
 use Rattle.tablet.proofs.Parts.{back}
@@ -28,7 +28,7 @@ whole f {x} {q} {base} {slow} {cells} {begins} l m z h k b o i j a d s t =
     let p = many f l z h k i in
     let r = many f m z h k j in
     let all : records start_size start_in (length (take q l)) (drop base f) ≡ starts_in f =
-    starts-read _ _ h _ _ (length-take-le q l p ∙ k) b in
+    starts_read _ _ h _ _ (length-take-le q l p ∙ k) b in
     lists_are f _ _ _ _ _ _ (ap (λ u. u.width) h) (ap (λ u. u.height) h) (ap (λ u. u.storeys) h) o
     ((back q l cells p a).same ∙ s ∙ ap cells_of all) ((back q m begins r d).same ∙ t ∙ ap begins_of all)
 

@@ -2,7 +2,7 @@ use Rattle.std.proofs.Common.{refl, arith}
 use Rattle.eikonal.specs.Order.{first_of}
 use Rattle.eikonal.proofs.Causes.{none-met, next}
 use Rattle.scenario.proofs.Causes.{headed}
-use Rattle.scenario.proofs.Reading.{sides-read}
+use Rattle.scenario.proofs.Reading.{sides_read}
 use Rattle.tablet.specs.Small.{board_small}
 use Rattle.tablet.proofs.small.size_refusal.Goals as goal
 
@@ -11,7 +11,7 @@ pub head_of-head-requires : goal.head_of-head-requires
 head_of-head-requires c = (headed _ (none-met _ (c.requires (omega arith)))).head
 
 pub board_size-requires : goal.board_size-requires
-board_size-requires c = sides-read _ _ c.head_of-head.ensures (headed _ (none-met _ (c.requires (omega arith))))
+board_size-requires c = sides_read _ _ c.head_of-head.ensures (headed _ (none-met _ (c.requires (omega arith))))
 
 pub returns : goal.returns
 unfolding first_of board_small
