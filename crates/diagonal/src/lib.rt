@@ -29,6 +29,7 @@ fn step(slowness: u32) -> u32
 }
 
 // The step, or 5 for a slowness above 4,095.
+#[tactic(auto, using(crate::proofs::Says::refuses, crate::proofs::Says::counts))]
 pub fn diagonal(slowness: u32) -> Reply
     ensures { DiagonalSays slowness result }
 {

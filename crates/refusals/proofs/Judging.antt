@@ -2,7 +2,7 @@
 use mathlib.Core.Path.{◌≡◌, refl, sym, ap, ◌∙◌}
 use mathlib.Core.Bool.{Bool, true, false, ◌||◌, or-false, or_assoc, cond}
 use mathlib.Core.List.{List, [], ◌∷◌, ◌++◌}
-use Prim.Native.Nat.{ℕ, zero, suc, ◌+◌, ◌≤◌, ◌<◌, min}
+use Prim.Native.Nat.{ℕ, suc, ◌+◌, ◌<◌}
 use native.Mathlib.Omega.{arith}
 use lib.Dec.{ltb, leb, eqb}
 use lib.ListN.{length, get_or, take, length-take}
@@ -10,7 +10,7 @@ use lib.Seq.{take-suc}
 use Rattle.eikonal.specs.Board.{Board, size, slowness}
 use Rattle.eikonal.specs.declared.Start.{Start}
 use borrow.Author.Tests.{eq-eqb, ne_eqb}
-use Rattle.eikonal.specs.Order.{Cause, caused, at_fault, first_of}
+use Rattle.eikonal.specs.Order.{caused, first_of}
 use Rattle.eikonal.specs.Refusals.{first_fault, on_board, first_off, first_low, late, on_wall, starts_of, record_causes, start_causes}
 use Rattle.eikonal.proofs.StartLists.{starts_of-append}
 use Rattle.refusals.specs.declared.board.Judged.{Judged}
