@@ -12,7 +12,7 @@ pub fn bytes(rt: &impl Print, text: &[u8]) -> io::Result<()> {
 }
 
 // A number and a space; `-` for never.
-fn number(rt: &impl Print, x: u32) -> io::Result<()> {
+fn print(rt: &impl Print, x: u32) -> io::Result<()> {
     if x == NEVER {
         return bytes(rt, b"- ");
     }
@@ -21,14 +21,14 @@ fn number(rt: &impl Print, x: u32) -> io::Result<()> {
 
 fn print_all(rt: &impl Print, list: &[u32]) -> io::Result<()> {
     for x in list {
-        number(rt, *x)?;
+        print(rt, *x)?;
     }
     Ok(())
 }
 
 fn print_sides(rt: &impl Print, list: &[u8]) -> io::Result<()> {
     for x in list {
-        number(rt, *x as u32)?;
+        print(rt, *x as u32)?;
     }
     Ok(())
 }
