@@ -8,7 +8,7 @@ say_usage() {
 usage: [DESTDIR=FOLDER] $0 PREFIX
 Installs include/murgolab.h, lib/libmurgolab.a and lib/pkgconfig/murgolab.pc below PREFIX, which may be relative to the
 folder you are in. With DESTDIR they go below DESTDIR/PREFIX, to be moved later; the pkg-config file names PREFIX.
-Where the archive is missing or older than the sources, \`rt staticlib murgolab\` makes it first.
+Where the archive is missing or older than the sources, \`tools/build archive\` makes it first, by the Rattle kit.
 USAGE
 }
 
@@ -32,9 +32,10 @@ esac
 home=$(cd "$(dirname "$0")" && pwd)
 archive=$home/target/staticlib/libmurgolab.a
 # An archive that came from elsewhere is installed without the kit, whatever its age.
-if [ ! -f "$archive" ] || [ -n "$(find "$home/crates" -name '*.rt' -newer "$archive")" ]; then
+newer() { find "$home/crates" -name out -prune -o -name '*.rt' -newer "$archive" -print; }
+if [ ! -f "$archive" ] || [ -n "$(newer)" ]; then
     if command -v rt >/dev/null; then
-        (cd "$home" && rt staticlib murgolab) >&2
+        "$home/tools/build" archive >&2
     fi
     [ -f "$archive" ] || refuse "there is no archive, and no \`rt\` that makes it"
 fi

@@ -29,7 +29,7 @@ library() { # NAME TREE CALLS
 # What rt says is shown only where it fails.
 archive() { # TREE
     mkdir -p target/bench
-    (cd "$1" && rt staticlib murgolab) >target/bench/rt.log 2>&1 || { cat target/bench/rt.log >&2; exit 1; }
+    "$1/tools/build" archive >target/bench/rt.log 2>&1 || { cat target/bench/rt.log >&2; exit 1; }
 }
 
 this_tree() {

@@ -1,4 +1,4 @@
-//! Links the archive that `rt staticlib murgolab` writes.
+//! Links the archive that `tools/build archive` writes.
 
 use std::path::Path;
 
@@ -8,7 +8,7 @@ fn main() {
     let archive = folder.join("libmurgolab.a");
     println!("cargo:rerun-if-changed={}", archive.display());
     if !archive.exists() {
-        panic!("target/staticlib/libmurgolab.a is not there: run `rt staticlib murgolab` first");
+        panic!("target/staticlib/libmurgolab.a is not there: run `tools/build archive` first");
     }
     println!("cargo:rustc-link-search=native={}", folder.display());
     println!("cargo:rustc-link-lib=static=murgolab");

@@ -12,6 +12,6 @@ fn main() {
     println!("cargo:rustc-link-search=native={}", folder.display());
     // A build script does not know what it is run for: one that failed would stop `cargo doc` and `cargo check` too.
     // So a library is asked for whose name says what is missing: the compiler's one message is then of use.
-    let missing = " (run rt staticlib murgolab, or name the folder of libmurgolab.a in MURGOLAB_LIB)";
+    let missing = " (run tools/build archive, or name the folder of libmurgolab.a in MURGOLAB_LIB)";
     println!("cargo:rustc-link-lib=static=murgolab{}", if archive.exists() { "" } else { missing });
 }

@@ -31,13 +31,15 @@ pub fn read(path: impl AsRef<Path>) -> String {
     fs::read_to_string(&path).unwrap_or_else(|e| panic!("{}: {}", path.display(), e))
 }
 
-/// The files of a folder and of those below it that end with `ending`.
+/// The files of a folder and of those below it that end with `ending`, without those that `rt` keeps in a folder out/.
 pub fn files(folder: &Path, ending: &str) -> Vec<PathBuf> {
     let mut found = Vec::new();
     for entry in fs::read_dir(folder).unwrap_or_else(|e| panic!("{}: {}", folder.display(), e)) {
         let path = entry.expect("an entry of a folder").path();
         if path.is_dir() {
-            found.extend(files(&path, ending));
+            if !path.ends_with("out") {
+                found.extend(files(&path, ending));
+            }
         } else if path.to_string_lossy().ends_with(ending) {
             found.push(path);
         }
@@ -112,9 +114,9 @@ pub struct Export {
     pub clauses: Vec<String>,
 }
 
-/// The exports of the crate murgolab.
+/// The exports of the crate murgolab_c.
 pub fn exports() -> Vec<Export> {
-    let sources = files(&repository().join("crates/murgolab/src"), ".rt");
+    let sources = files(&repository().join("crates/murgolab_c/src"), ".rt");
     sources.iter().flat_map(|source| exports_in(&read(source))).collect()
 }
 
@@ -129,7 +131,7 @@ pub fn exports_in(source: &str) -> Vec<Export> {
             "extern" => {
                 words.expect(&["\"", "C", "\"", "fn"]);
                 let name = words.word();
-                assert!(!mangled, "{} has no `#[no_mangle]`", name);
+                assert!(!mangled, "{} has no `#[unsafe(no_mangle)]`", name);
                 mangled = true;
                 let function = rust_function(&mut words);
                 found.push(Export { name, function, clauses: clauses(&mut words) });
@@ -140,7 +142,7 @@ pub fn exports_in(source: &str) -> Vec<Export> {
     found
 }
 
-/// What the crate murgolab exports, with the structs that its functions name.
+/// What the crate murgolab_c exports, with the structs that its functions name.
 pub fn exported() -> Interface {
     let mut interface = Interface::default();
     for export in exports() {
@@ -259,13 +261,16 @@ fn rust_function(words: &mut Words) -> Function {
     Function { answer: rust_type(words), parameters }
 }
 
-/// `kind { .. }` or `kind name { .. }`, any number of them, and the body's `{`: the kinds.
+/// `kind { .. }` or `kind name { .. }`, also `kind* ..` and `kind name: ..`, any number of them, and the body's `{`: the
+/// kinds.
 fn clauses(words: &mut Words) -> Vec<String> {
     let mut kinds = Vec::new();
     while !words.take(&["{"]) {
         kinds.push(words.word());
+        words.take(&["*"]);
         if !words.take(&["{"]) {
             words.word();
+            words.take(&[":"]);
             words.expect(&["{"]);
         }
         let mut open = 1;

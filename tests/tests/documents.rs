@@ -19,7 +19,7 @@ fn saved_as(block: &str) -> Option<PathBuf> {
     name.starts_with("target/").then(|| repository().join(name))
 }
 
-/// All files outside of target/ and .git/, with when they were last written.
+/// All files outside of target/, .git/ and the crates' out/, with when they were last written.
 fn tree() -> BTreeMap<PathBuf, std::time::SystemTime> {
     let mut found = BTreeMap::new();
     for entry in fs::read_dir(repository()).expect("the repository") {
@@ -40,7 +40,7 @@ fn tree() -> BTreeMap<PathBuf, std::time::SystemTime> {
 
 /// `.ci/run` runs this very test, and `bench/run` measures for minutes. All else is run in order from the
 /// repository's folder: files are saved where their first line says, commands must end well, and a block of text
-/// behind them is what they print. Nothing is left outside of target/.
+/// behind them is what they print. Nothing is left outside of target/ and the crates' out/.
 #[test]
 fn every_snippet_of_the_readme_runs_as_pasted() {
     let before = tree();

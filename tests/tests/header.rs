@@ -51,38 +51,43 @@ fn every_export_has_an_ensures_and_no_requires() {
 #[test]
 fn the_clauses_of_exports_are_read_by_kind() {
     let source = r#"
-        #[no_mangle]
+        #[unsafe(no_mangle)]
         pub extern "C" fn plain(x: u32) -> Reply
-            ensures { λ r. ⌜ Says x r ⌝ }
+            ensures { Says x result }
         {
             other(x)
         }
-        #[no_mangle]
+        #[unsafe(no_mangle)]
         pub extern "C" fn in_braces(x: &[u32]) -> eikonal::Reply
             // requires { nothing }
-            ensures { λ r. ⌜ f {now (x .entry)} (λ {y}. { y {r} }) ⌝ }
+            ensures now { f {x.now} (λ {y}. { y {result} }) }
             ensures put { requires { ensures {} } }
         {
             let requires = { 1 };
             requires { ensures }
         }
-        #[no_mangle]
+        #[unsafe(no_mangle)]
         pub extern "C" fn asking(x: u32, y: u32) -> u32
-            requires { ⌜ x < {y} ⌝ }
-            ensures { λ r. ⌜ r < y ⌝ }
+            requires { x < {y} }
+            ensures { result < y }
         { y }
-        #[no_mangle]
+        #[unsafe(no_mangle)]
         pub extern "C" fn asking_by_name(x: u32) -> u32
-            ensures least { λ r. ⌜ x ≤ r ⌝ } requires small { ⌜ x < 5 ⌝ }
+            ensures least { x ≤ result } requires small { x < 5 }
         { x }
-        #[no_mangle]
+        #[unsafe(no_mangle)]
+        pub extern "C" fn starred(x: u32) -> u32
+            requires* { ⌜ x < 5 ⌝ }
+            ensures* least { ⌜ x ≤ result ⌝ }
+        { x }
+        #[unsafe(no_mangle)]
         pub extern "C" fn silent(x: u32) -> u32 {
             ensures { x }
         }
-        #[no_mangle]
+        #[unsafe(no_mangle)]
         pub extern "C" fn haunted(x: u32) -> u32
-            ghost { ℕ }
-            ensures { λ α r. ⌜ r ≡ α ⌝ }
+            ghost top: { ℕ }
+            ensures { result ≡ top }
         { x }"#;
     let read: Vec<_> = exports_in(source).into_iter().map(|export| (export.name, export.clauses.join(" "))).collect();
     let typed = [
@@ -90,6 +95,7 @@ fn the_clauses_of_exports_are_read_by_kind() {
         ("in_braces", "ensures ensures"),
         ("asking", "requires ensures"),
         ("asking_by_name", "ensures requires"),
+        ("starred", "requires ensures"),
         ("silent", ""),
         ("haunted", "ghost ensures"),
     ];

@@ -3,6 +3,7 @@
 use second_solver::declared::{read, repository};
 use second_solver::pages::blocks;
 use second_solver::programs::{empty_folder, printed, run, told};
+use std::ffi::OsString;
 use std::fs;
 use std::path::{Path, PathBuf};
 use std::process::{Command, Output};
@@ -28,7 +29,8 @@ fn sh(folder: &Path, command: &str) {
 fn tools(folder: &Path) -> PathBuf {
     let tools = folder.with_extension("tools");
     fs::create_dir_all(&tools).expect("a folder");
-    sh(&tools, "for tool in cat dirname find install mkdir sed; do ln -sf \"$(command -v $tool)\" .; done");
+    let called = "bash cat cmp cp dirname find install mkdir mv sed sha256sum sort xargs";
+    sh(&tools, &format!("for tool in {}; do ln -sf \"$(command -v $tool)\" .; done", called));
     tools
 }
 
@@ -96,33 +98,92 @@ fn prefixes_with_other_signs_are_refused_and_nothing_is_written() {
     assert_eq!(fs::read_dir(&folder).expect("the folder").count(), 0);
 }
 
-/// A copy of what the script needs, with a kit whose `rt` notes that it was called and makes an archive of nothing.
-#[test]
-fn the_archive_is_made_where_it_is_missing_or_old_and_a_kit_is_there() {
-    let folder = folder("install_archive");
+/// A folder outside of the repository, which goes with what is in it: `rt ci` refuses sources and a crates.txt that
+/// stand below the repository's own, in target/ too.
+struct Apart(PathBuf);
+
+impl Apart {
+    fn new(test: &str) -> Apart {
+        let name = format!("murgolab-{}-{}", test, std::process::id());
+        Apart(empty_folder(&std::env::temp_dir().to_string_lossy(), &name))
+    }
+}
+
+impl Drop for Apart {
+    fn drop(&mut self) {
+        let _ = fs::remove_dir_all(&self.0);
+    }
+}
+
+/// A copy of what the scripts need in `folder`, with a kit whose `rt` notes where it was called. It makes an archive of
+/// nothing, or fails where there is a file `broken`. The answer is a PATH with the kit, and one without.
+fn copy_with_kit(folder: &Path) -> [std::ffi::OsString; 2] {
     let make = format!(
-        "mkdir -p kit crates/murgolab/src include; touch crates/murgolab/src/lib.rt
-        cp '{0}/install.sh' '{0}/murgolab.pc.in' .; cp '{0}/include/murgolab.h' include/
-        printf '#!/bin/sh\\necho $* >>calls\\nmkdir -p target/staticlib\\n>target/staticlib/libmurgolab.a\\n' >kit/rt
+        "mkdir -p kit tools crates/murgolab/src crates/murgolab_c include; touch crates.txt crates/murgolab/src/lib.rt
+        cp '{0}/install.sh' '{0}/murgolab.pc.in' .; cp '{0}/tools/build' tools/; cp '{0}/include/murgolab.h' include/
+        printf '#!/bin/sh\n[ $1 != version ] || exit 0\necho ${{PWD##*/}} $* >>../../calls\n' >kit/rt
+        printf '[ ! -e ../../broken ] || exit 1\nmkdir -p out\n>out/libmurgolab_c.a\n' >>kit/rt
         chmod +x kit/rt",
         repository().display()
     );
-    sh(&folder, &make);
-    let (tools, kit) = (tools(&folder), folder.join("kit"));
+    fs::create_dir(folder).expect("a folder");
+    sh(folder, &make);
+    let (tools, kit) = (tools(folder), folder.join("kit"));
+    [[tools.clone(), kit].to_vec(), vec![tools]].map(|path| std::env::join_paths(path).expect("folders"))
+}
+
+#[test]
+fn the_archive_is_made_where_it_is_missing_or_old_and_a_kit_is_there() {
+    let apart = Apart::new("install_archive");
+    let folder = apart.0.join("copy");
+    let [with, without] = copy_with_kit(&folder);
     let install = |with_kit: bool| {
-        let path = std::env::join_paths([&tools, &kit].iter().take(1 + usize::from(with_kit))).expect("two folders");
         let mut install = Command::new(folder.join("install.sh"));
+        let path = if with_kit { &with } else { &without };
         run(install.arg("prefix").current_dir(&folder).env_remove("DESTDIR").env("PATH", path), &[])
     };
     assert_refused(&install(false), 1, "there is no archive");
-    let old = "touch -d '2 seconds' crates/murgolab/src/lib.rt";
+    let old = "echo >>crates/murgolab/src/lib.rt; touch -d '2 seconds' crates/murgolab/src/lib.rt";
     for (before, with_kit, made) in [("", true, 1), ("", true, 1), (old, false, 1), (old, true, 2)] {
         sh(&folder, before);
         let output = install(with_kit);
         assert!(output.status.success() && output.stdout.is_empty(), "{}", told(&output));
-        assert_eq!(read(folder.join("calls")), "staticlib murgolab\n".repeat(made), "{} {}", before, with_kit);
+        assert_eq!(read(folder.join("calls")), "murgolab_c lib\n".repeat(made), "{} {}", before, with_kit);
         assert_eq!(is_installed(&folder.join("prefix")), [true; 3]);
     }
+}
+
+/// `tools/build` proves again what another source, another file beside it or another archive may have altered, and
+/// leaves the archive where it was where that fails.
+#[test]
+fn what_is_as_it_was_is_not_built_again_and_what_fails_is_named() {
+    let apart = Apart::new("install_build");
+    let folder = apart.0.join("copy");
+    let [with, without] = copy_with_kit(&folder);
+    let build = |path: &OsString| {
+        let mut build = Command::new(folder.join("tools/build"));
+        run(build.arg("archive").current_dir(&folder).env("PATH", path), &[])
+    };
+    assert_refused(&build(&without), 1, "there is no `rt`");
+    let altered =
+        ["crates.txt", "crates/murgolab/src/lib.rt", "crates/murgolab/b.antt", "target/staticlib/libmurgolab.a"];
+    for (made, before) in [""].into_iter().chain(altered).enumerate() {
+        if !before.is_empty() {
+            sh(&folder, &format!("echo >>{}", before));
+        }
+        for _ in 0..2 {
+            let output = build(&with);
+            assert!(output.status.success() && output.stdout.is_empty(), "{}", told(&output));
+            assert_eq!(read(folder.join("calls")), "murgolab_c lib\n".repeat(made + 1), "{}", before);
+            assert_eq!(read(folder.join("target/staticlib/libmurgolab.a")), "", "{}", before);
+        }
+    }
+    sh(&folder, "echo >>crates.txt; echo kept >target/staticlib/libmurgolab.a; touch broken");
+    for _ in 0..2 {
+        assert_refused(&build(&with), 1, "the crate murgolab_c is not proved or not built");
+        assert_eq!(read(folder.join("target/staticlib/libmurgolab.a")), "kept\n");
+    }
+    assert_refused(&run(Command::new(folder.join("tools/build")).arg("all").env("PATH", &with), &[]), 2, "usage: ");
 }
 
 #[test]

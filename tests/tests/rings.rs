@@ -218,7 +218,7 @@ fn a_file_may_come_in_pieces() {
     let file = largest();
     for pieces in [1, 2, 5, 40] {
         let piped = rings().stdin(Stdio::piped()).stdout(Stdio::piped()).spawn();
-        let mut child = piped.expect("target/bin/rings, which `rt check rings` makes");
+        let mut child = piped.expect("target/bin/rings, which `tools/build rings` makes");
         let mut pipe = child.stdin.take().expect("a pipe");
         for piece in file.chunks(file.len() / pieces + 1) {
             pipe.write_all(piece).expect("a program that reads");

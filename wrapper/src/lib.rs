@@ -37,7 +37,7 @@
 //!
 //! A loop that makes many marches keeps a [`Work`], and allocates once.
 //!
-//! The archive is the one that `rt staticlib murgolab` writes to the repository's target/staticlib, or that of the
+//! The archive is the one that `tools/build archive` writes to the repository's target/staticlib, or that of the
 //! folder that MURGOLAB_LIB names, by a path from the root. `cargo doc` and `cargo check` do without.
 
 #![warn(missing_docs)]
