@@ -1,5 +1,6 @@
 -- What is promised. Each statement is a type; proofs/Promises.antt gathers their proofs.
-use Rattle.std.specs.Prelude.{◌≡◌, Bool, true, false, ◌||◌, cond, List, [], ◌∷◌, ◌++◌, ◌⊎◌, ◌≢◌, ℕ, zero, suc, ◌+◌, ◌*◌, ◌-◌, ◌≤◌, ◌<◌, min, max, leb, eqb, length, get_or}
+use Rattle.std.specs.Prelude.{◌≡◌, Bool, true, false, ◌||◌, cond, List, [], ◌∷◌, ◌++◌, ◌⊎◌, ◌≢◌, ℕ, zero, suc, ◌+◌, ◌*◌, ◌-◌, ◌≤◌, ◌<◌, min, max, leb}
+use Rattle.std.specs.Prelude.{eqb, length, get_or}
 use Rattle.eikonal.specs.Axes.{Near, NextOn, NoSlower, Lattice, given_on, met_on}
 use Rattle.eikonal.specs.Board.{Board, axes, size, slowness, start_time, time, Meets, solved, marched, reached, diagonal, local, never, largest}
 use Rattle.eikonal.specs.Board.{all_never, least_from, square, passes, earlier}

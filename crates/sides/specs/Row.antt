@@ -28,7 +28,8 @@ pub record Set (bound : ℕ) (own left right above below sides sides' : List ℕ
 pub record SetInner (bound : ℕ) (own above below sides sides' : List ℕ) : Type 0 where
   pub long : length sides' ≡ length sides
   pub each : (i : ℕ) → suc (suc i) < length sides
-      → get_or sides' (suc i) 0 ≡ flat (get_or own i 0) (get_or own (suc (suc i)) 0) (get_or above (suc i) 0) (get_or below (suc i) 0) (shown bound (get_or own (suc i) 0))
+      → get_or sides' (suc i) 0 ≡ flat (get_or own i 0) (get_or own (suc (suc i)) 0) (get_or above (suc i) 0) (get_or below (suc i) 0)
+      (shown bound (get_or own (suc i) 0))
 
 -- with tiles `side` wide, what the cell at a column sees before it and behind it
 abbrev pub left_of : (side : ℕ) → (own far : List ℕ) → (i : ℕ) → ℕ

@@ -1,6 +1,7 @@
 -- The commit of a round: stored times fall to the tentative times of the noted cells, and cells of other tiles hear of them one noted cell after the other.
 -- Code reads all new stored times at once; the invariant brings them in one by one: a ghost exchange, ghost by ghost.
-use Rattle.std.proofs.Common.{◌≡◌, ℕ, zero, suc, ◌<◌, ◌≤◌, min, Bool, true, false, cond, ◌||◌, eqb, ltb, ◌≢◌, List, sym, refl, ap, ◌∙◌, subst, arith, ltb-false, ltb-true, le-ltb, eq-eqb, ne_eqb}
+use Rattle.std.proofs.Common.{◌≡◌, ℕ, zero, suc, ◌<◌, ◌≤◌, min, Bool, true, false, cond, ◌||◌, eqb, ltb, ◌≢◌, List, sym, refl, ap, ◌∙◌, subst, arith}
+use Rattle.std.proofs.Common.{ltb-false, ltb-true, le-ltb, eq-eqb, ne_eqb}
 use native.Mathlib.Decide.{ℕ_discrete}
 use Rattle.eikonal.specs.Board.{Board, never, largest, size, slowness, time}
 use Rattle.eikonal.specs.Tiles.{tile_of, counts_as}

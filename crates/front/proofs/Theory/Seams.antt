@@ -1,5 +1,6 @@
 -- Seams and tiles, the same for every axis: neighbours across an inside seam share a tile, across a border they do not.
-use Rattle.std.proofs.Common.{◌≡◌, ℕ, suc, ◌+◌, ◌-◌, ◌*◌, ◌/◌, ◌%◌, ◌<◌, ◌≤◌, min, cond, eqb, ◌≢◌, ◌⊎◌, List, [], ◌∷◌, map, sym, refl, ap, ◌∙◌, subst, ap₂, inl, inr, mod-lt, mod-eq_of_lt, div-add-mod', div-one, arith, eq-eqb, ne_eqb}
+use Rattle.std.proofs.Common.{◌≡◌, ℕ, suc, ◌+◌, ◌-◌, ◌*◌, ◌/◌, ◌%◌, ◌<◌, ◌≤◌, min, cond, eqb, ◌≢◌, ◌⊎◌, List, [], ◌∷◌, map, sym, refl, ap, ◌∙◌, subst}
+use Rattle.std.proofs.Common.{ap₂, inl, inr, mod-lt, mod-eq_of_lt, div-add-mod', div-one, arith, eq-eqb, ne_eqb}
 use native.Mathlib.Decide.{ℕ_discrete}
 use native.Mathlib.Nat.{suc-mod, mod-mod, mod_self, zero-mod, add-mod_right, add-mul-div_left, add-mul-mod_self_left, div-eq_of_lt-le}
 use Rattle.eikonal.specs.Axes.{place, sight, Spans, Next, Near}

@@ -1,5 +1,7 @@
 -- The beginning of a round: the work list emptied, starts placed in it one after the other or part by part, and then gathered in the queue.
-use Rattle.std.proofs.Common.{◌≡◌, ℕ, zero, suc, ◌+◌, ◌*◌, ◌<◌, ◌≤◌, min, Bool, true, false, cond, ◌&&◌, eqb, ltb, leb, ◌≢◌, List, [], ◌∷◌, ◌++◌, length, get_or, take, set, sym, refl, ◌∙◌, subst, inr, arith, length-set, length-take, get_or-set_other, take-suc, get_or-set_same, ltb-false, ltb-true, eq-eqb, ne_eqb, eqb-true, leb-true}
+use Rattle.std.proofs.Common.{◌≡◌, ℕ, zero, suc, ◌+◌, ◌*◌, ◌<◌, ◌≤◌, min, Bool, true, false, cond, ◌&&◌, eqb, ltb, leb, ◌≢◌, List, [], ◌∷◌, ◌++◌}
+use Rattle.std.proofs.Common.{length, get_or, take, set, sym, refl, ◌∙◌, subst, inr, arith, length-set, length-take, get_or-set_other, take-suc}
+use Rattle.std.proofs.Common.{get_or-set_same, ltb-false, ltb-true, eq-eqb, ne_eqb, eqb-true, leb-true}
 use native.Mathlib.Decide.{ℕ_discrete}
 use Rattle.eikonal.specs.Board.{never, start_time}
 use Rattle.eikonal.specs.declared.Start.{Start}

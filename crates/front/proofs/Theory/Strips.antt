@@ -1,5 +1,6 @@
 -- A round of some rows, with no inside seam before or behind them: what it leaves of their cells, and what one strip after the other leaves.
-use Rattle.std.proofs.Common.{◌≡◌, ℕ, suc, ◌+◌, ◌*◌, ◌/◌, ◌%◌, ◌<◌, ◌≤◌, min, eqb, ◌≢◌, ◌⊎◌, List, [], sym, refl, ap, ◌∙◌, inl, inr, ⊎_elim, mul-le-mul_right, mod-lt, mod-eq_of_lt, div-add-mod', mul-one, div-one, arith, eq-eqb, ne_eqb}
+use Rattle.std.proofs.Common.{◌≡◌, ℕ, suc, ◌+◌, ◌*◌, ◌/◌, ◌%◌, ◌<◌, ◌≤◌, min, eqb, ◌≢◌, ◌⊎◌, List, [], sym, refl, ap, ◌∙◌, inl, inr, ⊎_elim}
+use Rattle.std.proofs.Common.{mul-le-mul_right, mod-lt, mod-eq_of_lt, div-add-mod', mul-one, div-one, arith, eq-eqb, ne_eqb}
 use native.Mathlib.Decide.{ℕ_discrete}
 use native.Mathlib.Nat.{mod_self, mod-one, zero-mod, add-mod_right}
 use Rattle.eikonal.specs.Axes.{place}

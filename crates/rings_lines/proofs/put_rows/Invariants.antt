@@ -9,7 +9,8 @@ invariant-loop-i l = record {
   within : l.i ≤ length l.times;
   same : length l.out ≡ length l.initial.out;
   room : l.place + 11 * (length l.times - l.i) ≤ length l.initial.out;
-  rest : (now : List ℕ) (next : ℕ) → Put l.out l.place (rows l.width l.ticks l.i (drop l.i l.times)) now next → Put l.initial.out l.at (rows l.width l.ticks 0 l.times) now next;
+  rest : (now : List ℕ) (next : ℕ) → Put l.out l.place (rows l.width l.ticks l.i (drop l.i l.times)) now next
+      → Put l.initial.out l.at (rows l.width l.ticks 0 l.times) now next;
 }
 
 abbrev pub decreases-loop-i : goal.decreases-loop-i

@@ -36,7 +36,8 @@ board c xs js =
     let ticks : c.when.result ≡ turn_refusal a.ticks =
     c.when.ensures ∙ (λ i. cond (not (c.ticks_good.ensures i)) (cause 3) (c.cause.ensures i)) in
     c.board_refusal-board.ensures xs (a.ground ∷ []) js.is ground
-    ∙ (λ i. first_of (board_causes (given_by a.width a.height a.storeys a.slow.now a.cells a.begins xs) (a.ground ∷ a.slow.now) (ticks i) (c.cause-2.ensures i)))
+    ∙ (λ i. first_of (board_causes (given_by a.width a.height a.storeys a.slow.now a.cells a.begins xs) (a.ground ∷ a.slow.now)
+    (ticks i) (c.cause-2.ensures i)))
 
 pub returns-then-board-ne0 : goal.returns-then-board-ne0
 returns-then-board-ne0 c =

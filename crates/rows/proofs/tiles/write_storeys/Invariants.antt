@@ -7,7 +7,8 @@ use Rattle.rows.proofs.tiles.write_storeys.Given as goal
 abbrev pub invariant-loop-first : goal.invariant-loop-first
 invariant-loop-first l =
     (l.first % l.shape.height ≡ 0)
-    × Entered (PillarBefore l.shape.width l.shape.height l.top l.bottom l.left l.right l.first) (due l.bound l.work l.shape.cells) l.initial.times l.times l.count
+    × Entered (PillarBefore l.shape.width l.shape.height l.top l.bottom l.left l.right l.first) (due l.bound l.work l.shape.cells)
+    l.initial.times l.times l.count
 
 abbrev pub decreases-loop-first : goal.decreases-loop-first
 decreases-loop-first l = l.lines - l.first

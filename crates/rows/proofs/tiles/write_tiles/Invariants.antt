@@ -7,7 +7,8 @@ use Rattle.rows.proofs.tiles.write_tiles.Given as goal
 
 abbrev pub invariant-loop-i : goal.invariant-loop-i
 invariant-loop-i l =
-    (l.i ≤ length l.order) × Entered (λ d. member (tile_in l.shape d) (take l.i l.order) ≡ true) (due l.bound l.work l.shape.cells) l.initial.times l.times l.count
+    (l.i ≤ length l.order) × Entered (λ d. member (tile_in l.shape d) (take l.i l.order) ≡ true) (due l.bound l.work l.shape.cells)
+    l.initial.times l.times l.count
 
 abbrev pub decreases-loop-i : goal.decreases-loop-i
 decreases-loop-i l = length l.order - l.i

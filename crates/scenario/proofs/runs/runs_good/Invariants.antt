@@ -9,7 +9,8 @@ use Rattle.scenario.proofs.runs.runs_good.Given as goal
 abbrev pub invariant-loop-i : goal.invariant-loop-i
 invariant-loop-i l = record {
   within : l.i ≤ l.count;
-  good : runs_good l.n l.ground 0 l.ground (records run_size run_in l.count (drop head_size l.file)) ≡ runs_good l.n l.ground l.free l.last (runs_onward l.file l.count l.i);
+  good : runs_good l.n l.ground 0 l.ground (records run_size run_in l.count (drop head_size l.file))
+      ≡ runs_good l.n l.ground l.free l.last (runs_onward l.file l.count l.i);
 }
 
 abbrev pub decreases-loop-i : goal.decreases-loop-i

@@ -70,7 +70,8 @@ returns-clause-rounds c =
     let n = few c.requires.tiles s.0 s.1 c.tiles_along.ensures c.tiles_along-2.ensures in
     -- the rising order is good
     let ordered = part-good _ c.entries-order.result c.rise.new.order (omega (arith, n, c.entries-order.ensures)) c.rise.auto.order c.rise.ensures
-    p.board a.across a.down (ap₂ ◌*◌ c.tiles_along.ensures c.tiles_along-2.ensures ∙ counted a.width a.height a.storeys a.slow.now a.cells.now a.begins.now a.across a.down) in
+    p.board a.across a.down
+    (ap₂ ◌*◌ c.tiles_along.ensures c.tiles_along-2.ensures ∙ counted a.width a.height a.storeys a.slow.now a.cells.now a.begins.now a.across a.down) in
     let even = length-take-le (length a.times.now) c.side_entries-sides.result (omega (arith, c.side_entries-sides.ensures, s.2, s.3)) in
     run-rounds p _ _ _ _ c.requires.board s c.requires.tiles ordered even c.work_entries-work.ensures _ _ _ _ _ _ _ c.play-reply.ensures
     c.run_job.ensures (omega arith) c.nothing_own.ensures
@@ -83,7 +84,8 @@ returns-clause-times c =
     let s = c.requires.sides in
     let n = few c.requires.tiles s.0 s.1 c.tiles_along.ensures c.tiles_along-2.ensures in
     let ordered = part-good _ c.entries-order.result c.rise.new.order (omega (arith, n, c.entries-order.ensures)) c.rise.auto.order c.rise.ensures
-    p.board a.across a.down (ap₂ ◌*◌ c.tiles_along.ensures c.tiles_along-2.ensures ∙ counted a.width a.height a.storeys a.slow.now a.cells.now a.begins.now a.across a.down) in
+    p.board a.across a.down
+    (ap₂ ◌*◌ c.tiles_along.ensures c.tiles_along-2.ensures ∙ counted a.width a.height a.storeys a.slow.now a.cells.now a.begins.now a.across a.down) in
     let even = length-take-le (length a.times.now) c.side_entries-sides.result (omega (arith, c.side_entries-sides.ensures, s.2, s.3)) in
     run-times p _ _ _ _ c.requires.board s c.requires.tiles ordered even c.work_entries-work.ensures _ _ _ _ _ _ _ c.play-reply.ensures
     c.run_job.ensures (omega arith) c.nothing_own.ensures

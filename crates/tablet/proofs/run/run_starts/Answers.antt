@@ -51,27 +51,33 @@ slice_bounds-read_starts-end-2 c =
 
 pub read_starts-requires : goal.read_starts-requires
 read_starts-requires c =
-    let p = length-take-le _ c.entries-cells.result (many c.args.file.now _ c.requires.board.0 c.head_of-head.ensures c.wide-q.ensures c.entries-cells.ensures) in
-    let q = length-take-le _ c.entries-begins.result (many c.args.file.now _ c.requires.board.0 c.head_of-head.ensures c.wide-q.ensures c.entries-begins.ensures) in
+    let p = length-take-le _ c.entries-cells.result
+    (many c.args.file.now _ c.requires.board.0 c.head_of-head.ensures c.wide-q.ensures c.entries-cells.ensures) in
+    let q = length-take-le _ c.entries-begins.result
+    (many c.args.file.now _ c.requires.board.0 c.head_of-head.ensures c.wide-q.ensures c.entries-begins.ensures) in
     let long = file_long c.args.file.now _ c.head_of-head.ensures (small c.args.file.now c.requires.board.0).taken.front in
     (omega (arith, long, c.starts_base-base.ensures, c.wide-q.ensures, p), p ∙ sym q)
 
 -- the parts as they came back
 pub slice_bounds-cells-end-2 : goal.slice_bounds-cells-end-2
 slice_bounds-cells-end-2 c =
-    (back _ c.entries-cells.result _ (many c.args.file.now _ c.requires.board.0 c.head_of-head.ensures c.wide-q.ensures c.entries-cells.ensures) c.read_starts.auto.cells).fits
+    (back _ c.entries-cells.result _ (many c.args.file.now _ c.requires.board.0 c.head_of-head.ensures c.wide-q.ensures c.entries-cells.ensures)
+    c.read_starts.auto.cells).fits
 
 pub slice_bounds-run_board-end : goal.slice_bounds-run_board-end
 slice_bounds-run_board-end c =
-    (back _ c.entries-cells.result _ (many c.args.file.now _ c.requires.board.0 c.head_of-head.ensures c.wide-q.ensures c.entries-cells.ensures) c.read_starts.auto.cells).count
+    (back _ c.entries-cells.result _ (many c.args.file.now _ c.requires.board.0 c.head_of-head.ensures c.wide-q.ensures c.entries-cells.ensures)
+    c.read_starts.auto.cells).count
 
 pub slice_bounds-begins-end-2 : goal.slice_bounds-begins-end-2
 slice_bounds-begins-end-2 c =
-    (back _ c.entries-begins.result _ (many c.args.file.now _ c.requires.board.0 c.head_of-head.ensures c.wide-q.ensures c.entries-begins.ensures) c.read_starts.auto.begins).fits
+    (back _ c.entries-begins.result _ (many c.args.file.now _ c.requires.board.0 c.head_of-head.ensures c.wide-q.ensures c.entries-begins.ensures)
+    c.read_starts.auto.begins).fits
 
 pub slice_bounds-run_board-end-2 : goal.slice_bounds-run_board-end-2
 slice_bounds-run_board-end-2 c =
-    (back _ c.entries-begins.result _ (many c.args.file.now _ c.requires.board.0 c.head_of-head.ensures c.wide-q.ensures c.entries-begins.ensures) c.read_starts.auto.begins).count
+    (back _ c.entries-begins.result _ (many c.args.file.now _ c.requires.board.0 c.head_of-head.ensures c.wide-q.ensures c.entries-begins.ensures)
+    c.read_starts.auto.begins).count
 
 pub run_board-requires-clause-board : goal.run_board-requires-clause-board
 run_board-requires-clause-board c =
