@@ -1,2 +1,2 @@
+pub mod Replied
 pub mod Rule
-pub mod Says

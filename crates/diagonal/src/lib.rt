@@ -3,11 +3,14 @@
 
 mod table;
 
-ghost use Rattle.std.specs.Prelude.{◌≡◌, ◌≤◌};
+ghost use Rattle.std.specs.Prelude.{◌≡◌, ◌≤◌, IfOk};
 ghost use Rattle.eikonal.specs.Board.{diagonal};
-ghost use Rattle.eikonal.specs.Entry.{DiagonalSays};
+ghost use Rattle.eikonal.specs.Entry.{step_refusal, DiagonalSays};
+ghost use Rattle.eikonal.specs.Told.{told};
 
 use eikonal::Reply;
+use eikonal::refused::{Cause, Refusal};
+use refusals::causes::refuse_if;
 
 // An index copies the table to the stack: no inner loop calls this.
 fn kept(slowness: u32) -> u16
@@ -29,12 +32,17 @@ fn step(slowness: u32) -> u32
 }
 
 // The step, or 5 for a slowness above 4,095.
-#[tactic(auto, using(crate::proofs::Says::refuses, crate::proofs::Says::counts))]
+#[tactic(auto, using(eikonal::proofs::Outcomes::outcomes), unfolding(eikonal::specs::Entry::step_refusal))]
+fn checked_step(slowness: u32) -> Result<u32, Refusal>
+    ensures refuses { told result ≡ step_refusal slowness }
+    ensures gives { IfOk result (λ d. d ≡ diagonal slowness) }
+{
+    refuse_if(slowness > 4095, Cause::Steep)?;
+    Ok(step(slowness))
+}
+
 pub fn diagonal(slowness: u32) -> Reply
     ensures { DiagonalSays slowness result }
 {
-    if slowness > 4095 {
-        return eikonal::refused(eikonal::cause(5));
-    }
-    eikonal::counted(step(slowness))
+    checked_step(slowness).into()
 }

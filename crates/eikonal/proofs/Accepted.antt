@@ -11,7 +11,7 @@ use Rattle.eikonal.specs.Board.{Board, size, largest}
 use Rattle.eikonal.specs.Refusals.{Handed, within, board_causes, tile_causes, job_causes, list_causes, order_good, nothing_own}
 use Rattle.eikonal.specs.Ledger.{Call, call, call_board, call_causes, own_refusal, refusal, own_answer, counted}
 use Rattle.eikonal.specs.Entry.{Lent, Counts}
-use Rattle.eikonal.specs.declared.Own.{Own}
+use Rattle.eikonal.specs.Order.{Own}
 use Rattle.eikonal.specs.declared.Reply.{Reply}
 use Rattle.eikonal.specs.declared.Job.TheVariants.{March, Round, Run}
 use Rattle.eikonal.proofs.Causes.{NoneMet, none-met, unrefused, met-append, met_parts, number_is}

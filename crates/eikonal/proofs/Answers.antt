@@ -6,7 +6,7 @@ use borrow.Author.Tests.{eq-eqb, ne_eqb}
 use Rattle.eikonal.specs.Order.{none}
 use Rattle.eikonal.specs.Ledger.{answer, answered}
 use Rattle.eikonal.specs.Entry.{local_answer, local_answered}
-use Rattle.eikonal.specs.declared.Refusal.{Refusal}
+use Rattle.eikonal.specs.Order.{Refusal}
 
 pub answered-number : (k : Refusal) (c : ℕ) → (answered k c).number ≡ k.number
 unfolding answered answer

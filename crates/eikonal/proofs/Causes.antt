@@ -1,16 +1,15 @@
 -- Refusals as the first of a list of causes: what is not refused meets none of them, two lists are looked through one after the other, and a value that
 -- was found stands for a list.
-use mathlib.Core.Path.{◌≡◌, refl, sym, ap, ap₂, ◌∙◌}
+use mathlib.Core.Path.{◌≡◌, refl, ap}
 use mathlib.Core.Bool.{Bool, true, false, ◌&&◌, cond}
 use mathlib.Core.List.{List, [], ◌∷◌, ◌++◌}
 use mathlib.Core.Logic.{◌≢◌}
-use Prim.Native.Nat.{ℕ, suc}
 use native.Mathlib.Omega.{arith}
 use native.Mathlib.Decide.{ℕ_discrete}
 use lib.Dec.{ltb, eqb}
 use borrow.Author.Tests.{eqb-true, eqb-false, eq-eqb, ne_eqb, lt-ltb, le-ltb, ltb-true}
-use Rattle.eikonal.specs.Order.{Cause, caused, found, cause, cause_at, none, or_else, first_of}
-use Rattle.eikonal.specs.declared.Refusal.{Refusal}
+use Rattle.eikonal.specs.Order.{Cause, found, cause_at, none, or_else, first_of}
+use Rattle.eikonal.specs.Order.{Refusal}
 
 -- two refusals with one number, by the value
 pub number_is : {a b : Refusal} → a ≡ b → a.number ≡ b.number
@@ -33,13 +32,6 @@ first a b x e d = rw (ne_eqb a.number 0 d) e
 pub next : (a b x : Refusal) → a.number ≡ 0 → x ≡ b → x ≡ or_else a b
 unfolding or_else
 next a b x z e = rw (eq-eqb a.number 0 z) e
-
-pub or_else_assoc : (a b c : Refusal) → or_else (or_else a b) c ≡ or_else a (or_else b c)
-unfolding or_else
-or_else_assoc a b c = elim (ℕ_discrete a.number 0) [
-  | yes z ↦ rw (eq-eqb a.number 0 z) refl
-  | no d ↦ rw (ne_eqb a.number 0 d) (rw (ne_eqb a.number 0 d) refl)
-]
 
 -- what is looked for behind a refusal matters where it is none
 pub alike_behind : (a b c : Refusal) → (a.number ≡ 0 → b ≡ c) → or_else a b ≡ or_else a c
@@ -79,15 +71,6 @@ first-append (k ∷ js) ks = go (ltb 0 k.number) k.met refl (first-append js ks)
     go true false a on = on
     go false q a on = on
 
--- code that looks through one list and then another
-pub both : (js ks : List Cause) {x a b : Refusal} → x ≡ or_else a b → a ≡ first_of js → b ≡ first_of ks → x ≡ first_of (js ++ ks)
-both js ks e p q = e ∙ ap₂ or_else p q ∙ sym (first-append js ks)
-
--- behind what was found so far
-pub further : (a : Refusal) (js ks : List Cause) {x y : Refusal} → x ≡ or_else y (first_of ks) → y ≡ or_else a (first_of js)
-    → x ≡ or_else a (first_of (js ++ ks))
-further a js ks e q = e ∙ ap (λ y. or_else y (first_of ks)) q ∙ or_else_assoc a (first_of js) (first_of ks) ∙ ap (or_else a) (sym (first-append js ks))
-
 pub met-append : (js ks : List Cause) → NoneMet js → NoneMet ks → NoneMet (js ++ ks)
 unfolding NoneMet
 met-append [] ks a b = b
@@ -105,15 +88,3 @@ first_found r ks = elim (ℕ_discrete r.number 0) [
   | yes z ↦ rw (eq-eqb r.number 0 z, le-ltb 0 r.number (omega arith)) refl
   | no d ↦ rw (ne_eqb r.number 0 d, lt-ltb 0 r.number (omega arith)) refl
 ]
-
--- ---- code that puts a refusal together from the last cause to the first
-pub nothing-met : none ≡ first_of []
-unfolding first_of
-nothing-met = refl
-
-pub also-met : (p : Bool) (k : ℕ) (ks : List Cause) {x : Refusal} → x ≡ first_of ks → cond p (cause (suc k)) x ≡ first_of (caused (suc k) p ∷ ks)
-unfolding first_of
-also-met p k ks e = rw (lt-ltb 0 (suc k) (omega arith)) (ap (cond p (cause (suc k))) e)
-
-pub also-found : (r : Refusal) (ks : List Cause) {x : Refusal} → x ≡ first_of ks → or_else r x ≡ first_of (found r ∷ ks)
-also-found r ks e = ap (or_else r) e ∙ sym (first_found r ks)

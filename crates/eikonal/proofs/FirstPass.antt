@@ -48,11 +48,11 @@ module _ (g h a b z : ℕ) where
 -- ---- past the last axis that counts, n: so many ticks past it come to f, against what is due
 module _ (g h a b z n due : ℕ) (f : ℕ → ℕ) (past : (e : ℕ) → n + e ≤ never → passes g h a b z (n + e) ≡ leb due (f e)) (limit : ℕ) (fits : limit ≤ never) where
   -- so many are too few, and the limit is at most a tick later
-  held_back : (e : ℕ) → n + e ≤ never → limit ≤ n + e + 1 → f e < due → limit ≡ min limit (local_of g h a b z)
+  pub held_back : (e : ℕ) → n + e ≤ never → limit ≤ n + e + 1 → f e < due → limit ≡ min limit (local_of g h a b z)
   held_back e i l k = limit-stays g h a b z limit fits (n + e) l (λ _. past e i ∙ lt-leb _ _ k)
 
   -- e ticks, before the limit, are enough, and e - 1 are not
-  let_through : (e : ℕ) → 1 ≤ g * h → n + e < limit → 1 ≤ e → due ≤ f e → f (e - 1) < due → n + e ≡ min limit (local_of g h a b z)
+  pub let_through : (e : ℕ) → 1 ≤ g * h → n + e < limit → 1 ≤ e → due ≤ f e → f (e - 1) < due → n + e ≡ min limit (local_of g h a b z)
   let_through e o l i p k =
       let here : n + e ≡ min limit (n + e) = omega arith in
       let before : min limit (n + e) - 1 ≡ n + (e - 1) = omega arith in
@@ -81,29 +81,17 @@ module _ (x y m n : ℕ) (x-some : 1 ≤ x) (y-some : 1 ≤ y) (ordered : m ≤ 
   early t l k g = passes_gaps t (t - m) 0 l refl (omega arith) ∙ lt-leb _ _ (short (t - m) g)
 
   -- past it both
-  gaps_past : (e : ℕ) → n + e ≤ never → passes x y m n never (n + e) ≡ leb (x * x * (y * y)) (weighed (y * y) (x * x) (n - m) e)
+  pub gaps_past : (e : ℕ) → n + e ≤ never → passes x y m n never (n + e) ≡ leb (x * x * (y * y)) (weighed (y * y) (x * x) (n - m) e)
   gaps_past e l =
       let s : (n - m + e) * (n - m + e) * (y * y) + e * e * (x * x) ≡ weighed (y * y) (x * x) (n - m) e = omega arith in
       passes_gaps (n + e) (n - m + e) e l (omega arith) (omega arith) ∙ ap (leb (x * x * (y * y))) s
 
   module _ (limit : ℕ) (fits : limit ≤ never) where
-    -- the limit lies at the later axis or before
-    pub no_later : n - m < x → limit ≤ n → limit ≡ min limit (local_of x y m n never)
-    no_later k l = limit-stays x y m n never limit fits (limit - 1) (omega arith) (λ _. early (limit - 1) (omega arith) (omega arith) (omega arith))
-
     -- the later axis comes too late
     pub straight : x ≤ n - m → min limit (m + x) ≡ min limit (local_of x y m n never)
     straight k =
         first_pass x y m n never limit fits (m + x) both (along_passes x y m n never)
         (early (min limit (m + x) - 1) (omega arith) (omega arith) (omega arith))
-
-    -- one tick before the limit is past the later axis, by too few
-    pub too_early : n < limit → weighed (y * y) (x * x) (n - m) (limit - n - 1) < x * x * (y * y) → limit ≡ min limit (local_of x y m n never)
-    too_early k f = held_back x y m n never n _ _ gaps_past limit fits (limit - n - 1) (omega arith) (omega arith) f
-
-    pub slanted : (e : ℕ) → n + e < limit → 1 ≤ e → x * x * (y * y) ≤ weighed (y * y) (x * x) (n - m) e
-        → weighed (y * y) (x * x) (n - m) (e - 1) < x * x * (y * y) → n + e ≡ min limit (local_of x y m n never)
-    slanted e = let_through x y m n never n _ _ gaps_past limit fits e both
 
 -- ---- equal numbers: what is due and what squares come to, both counted s² times
 scaled : (s x : ℕ) → s * s ≤ x → s * s * (s * s) ≤ x * (s * s)
@@ -111,12 +99,6 @@ scaled s x h = mul-le-mul_right (s * s) h
 
 scaled_short : (s x : ℕ) → 1 ≤ s → x < s * s → x * (s * s) < s * s * (s * s)
 scaled_short s x i h = omega (arith, mul-le-mul_right (s * s) h, mul-le-mul i i)
-
-pub weighed_scaled : (s d e : ℕ) → s * s ≤ weighed 1 1 d e → s * s * (s * s) ≤ weighed (s * s) (s * s) d e
-weighed_scaled s d e h = omega (arith, scaled s (weighed 1 1 d e) h)
-
-pub weighed-short : (s d e : ℕ) → 1 ≤ s → weighed 1 1 d e < s * s → weighed (s * s) (s * s) d e < s * s * (s * s)
-weighed-short s d e i h = omega (arith, scaled_short s (weighed 1 1 d e) i h)
 
 pub equal_passes : (s a b z t : ℕ) → 1 ≤ s → passes s s a b z t ≡ leb (s * s) ((t - a) * (t - a) + (t - b) * (t - b) + (t - z) * (t - z))
 unfolding passes square
@@ -130,27 +112,6 @@ equal_passes s a b z t i = go ((t - a) * (t - a)) ((t - b) * (t - b)) ((t - z) *
         by : (v : Bool) → leb (s * s) (p + q + r) ≡ v → leb (s * s * (s * s)) ((p + q + r) * (s * s)) ≡ v
         by true e = le-leb _ _ (scaled s _ (leb-true _ _ e))
         by false e = lt-leb _ _ (scaled_short s _ i (leb-false _ _ e))
-
--- ---- three axes, the last of them z
-module _ (s a b z : ℕ) (s-some : 1 ≤ s) (a_first : a ≤ z) (b-first : b ≤ z) where
-  three-past : (e : ℕ) → z + e ≤ never → passes s s a b z (z + e) ≡ leb (s * s) (three_squares (z - a) (z - b) e)
-  three-past e l =
-      let p : z + e - a ≡ z - a + e = omega arith in
-      let q : z + e - b ≡ z - b + e = omega arith in
-      let r : z + e - z ≡ e = omega arith in
-      equal_passes s a b z (z + e) s-some ∙ rw (p, q, r) refl
-
-  module _ (limit : ℕ) (fits : limit ≤ never) where
-    -- the other two are too few at the last axis's time, and the limit lies at it or before
-    pub three_no_later : z ≤ never → three_squares (z - a) (z - b) 0 < s * s → limit ≤ z → limit ≡ min limit (local_of s s a b z)
-    three_no_later l f k = held_back s s a b z z _ _ three-past limit fits 0 (omega arith) (omega arith) f
-
-    pub three_too_early : z < limit → three_squares (z - a) (z - b) (limit - z - 1) < s * s → limit ≡ min limit (local_of s s a b z)
-    three_too_early k f = held_back s s a b z z _ _ three-past limit fits (limit - z - 1) (omega arith) (omega arith) f
-
-    pub three_slanted : (e : ℕ) → z + e < limit → 1 ≤ e → s * s ≤ three_squares (z - a) (z - b) e
-        → three_squares (z - a) (z - b) (e - 1) < s * s → z + e ≡ min limit (local_of s s a b z)
-    three_slanted e = let_through s s a b z z _ _ three-past limit fits e (mul-le-mul s-some s-some)
 
 -- where the other two are enough by the last axis's time, it does not count
 pub last-late : (limit s a b z r : ℕ) → limit ≤ never → s * s ≤ three_squares (z - a) (z - b) 0

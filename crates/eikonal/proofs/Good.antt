@@ -16,7 +16,7 @@ use Rattle.eikonal.specs.Refusals.{Handed, handed, handed_refusal, within, board
 use Rattle.eikonal.specs.Refusals.{ill_stacked, pair_causes, house_refusal, late, on_wall, record_causes, start_causes}
 use Rattle.eikonal.specs.Promise.{board_good}
 use Rattle.eikonal.specs.Inner.Good.{Known, Pair, Good, starts_rise}
-use Rattle.eikonal.specs.declared.Refusal.{Refusal}
+use Rattle.eikonal.specs.Order.{Refusal}
 use Rattle.eikonal.proofs.Causes.{NoneMet, none-met, unrefused, met_parts, number_is}
 use Rattle.eikonal.proofs.Faults.{rises}
 

@@ -17,7 +17,7 @@ use Rattle.eikonal.specs.Entry.{Lent, Counts, Says}
 use Rattle.eikonal.specs.Promise.{ordered, OrderFree, RunOrderFree, SidesOrderFree, RunIsRounds, single_round, single_rounds, rounds_leave}
 use Rattle.eikonal.specs.Promise.{Steps, done, then, EveryList, HandedOn, EverySheet, Program, Keeps, played, played_sides, ListsKeep}
 use Rattle.eikonal.specs.Promise.{SameHanded, ListsAreRecords, SameAnswers}
-use Rattle.eikonal.specs.declared.Own.{Own}
+use Rattle.eikonal.specs.Order.{Own}
 use Rattle.eikonal.specs.declared.Reply.{Reply}
 use Rattle.eikonal.specs.declared.Job.{Job}
 use Rattle.eikonal.specs.declared.Job.TheVariants.{March, Round, Run}

@@ -7,6 +7,7 @@ pub mod Local
 pub mod LocalRule
 pub mod FirstPass
 pub mod Causes
+pub mod Outcomes
 pub mod Faults
 pub mod Good
 pub mod Grid

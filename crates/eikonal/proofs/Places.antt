@@ -18,7 +18,7 @@ use Rattle.eikonal.specs.Entry.{local_causes}
 use Rattle.eikonal.specs.Promise.{CallsInOrder, LocalInOrder, cell_at, AllOn, AllRise, FirstAtFault, PlaceIsFirst}
 use Rattle.eikonal.specs.Promise.{Steps, AllPlace, EveryPlace}
 use Rattle.eikonal.specs.declared.Start.{Start}
-use Rattle.eikonal.specs.declared.Refusal.{Refusal}
+use Rattle.eikonal.specs.Order.{Refusal}
 use Rattle.eikonal.specs.declared.Reply.{Reply}
 use Rattle.eikonal.specs.declared.Job.{Job}
 use Rattle.eikonal.specs.declared.Job.TheVariants.{March, Round, Run}

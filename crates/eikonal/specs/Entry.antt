@@ -5,8 +5,8 @@ use Rattle.eikonal.specs.Order.{Cause, caused, first_of}
 use Rattle.eikonal.specs.Refusals.{steep, half_wall, nothing_own}
 use Rattle.eikonal.specs.Sides.{local_sides}
 use Rattle.eikonal.specs.Ledger.{Sheet, sheet, Call, answered, own_answer, own_times, own_sides, own_work}
-use Rattle.eikonal.specs.declared.Refusal.{Refusal}
-use Rattle.eikonal.specs.declared.Own.{Own}
+use Rattle.eikonal.specs.Order.{Refusal}
+use Rattle.eikonal.specs.Order.{Own}
 use Rattle.eikonal.specs.declared.Reply.{Reply}
 use Rattle.eikonal.specs.declared.LocalReply.{LocalReply}
 

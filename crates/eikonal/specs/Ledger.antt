@@ -5,8 +5,8 @@ use Rattle.eikonal.specs.Tiles.{round, altered, rounds}
 use Rattle.eikonal.specs.Sides.{march_sides, round_sides}
 use Rattle.eikonal.specs.Order.{Cause, found, none, first_of}
 use Rattle.eikonal.specs.Refusals.{Handed, board_causes, job_causes, list_causes, nothing_own}
-use Rattle.eikonal.specs.declared.Refusal.{Refusal}
-use Rattle.eikonal.specs.declared.Own.{Own}
+use Rattle.eikonal.specs.Order.{Refusal}
+use Rattle.eikonal.specs.Order.{Own}
 use Rattle.eikonal.specs.declared.Reply.{Reply}
 use Rattle.eikonal.specs.declared.Job.{Job}
 use Rattle.eikonal.specs.declared.Job.TheVariants.{March, Round, Run}

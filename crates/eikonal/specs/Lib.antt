@@ -5,6 +5,8 @@ pub mod Sides
 pub mod Order
 pub mod Refusals
 pub mod Ledger
+pub mod Told
+pub mod Handing
 pub mod Entry
 pub mod Promise
 pub mod Inner

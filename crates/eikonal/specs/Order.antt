@@ -1,9 +1,12 @@
 -- Why a call is refused: causes in one order, and the first of them that is met ("Turned down" of document 01, and the cards of document 02, which put
 -- their numbers into that order).
 use Rattle.std.specs.Prelude.{◌≡◌, Bool, true, ◌&&◌, cond, List, [], ◌∷◌, map, ℕ, suc, ◌<◌, ltb, leb, eqb}
-use Rattle.eikonal.specs.declared.Refusal.{Refusal}
 
--- A REFUSAL is a value, the code's own record: the number of its cause, 0 for none; and where a start is at fault, its place in the list, from 0
+-- A REFUSAL is a value: the number of its cause, 0 for none; and where a start is at fault, its place in the list, from 0
+pub record Refusal : Type 0 where
+  pub number : ℕ
+  pub place : ℕ
+
 abbrev pub cause_at : (number place : ℕ) → Refusal
 cause_at n i = record { number = n; place = i }
 
@@ -63,3 +66,18 @@ follows l (n ∷ ns) = cond (eqb n 0) (follows l ns) (leb l (rank n) && ltb (ran
 -- A LIST OF CAUSES FOLLOWS THE ORDER
 abbrev pub InOrder : List Cause → Type 0
 InOrder ks = follows 0 (map (λ k. k.number) ks) ≡ true
+
+-- WHAT A CALL LOOKS FOR OF ITS OWN, beside a march's causes: refusals that it has found, by the slots where they are due
+pub record Own : Type 0 where
+  -- behind 2: 3
+  pub ticks : Refusal
+  -- behind 23: 24
+  pub kinds : Refusal
+  -- behind 9: 16, 22, or a start that is added or removed
+  pub cell : Refusal
+  -- behind 13: times by what they hold
+  pub times : Refusal
+  -- behind 14: other lists, and sides by what they hold
+  pub lists : Refusal
+  -- behind all: 17
+  pub last : Refusal

@@ -5,8 +5,8 @@ use Rattle.eikonal.specs.Board.{Board, board_of, size, slowness, along_row, down
 use Rattle.eikonal.specs.declared.Start.{Start}
 use Rattle.eikonal.specs.Tiles.{tile_count}
 use Rattle.eikonal.specs.Order.{Cause, caused, at_fault, found, none, first_of}
-use Rattle.eikonal.specs.declared.Refusal.{Refusal}
-use Rattle.eikonal.specs.declared.Own.{Own}
+use Rattle.eikonal.specs.Order.{Refusal}
+use Rattle.eikonal.specs.Order.{Own}
 use Rattle.eikonal.specs.declared.Job.{Job}
 use Rattle.eikonal.specs.declared.Job.TheVariants.{March, Round, Run}
 

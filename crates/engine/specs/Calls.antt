@@ -1,26 +1,18 @@
--- The steps of a call: what one hands to the next. Only internal contracts cite these.
-use Rattle.std.specs.Prelude.{◌≡◌, true, ◌≢◌, List, [], ◌++◌, ℕ, ◌*◌, ◌≤◌, ◌<◌, length, get_or, drop, replicate}
+-- The job of a call, from starts that are placed. Only internal contracts cite these.
+use Rattle.std.specs.Prelude.{◌≡◌, true, List, [], ◌++◌, ℕ, ◌*◌, ◌≤◌, ◌<◌, length, get_or, drop, replicate}
 use Rattle.eikonal.specs.Board.{Board, largest, time, marched}
 use Rattle.eikonal.specs.Tiles.{tiled, round}
-use Rattle.eikonal.specs.Order.{none}
 use Rattle.eikonal.specs.Refusals.{order_good}
-use Rattle.eikonal.specs.Ledger.{Sheet, Call, call_board, own_refusal, entered, counted, answer}
+use Rattle.eikonal.specs.Ledger.{Sheet, entered, counted}
 use Rattle.eikonal.specs.Inner.Good.{Good}
 use Rattle.eikonal.specs.Inner.Sides.{sides_by}
-use Rattle.eikonal.specs.Inner.Good.{starts_rise}
-use Rattle.refusals.specs.Judge.{judge, nothing_judged}
 use Rattle.eikonal.specs.declared.Start.{Start}
-use Rattle.eikonal.specs.declared.Own.{Own}
-use Rattle.eikonal.specs.declared.Reply.{Reply}
 use Rattle.eikonal.specs.declared.Job.{Job}
 use Rattle.eikonal.specs.declared.Job.TheVariants.{March, Round, Run}
-use Rattle.refusals.specs.declared.board.Judged.{Judged}
 use Rattle.front.specs.Board.{land}
-use Rattle.front.specs.State.{Placed, Empty, Seeded, Standing}
+use Rattle.front.specs.State.{Standing}
 use Rattle.front.specs.declared.Shape.{Shape}
-use Rattle.sides.specs.Clear.{Cleared}
 use Rattle.engine.specs.Run.{whole}
-use Rattle.engine.specs.declared.calls.Task.{Task}
 
 -- ---- THE JOB, from starts that stand in the work list
 -- a legal board with its starts, and lists with room for it
@@ -82,43 +74,3 @@ abbrev pub shaped : (width height storeys : ℕ) → Job → Shape
 shaped w h s (March z) = shape_with w h s 256 256
 shaped w h s (Round tw th m) = shape_with w h s tw th
 shaped w h s (Run tw th d z) = shape_with w h s tw th
-
--- ---- THE STEPS
--- some starts were judged
-pub record SomeJudged (slow : List ℕ) (j : Judged) : Type 0 where
-  pub starts : List Start
-  pub is : j ≡ judge slow starts nothing_judged
-
--- the call is refused and the work list kept, or it is emptied for the call's board
-pub record Opened (c : Call) (o : Own) (times : ℕ) (t : Task) (work work' : List ℕ) : Type 0 where
-  pub judged : t.refusal ≡ own_refusal c o times
-  pub kept : t.refusal.number ≢ 0 → work' ≡ work
-  pub shape_is : t.refusal.number ≡ 0 → t.shape ≡ shaped (call_board c).wide (call_board c).high (call_board c).storeys c.job
-  pub emptied : t.refusal.number ≡ 0 → Empty t.shape.cells work work'
-
--- the starts can be placed, and are
-abbrev pub Sowable : Task → List Start → (work : List ℕ) → Type 0
-Sowable t xs v =
-    t.refusal.number ≡ 0 → (t.shape.cells ≤ 65536) × Placed t.shape.cells v × (starts_rise t.shape.cells 0 xs ≡ true)
-
-pub record Sown (t : Task) (xs : List Start) (work work' : List ℕ) : Type 0 where
-  pub kept : t.refusal.number ≢ 0 → work' ≡ work
-  pub sown : t.refusal.number ≡ 0 → Seeded t.shape.cells xs work work'
-
--- the job can be done, and is: unless the call is refused; then the refusal is the answer, and the lists are as they were
-abbrev pub Endable : Task → Job → (slow order times sides work : List ℕ) → Type 0
-Endable t j ss xs ts us v = t.refusal.number ≡ 0 → SomeStanding t.shape ss ts us v × Doable j t.shape xs
-
-pub record Ended (t : Task) (j : Job) (slow : List ℕ) (x : Reply) (before after : Sheet) (work work' : List ℕ) : Type 0 where
-  pub turned_down : t.refusal.number ≢ 0 → (x ≡ answer t.refusal 0) × (after ≡ before) × (work' ≡ work)
-  pub gone_through : t.refusal.number ≡ 0
-      → (x ≡ answer none x.count) × Goes j t.shape slow x.count before.times before.sides after work work'
-
--- the sides of the starts that are their cells' times can be cleared, and are: unless the call is refused
-abbrev pub Clearable : Task → List Start → (times sides : List ℕ) → Type 0
-Clearable t xs ts us =
-    t.refusal.number ≡ 0 → (length us ≡ length ts) × (length ts ≤ 65536) × (starts_rise (length ts) 0 xs ≡ true)
-
-pub record Clear (t : Task) (xs : List Start) (times sides sides' : List ℕ) : Type 0 where
-  pub kept : t.refusal.number ≢ 0 → sides' ≡ sides
-  pub cleared : t.refusal.number ≡ 0 → Cleared xs times sides sides'

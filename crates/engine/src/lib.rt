@@ -4,3 +4,4 @@
 pub mod calls;
 mod run;
 pub mod seeded;
+mod tiling;

@@ -7,8 +7,10 @@ ghost use Rattle.front.specs.Board.{land};
 ghost use Rattle.eikonal.specs.declared.Job.TheVariants.{March, Round, Run};
 ghost use Rattle.engine.specs.Calls.{SomeStanding, Doable, Goes};
 
+use super::tiling::Tiling;
 use eikonal::{Job, NEVER};
 use front::Shape;
+use front::scene::Scene;
 
 // A limit of rounds that never binds: no tile run has more than 300,000,000 + 65,536 (`few_rounds` of crates/eikonal/proofs/Rounds.antt).
 // Above every count of 32 bits, so that its tests compile to nothing.
@@ -29,13 +31,16 @@ fn march(
         (sheet times.new sides.new) work.old work.new }
 {
     let n = shape.cells;
-    let cols = front::seams::lay(shape.width, shape.across as usize, 1);
-    let rows = front::seams::lay(
-        shape.height as usize,
-        shape.down as usize,
-        shape.storeys as usize,
-    );
-    front::strip::drain_tile(slow, times, work, &cols, &rows, shape, horizon);
+    let cols = front::seams::lay_columns(shape);
+    let rows = front::seams::lay_rows(shape);
+    let scene = Scene {
+        slow,
+        times,
+        cols: &cols,
+        rows: &rows,
+        shape,
+    };
+    front::strip::drain_tile(&scene, work, horizon);
     let count = rows::whole::finish(work, times, n, horizon);
     sides::find_whole(times, work, shape, horizon, sides);
     queue::lists::fill(work, 0, 4 * n, 0);
@@ -57,16 +62,18 @@ fn tile_run(
 {
     let n = shape.cells;
     queue::lists::fill(times, 0, n, NEVER);
-    let cols = front::seams::lay(shape.width, shape.across as usize, 1);
-    let rows = front::seams::lay(
-        shape.height as usize,
-        shape.down as usize,
-        shape.storeys as usize,
-    );
+    let cols = front::seams::lay_columns(shape);
+    let rows = front::seams::lay_rows(shape);
     let size = front::seed::gather(work, n, 0, n);
-    let count = super::run::run(
-        slow, times, work, size, &cols, &rows, shape, stride, horizon, NO_LIMIT,
-    );
+    let tiling = Tiling {
+        slow,
+        cols: &cols,
+        rows: &rows,
+        shape,
+        stride,
+        horizon,
+    };
+    let count = super::run::run(&tiling, times, work, size, NO_LIMIT);
     sides::find_whole(times, work, shape, horizon, sides);
     queue::lists::fill(work, 0, 4 * n, 0);
     count
@@ -87,15 +94,18 @@ fn one_round(
         (sheet times.new sides.new) work.old work.new }
 {
     let n = shape.cells;
-    let cols = front::seams::lay(shape.width, shape.across as usize, 1);
-    let rows = front::seams::lay(
-        shape.height as usize,
-        shape.down as usize,
-        shape.storeys as usize,
-    );
-    front::strip::drain_strips(slow, times, work, &cols, &rows, shape, bound);
+    let cols = front::seams::lay_columns(shape);
+    let rows = front::seams::lay_rows(shape);
+    let scene = Scene {
+        slow,
+        times,
+        cols: &cols,
+        rows: &rows,
+        shape,
+    };
+    front::strip::drain_strips(&scene, work, bound);
     // while the ghosts are still stored
-    sides::find_round(slow, times, work, &cols, &rows, shape, bound, sides);
+    sides::find_round(&scene, work, bound, sides);
     let count = rows::tiles::write_tiles(times, work, shape, order, bound);
     queue::lists::fill(work, 0, 4 * n, 0);
     count

@@ -1,5 +1,5 @@
 -- A board as internal functions are lent it, and what its cells see. Only internal contracts cite these: they are definitions.
-use Rattle.std.specs.Prelude.{◌≡◌, ℕ, ◌+◌, ◌-◌, ◌*◌, ◌<◌, ◌≤◌, min, Bool, true, ◌≢◌, List, [], length, slice_index, slice_index_or}
+use Rattle.std.specs.Prelude.{◌≡◌, ℕ, ◌+◌, ◌-◌, ◌*◌, ◌<◌, ◌≤◌, min, Bool, true, ◌≢◌, List, [], length, slice_index}
 use Rattle.eikonal.specs.Board.{Board, board_of}
 use Rattle.eikonal.specs.Tiles.{counts_as}
 use Rattle.eikonal.specs.Inner.Good.{Good}
@@ -31,11 +31,9 @@ abbrev pub both_seen : Board → (stored : List ℕ) → (f : ℕ → ℕ) → (
 both_seen b ts f c k m o =
     min (across m (f (c + 0 - k)) (counts_as b ts (c + 0 - k))) (across o (f (c + k - 0)) (counts_as b ts (c + k - 0)))
 
--- seams between so many columns or rows, as laid so many times over; and how many, behind them
+-- seams between so many columns or rows, as laid so many times over
 pub record Marked (count side many : ℕ) (marks : List ℕ) : Type 0 where
   pub at : (i : ℕ) → i ≤ count * many → slice_index marks i ≡ seam count side i
-  pub last : slice_index_or marks 2049 0 + 1 ≡ count
-  pub over : slice_index_or marks 2050 0 ≡ many
 
 -- THE WORK LIST, with how many cells are pending
 pub record Work : Type 0 where
@@ -58,11 +56,6 @@ pub record Ground (s : Shape) (slow stored cols rows : List ℕ) : Type 0 where
   pub many : length stored ≡ s.cells
   pub columns : Marked s.width s.across 1 cols
   pub lines : Marked s.height s.down s.storeys rows
-
--- its number of cells and its width
-pub record Measures (s : Shape) (n w : ℕ) : Type 0 where
-  pub cells : n ≡ s.cells
-  pub width : w ≡ s.width
 
 -- of n cells in rows of w, numbered through all storeys, the one at a row and a column
 pub record Site (n w c row col : ℕ) : Type 0 where

@@ -2,12 +2,12 @@
 ghost use Rattle.std.specs.Prelude.{◌≡◌, ℕ, ◌*◌, ◌<◌, ◌≤◌, length};
 ghost use Rattle.eikonal.specs.Board.{time};
 ghost use Rattle.front.specs.Front.{Written};
-ghost use Rattle.front.specs.Seams.{border, near};
-ghost use Rattle.front.specs.Board.{land, rule_at, tentative, noted, at, Ground};
+ghost use Rattle.front.specs.Seams.{border};
+ghost use Rattle.front.specs.Board.{tentative, noted, at};
 ghost use Rattle.front.specs.State.{Held, Announced};
+ghost use Rattle.front.specs.Scene.{rule_of, near_of};
 
-use super::Shape;
-use queue::lists::wide;
+use super::scene::Scene;
 
 // Stores the times of the m cells that are noted.
 pub fn store(times: &mut [u32], work: &[u32], n: usize, m: usize)
@@ -15,41 +15,25 @@ pub fn store(times: &mut [u32], work: &[u32], n: usize, m: usize)
     ensures { (length times.new ≡ length times.old)
         × Written n (time times.old) (tentative work.now n) (time times.new) m (noted work.now n) }
 {
-    let mut i = 0;
-    while i < m {
-        let c = wide(work[3 * n + i]);
+    for note in &work[3 * n..3 * n + m] {
+        let c = *note as usize;
         times[c] = work[2 * n + c];
-        i += 1;
     }
 }
 
 // The neighbours in other tiles of the m cells that are noted hear of them, each with its stored time. Answers how many cells are then pending.
-pub fn announce(
-    slow: &[u32],
-    times: &[u32],
-    work: &mut [u32],
-    size: usize,
-    cols: &[u8; 2051],
-    rows: &[u8; 2051],
-    shape: Shape,
-    m: usize,
-) -> usize
-    requires { Ground shape slow.now times.now cols.now rows.now × Held shape.cells (at work.old size) × (m ≤ shape.cells)
-        × ((i : ℕ) → i < m → noted work.old shape.cells i < shape.cells) }
-    ensures { Announced shape.cells (rule_at shape slow.now times.now) (time times.now)
-        (noted work.old shape.cells) (λ c. near (land shape slow.now) shape.across shape.down border c) m
-        (at work.old size) (at work.new result) }
+pub fn announce(scene: &Scene, work: &mut [u32], size: usize, m: usize) -> usize
+    requires { let n = scene.now.shape.cells in
+        Held n (at work.old size) × (m ≤ n) × ((i : ℕ) → i < m → noted work.old n i < n) }
+    ensures { let n = scene.now.shape.cells in
+        Announced n (rule_of scene.now) (time scene.now.times.now) (noted work.old n) (near_of scene.now border) m (at work.old size)
+        (at work.new result) }
 {
-    let n = shape.cells;
-    let w = shape.width;
+    let n = scene.shape.cells;
     let mut pending = size;
-    let mut i = 0;
-    while i < m {
-        let c = wide(work[3 * n + i]);
-        pending = super::spread::tell_others(
-            slow, times, work, pending, cols, rows, shape, n, w, c, times[c],
-        );
-        i += 1;
+    for i in 0..m {
+        let c = work[3 * n + i] as usize;
+        pending = super::spread::tell_others(scene, work, pending, c, scene.times[c]);
     }
     pending
 }

@@ -3,16 +3,15 @@
 
 pub mod commit;
 pub mod drain;
+pub mod scene;
 pub mod seams;
 pub mod seed;
-pub mod sight;
+mod sight;
 mod spread;
 pub mod strip;
 mod wake;
 
-// A board's sides and storeys, its tiles' sides, and its number of cells. A struct is copied for every call that it is handed to, which costs a sixth of
-// a march: so the functions that a neighbour's hearing goes through take the number of cells and the width beside it. Only their contracts read the shape.
-// What those functions do not count with has 32 bits, so that less is copied.
+// A board's sides and storeys, its tiles' sides, and its number of cells.
 #[derive(Clone, Copy)]
 pub struct Shape {
     pub width: usize,
@@ -21,4 +20,20 @@ pub struct Shape {
     pub across: u32,
     pub down: u32,
     pub cells: usize,
+}
+
+// A cell at a row and a column; rows are numbered through all storeys.
+#[derive(Clone, Copy)]
+pub struct Site {
+    pub cell: usize,
+    pub row: usize,
+    pub col: usize,
+}
+
+// A step along an axis: so many cells, which are so many rows and columns.
+#[derive(Clone, Copy)]
+pub struct Step {
+    pub cells: usize,
+    pub rows: usize,
+    pub cols: usize,
 }

@@ -1,8 +1,10 @@
 // Seams: what lies before each column, or each row; rows are numbered through all storeys, and so are their seams. An inside seam parts two cells of
 // one tile.
-ghost use Rattle.std.specs.Prelude.{◌≡◌, ◌+◌, ◌≤◌, nat_lt, slice_index};
+ghost use Rattle.std.specs.Prelude.{◌≡◌, ◌≤◌};
 ghost use Rattle.front.specs.Seams.{seam, mark_under, mark_over};
 ghost use Rattle.front.specs.Board.{Marked};
+
+use super::Shape;
 
 pub const EDGE: u8 = 0;
 
@@ -10,9 +12,8 @@ pub const BORDER: u8 = 1;
 
 pub const INSIDE: u8 = 2;
 
-const LAST: usize = 2049;
-
-const MANY: usize = 2050;
+// Of up to 2,048 columns or rows, as they are numbered.
+pub type Seams = [u8; 2049];
 
 #[tactic(auto, unfolding(crate::specs::Seams::seam))]
 fn seam(count: usize, side: usize, i: usize) -> u8
@@ -29,42 +30,36 @@ fn seam(count: usize, side: usize, i: usize) -> u8
     INSIDE
 }
 
-// The seams of so many columns or rows, with tiles of the given side, so many times over: as many as storeys for rows. Behind them stand the number
-// of columns or rows, less 1, and how many times over: so functions that are lent seams need no more parameters to tell a house.
-pub fn lay(count: usize, side: usize, many: usize) -> [u8; 2051]
+// The seams of so many columns or rows, with tiles of the given side, so many times over: as many as storeys for rows.
+fn lay(count: usize, side: usize, many: usize) -> Seams
     requires { (1 ≤ side) × (1 ≤ count) × (count ≤ 256) × (many ≤ 8) × (1 ≤ many) }
     ensures { Marked count side many result }
 {
-    let mut laid = [EDGE; 2051];
+    let mut laid = [EDGE; 2049];
     let last = count * many;
-    let mut i = 0;
-    while i <= last {
-        laid[i] = seam(count, side, i);
-        i += 1;
+    for (i, mark) in laid[..=last].iter_mut().enumerate() {
+        *mark = seam(count, side, i);
     }
-    laid[LAST] = (count - 1) as u8;
-    laid[MANY] = many as u8;
     laid
 }
 
-// Whether the rows are those of a house, and how many a storey has.
-pub fn is_house(rows: &[u8; 2051]) -> bool
-    ensures { result ≡ nat_lt 1 (slice_index rows.now 2050) }
+// The seams of a board's columns, and those of its rows.
+pub fn lay_columns(shape: Shape) -> Seams
+    requires { (1 ≤ shape.width) × (shape.width ≤ 256) × (1 ≤ shape.across) }
+    ensures { Marked shape.width shape.across 1 result }
 {
-    rows[MANY] > 1
+    lay(shape.width, shape.across as usize, 1)
 }
 
-pub fn storey_rows(rows: &[u8; 2051]) -> usize
-    ensures { result ≡ slice_index rows.now 2049 + 1 }
+pub fn lay_rows(shape: Shape) -> Seams
+    requires { (1 ≤ shape.height) × (shape.height ≤ 256) × (1 ≤ shape.down) × (1 ≤ shape.storeys) × (shape.storeys ≤ 8) }
+    ensures { Marked shape.height shape.down shape.storeys result }
 {
-    wide(rows[LAST]) + 1
-}
-
-fn wide(mark: u8) -> usize
-    ensures is { result ≡ mark }
-    ensures most { result ≤ 255 }
-{
-    mark as usize
+    lay(
+        shape.height as usize,
+        shape.down as usize,
+        shape.storeys as usize,
+    )
 }
 
 // The seams between a cell and those under and over it: tiles span all storeys.

@@ -1,80 +1,55 @@
 // Cells hear of a neighbour's time, and are lowered to what the local rule then gives them. Each function answers how many cells are then pending.
-ghost use Rattle.std.specs.Prelude.{◌≡◌, ℕ, ◌+◌, ◌-◌, ◌/◌, ◌<◌, ◌≤◌, min, true, ◌⊎◌, [], ◌∷◌, ◌==◌};
-ghost use Rattle.front.specs.Seams.{border, inside, least_seam, hearer, near_on, stack_cut, near};
-ghost use Rattle.front.specs.Board.{land, rule_at, tentative, at, Ground, Measures, Site, Step};
+ghost use Rattle.std.specs.Prelude.{◌≡◌, ℕ, ◌+◌, ◌-◌, ◌<◌, ◌≤◌, true, ◌⊎◌, [], ◌∷◌, ◌==◌};
+ghost use Rattle.front.specs.Seams.{border, inside, least_seam, hearer, near_on, stack_cut};
+ghost use Rattle.front.specs.Board.{tentative, at};
 ghost use Rattle.front.specs.State.{Held, Touched, Told};
+ghost use Rattle.front.specs.Scene.{land_of, rule_of, near_of, IsSite, IsStep};
 
-use super::Shape;
-use super::seams::{BORDER, INSIDE, seam_over, seam_under, storey_rows};
+use super::scene::Scene;
+use super::seams::{BORDER, INSIDE, seam_over, seam_under};
+use super::{Site, Step};
 use eikonal::NEVER;
 
-// Lowers the cell e to what the rule gives it, if that is earlier. A cell that has had no time yet is new to the queue.
-pub fn relax(
-    slow: &[u32],
-    times: &[u32],
-    work: &mut [u32],
-    size: usize,
-    cols: &[u8; 2051],
-    rows: &[u8; 2051],
-    shape: Shape,
-    n: usize,
-    w: usize,
-    e: usize,
-    row: usize,
-    col: usize,
-) -> usize
-    requires { Ground shape slow.now times.now cols.now rows.now × Measures shape n w × Site n w e row col × Held n (at work.old size) }
-    ensures { (t : ℕ) → (t ≡ 0) ⊎ (t < tentative work.old n e)
-        → Touched n (rule_at shape slow.now times.now) t e (at work.old size) (at work.new result) }
+// Lowers the cell at a site to what the rule gives it, if that is earlier. A cell that has had no time yet is new to the queue.
+pub fn relax(scene: &Scene, work: &mut [u32], size: usize, site: Site) -> usize
+    requires { IsSite scene.now site × Held scene.now.shape.cells (at work.old size) }
+    ensures { let n = scene.now.shape.cells in
+        (t : ℕ) → (t ≡ 0) ⊎ (t < tentative work.old n site.cell)
+        → Touched n (rule_of scene.now) t site.cell (at work.old size) (at work.new result) }
 {
-    let at = 2 * n + e;
+    let n = scene.shape.cells;
+    let at = 2 * n + site.cell;
     let y = work[at];
-    let x = super::sight::rule(slow, times, work, cols, rows, shape, n, w, e, row, col, y);
+    let x = super::sight::rule(scene, work, site, y);
     if x < y {
         work[at] = x;
         if y == NEVER {
-            return queue::insert(work, size, n, e, x);
+            return queue::insert(work, size, n, site.cell, x);
         }
-        return queue::lower(work, size, n, e, x);
+        return queue::lower(work, size, n, site.cell, x);
     }
     size
 }
 
-// The cell e, if it is there, hears of a cell whose time is t. One that is no later, and a wall, need not be looked at.
-fn touch(
-    slow: &[u32],
-    times: &[u32],
-    work: &mut [u32],
-    size: usize,
-    cols: &[u8; 2051],
-    rows: &[u8; 2051],
-    shape: Shape,
-    n: usize,
-    w: usize,
-    e: usize,
-    row: usize,
-    col: usize,
-    t: u32,
-    there: bool,
-) -> usize
-    requires { Ground shape slow.now times.now cols.now rows.now × Measures shape n w × Held n (at work.old size)
-        × (there ≡ true → Site n w e row col) }
-    ensures { Touched n (rule_at shape slow.now times.now) t (hearer n there e) (at work.old size)
-        (at work.new result) }
+// The cell at a site, if it is there, hears of a cell whose time is t. One that is no later, and a wall, need not be looked at.
+// No Option<Site>: with one a corridor's march takes a fifth longer.
+#[tactic(auto, using(crate::proofs::Theory::Reading::on_ground))]
+fn touch(scene: &Scene, work: &mut [u32], size: usize, site: Site, t: u32, there: bool) -> usize
+    requires { Held scene.now.shape.cells (at work.old size) × (there ≡ true → IsSite scene.now site) }
+    ensures { let n = scene.now.shape.cells in
+        Touched n (rule_of scene.now) t (hearer n there site.cell) (at work.old size) (at work.new result) }
 {
     if !there {
         return size;
     }
-    let at = 2 * n + e;
+    let at = 2 * scene.shape.cells + site.cell;
     if work[at] <= t {
         return size;
     }
-    if slow[e] == 0 {
+    if scene.slow[site.cell] == 0 {
         return size;
     }
-    relax(
-        slow, times, work, size, cols, rows, shape, n, w, e, row, col,
-    )
+    relax(scene, work, size, site)
 }
 
 // One step back; off the board the difference wraps.
@@ -84,198 +59,111 @@ fn back(x: usize, step: usize) -> usize
     std::num::wrapping_sub_usize(x, step)
 }
 
-// Division of 32 bits is much quicker than of 64.
-pub fn row_of(c: usize, w: usize) -> usize
-    requires { (c ≤ 65536) × (1 ≤ w) × (w ≤ 256) }
-    ensures { result ≡ c / w }
-{
-    ((c as u32) / (w as u32)) as usize
-}
-
-// Those a step before and behind c along an axis hear of it, where they are there. A step is so many cells, which are so many rows and columns. LLVM
-// compiles this into each caller, and would not if there were more of it: as calls it costs a corridor's march half as many instructions again.
+// Those a step before and behind a site along an axis hear of it, where they are there. LLVM compiles this into each caller, and would not if there
+// were more of it: as calls it costs a corridor's march half as many instructions again.
 pub fn tell_along(
-    slow: &[u32],
-    times: &[u32],
+    scene: &Scene,
     work: &mut [u32],
     size: usize,
-    cols: &[u8; 2051],
-    rows: &[u8; 2051],
-    shape: Shape,
-    n: usize,
-    w: usize,
-    c: usize,
-    row: usize,
-    col: usize,
+    site: Site,
     t: u32,
-    step: usize,
-    down: usize,
-    right: usize,
+    step: Step,
     before: bool,
     behind: bool,
 ) -> usize
-    requires { Ground shape slow.now times.now cols.now rows.now × Measures shape n w × Held n (at work.old size)
-        × Step n w c row col step down right before behind }
-    ensures { Told n (rule_at shape slow.now times.now) t (hearer n before (c - step) ∷ hearer n behind (c + step) ∷ [])
+    requires { Held scene.now.shape.cells (at work.old size) × IsStep scene.now site step before behind }
+    ensures { let n = scene.now.shape.cells in
+        Told n (rule_of scene.now) t (hearer n before (site.cell - step.cells) ∷ hearer n behind (site.cell + step.cells) ∷ [])
         (at work.old size) (at work.new result) }
 {
-    let told = touch(
-        slow,
-        times,
-        work,
-        size,
-        cols,
-        rows,
-        shape,
-        n,
-        w,
-        back(c, step),
-        back(row, down),
-        back(col, right),
-        t,
-        before,
-    );
-    touch(
-        slow,
-        times,
-        work,
-        told,
-        cols,
-        rows,
-        shape,
-        n,
-        w,
-        c + step,
-        row + down,
-        col + right,
-        t,
-        behind,
-    )
+    let prior = Site {
+        cell: back(site.cell, step.cells),
+        row: back(site.row, step.rows),
+        col: back(site.col, step.cols),
+    };
+    let told = touch(scene, work, size, prior, t, before);
+    let next = Site {
+        cell: site.cell + step.cells,
+        row: site.row + step.rows,
+        col: site.col + step.cols,
+    };
+    touch(scene, work, told, next, t, behind)
 }
 
 // Those under and over c hear of it: they are of its tile. Its row and column are worked out again, so that nothing is held for houses alone.
-pub fn tell_stack(
-    slow: &[u32],
-    times: &[u32],
-    work: &mut [u32],
-    size: usize,
-    cols: &[u8; 2051],
-    rows: &[u8; 2051],
-    shape: Shape,
-    n: usize,
-    w: usize,
-    c: usize,
-    t: u32,
-) -> usize
-    requires { Ground shape slow.now times.now cols.now rows.now × Measures shape n w × Held n (at work.old size)
-        × (c < n) }
-    ensures { Told n (rule_at shape slow.now times.now) t
-        (near_on (stack_cut (land shape slow.now) ∷ []) n inside c) (at work.old size) (at work.new result) }
+pub fn tell_stack(scene: &Scene, work: &mut [u32], size: usize, c: usize, t: u32) -> usize
+    requires { Held scene.now.shape.cells (at work.old size) × (c < scene.now.shape.cells) }
+    ensures { let n = scene.now.shape.cells in
+        Told n (rule_of scene.now) t (near_on (stack_cut (land_of scene.now) ∷ []) n inside c) (at work.old size) (at work.new result) }
 {
-    let row = row_of(c, w);
-    let col = c - row * w;
-    let h = storey_rows(rows);
-    let area = w * h;
+    let h = scene.shape.height as usize;
+    let area = scene.shape.width * h;
+    let over = Step {
+        cells: area,
+        rows: h,
+        cols: 0,
+    };
     tell_along(
-        slow,
-        times,
+        scene,
         work,
         size,
-        cols,
-        rows,
-        shape,
-        n,
-        w,
-        c,
-        row,
-        col,
+        scene.site(c),
         t,
-        area,
-        h,
-        0,
+        over,
         seam_under(area, c) == INSIDE,
-        seam_over(n, area, c) == INSIDE,
+        seam_over(scene.shape.cells, area, c) == INSIDE,
     )
-}
-
-fn lesser(a: u8, b: u8) -> u8
-    ensures { result ≡ min a b }
-{
-    if a < b { a } else { b }
 }
 
 // Whether all four seams around a cell on its storey are inside its tile, as those between storeys are. An inside seam is the greatest, so that one
 // branch is compiled.
-pub fn inner(cols: &[u8; 2051], rows: &[u8; 2051], row: usize, col: usize) -> bool
+pub fn inner(scene: &Scene, row: usize, col: usize) -> bool
     requires { (row < 2048) × (col < 256) }
-    ensures { result ≡ (least_seam cols.now rows.now row col == inside) }
+    ensures { result ≡ (least_seam scene.now.cols.now scene.now.rows.now row col == inside) }
 {
-    let beside = lesser(cols[col], cols[col + 1]);
-    let over = lesser(rows[row], rows[row + 1]);
-    lesser(beside, over) == INSIDE
+    let beside = scene.cols[col].min(scene.cols[col + 1]);
+    let over = scene.rows[row].min(scene.rows[row + 1]);
+    beside.min(over) == INSIDE
 }
 
 // The neighbours of c in other tiles, which are on its storey, hear of it. Most cells have none.
-pub fn tell_others(
-    slow: &[u32],
-    times: &[u32],
-    work: &mut [u32],
-    size: usize,
-    cols: &[u8; 2051],
-    rows: &[u8; 2051],
-    shape: Shape,
-    n: usize,
-    w: usize,
-    c: usize,
-    t: u32,
-) -> usize
-    requires { Ground shape slow.now times.now cols.now rows.now × Measures shape n w × Held n (at work.old size) × (c < n) }
-    ensures { Told n (rule_at shape slow.now times.now) t
-        (near (land shape slow.now) shape.across shape.down border c) (at work.old size) (at work.new result) }
+#[tactic(auto, using(crate::proofs::Theory::Reading::on_ground))]
+pub fn tell_others(scene: &Scene, work: &mut [u32], size: usize, c: usize, t: u32) -> usize
+    requires { Held scene.now.shape.cells (at work.old size) × (c < scene.now.shape.cells) }
+    ensures { Told scene.now.shape.cells (rule_of scene.now) t (near_of scene.now border c) (at work.old size) (at work.new result) }
 {
-    let row = row_of(c, w);
-    let col = c - row * w;
-    if inner(cols, rows, row, col) {
+    let site = scene.site(c);
+    if inner(scene, site.row, site.col) {
         return size;
     }
+    let along_row = Step {
+        cells: 1,
+        rows: 0,
+        cols: 1,
+    };
     let across = tell_along(
-        slow,
-        times,
+        scene,
         work,
         size,
-        cols,
-        rows,
-        shape,
-        n,
-        w,
-        c,
-        row,
-        col,
+        site,
         t,
-        1,
-        0,
-        1,
-        cols[col] == BORDER,
-        cols[col + 1] == BORDER,
+        along_row,
+        scene.cols[site.col] == BORDER,
+        scene.cols[site.col + 1] == BORDER,
     );
+    let down_column = Step {
+        cells: scene.shape.width,
+        rows: 1,
+        cols: 0,
+    };
     tell_along(
-        slow,
-        times,
+        scene,
         work,
         across,
-        cols,
-        rows,
-        shape,
-        n,
-        w,
-        c,
-        row,
-        col,
+        site,
         t,
-        w,
-        1,
-        0,
-        rows[row] == BORDER,
-        rows[row + 1] == BORDER,
+        down_column,
+        scene.rows[site.row] == BORDER,
+        scene.rows[site.row + 1] == BORDER,
     )
 }

@@ -3,90 +3,48 @@
 // pending past the bound is left behind: the round has no use for it.
 ghost use Rattle.std.specs.Prelude.{◌*◌, ◌<◌, ◌≤◌};
 ghost use Rattle.eikonal.specs.Board.{never};
-ghost use Rattle.front.specs.Board.{rule_at, Ground};
 ghost use Rattle.front.specs.State.{Placed, Strip, Worked};
+ghost use Rattle.front.specs.Scene.{rule_of};
 
-use super::Shape;
-use queue::lists::nearer;
+use super::scene::Scene;
 
 // The rows from `from` up to `end`.
-fn drain_strip(
-    slow: &[u32],
-    times: &[u32],
-    work: &mut [u32],
-    cols: &[u8; 2051],
-    rows: &[u8; 2051],
-    shape: Shape,
-    from: usize,
-    end: usize,
-    bound: u32,
-)
-    requires { Ground shape slow.now times.now cols.now rows.now × Strip shape slow.now from end
-        × Placed shape.cells work.old × (bound < never) }
-    ensures { Worked shape.cells (rule_at shape slow.now times.now) bound (from * shape.width) (end * shape.width)
-        work.old work.new }
+fn drain_strip(scene: &Scene, work: &mut [u32], from: usize, end: usize, bound: u32)
+    requires { Strip scene.now.shape scene.now.slow.now from end × Placed scene.now.shape.cells work.old × (bound < never) }
+    ensures { let s = scene.now.shape in
+        Worked s.cells (rule_of scene.now) bound (from * s.width) (end * s.width) work.old work.new }
 {
-    let n = shape.cells;
-    let w = shape.width;
+    let n = scene.shape.cells;
+    let w = scene.shape.width;
     let size = super::seed::gather(work, n, from * w, end * w);
-    let pending = super::wake::wake(slow, times, work, size, cols, rows, shape, from, end);
-    super::drain::drain(slow, times, work, pending, cols, rows, shape, bound);
+    let pending = super::wake::wake(scene, work, size, from, end);
+    super::drain::drain(scene, work, pending, bound);
 }
 
 // All strips, from the top.
-pub fn drain_strips(
-    slow: &[u32],
-    times: &[u32],
-    work: &mut [u32],
-    cols: &[u8; 2051],
-    rows: &[u8; 2051],
-    shape: Shape,
-    bound: u32,
-)
-    requires { Ground shape slow.now times.now cols.now rows.now × Placed shape.cells work.old × (shape.down ≤ 256) × (bound < never) }
-    ensures { Worked shape.cells (rule_at shape slow.now times.now) bound 0 shape.cells
-        work.old work.new }
+pub fn drain_strips(scene: &Scene, work: &mut [u32], bound: u32)
+    requires { Placed scene.now.shape.cells work.old × (scene.now.shape.down ≤ 256) × (bound < never) }
+    ensures { Worked scene.now.shape.cells (rule_of scene.now) bound 0 scene.now.shape.cells work.old work.new }
 {
-    let h = shape.height as usize;
-    let down = shape.down as usize;
-    if shape.storeys > 1 {
-        drain_strip(
-            slow,
-            times,
-            work,
-            cols,
-            rows,
-            shape,
-            0,
-            h * (shape.storeys as usize),
-            bound,
-        );
+    let h = scene.shape.height as usize;
+    let down = scene.shape.down as usize;
+    if scene.shape.storeys > 1 {
+        drain_strip(scene, work, 0, h * (scene.shape.storeys as usize), bound);
         return;
     }
-    let mut row = 0;
-    while row < h {
-        let end = nearer(row + down, h);
-        drain_strip(slow, times, work, cols, rows, shape, row, end, bound);
-        row = end;
+    for row in (0..h).step_by(down) {
+        let end = (row + down).min(h);
+        drain_strip(scene, work, row, end, bound);
     }
 }
 
 // The same where one tile covers the board, so that no cell sees a stored time.
-pub fn drain_tile(
-    slow: &[u32],
-    times: &[u32],
-    work: &mut [u32],
-    cols: &[u8; 2051],
-    rows: &[u8; 2051],
-    shape: Shape,
-    bound: u32,
-)
-    requires { Ground shape slow.now times.now cols.now rows.now × Placed shape.cells work.old
-        × (shape.width ≤ shape.across) × (shape.height ≤ shape.down) × (bound < never) }
-    ensures { Worked shape.cells (rule_at shape slow.now times.now) bound 0 shape.cells
-        work.old work.new }
+pub fn drain_tile(scene: &Scene, work: &mut [u32], bound: u32)
+    requires { let s = scene.now.shape in
+        Placed s.cells work.old × (s.width ≤ s.across) × (s.height ≤ s.down) × (bound < never) }
+    ensures { Worked scene.now.shape.cells (rule_of scene.now) bound 0 scene.now.shape.cells work.old work.new }
 {
-    let n = shape.cells;
+    let n = scene.shape.cells;
     let size = super::seed::gather(work, n, 0, n);
-    super::drain::drain(slow, times, work, size, cols, rows, shape, bound);
+    super::drain::drain(scene, work, size, bound);
 }

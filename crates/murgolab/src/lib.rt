@@ -1,5 +1,5 @@
-// What others call, by the names of the C interface that include/murgolab.h declares; the crate murgolab_c exports it. A call with plain lists meets the
-// contract of the function that it hands over to; one with start records is a straight line of calls.
+// What others call, by the names of the C interface that include/murgolab.h declares; the crate murgolab_c exports it. Each meets the
+// contract of the function that it hands over to.
 #![tactic(auto)]
 
 ghost use Rattle.std.specs.Prelude.{[], length};
@@ -11,8 +11,12 @@ ghost use Rattle.scenario.specs.Calls.{Reads, Writes};
 ghost use Rattle.scenario.specs.Turns.{TurnSays};
 ghost use Rattle.tablet.specs.Tablet.{TabletSays};
 
-use eikonal::{LocalReply, Reply, Start, march_job, nothing_own, round_job, run_job};
+use eikonal::refused::Own;
+use eikonal::starts::{Handed, Lists, Records};
+use eikonal::{Job, LocalReply, Reply, Start};
+use engine::calls::play;
 use scenario::{Scenario, TurnReply};
+use scenario_write::write_scenario;
 
 pub fn murgolab_local_rule(
     g: u32,
@@ -35,6 +39,7 @@ pub fn murgolab_diagonal(slowness: u32) -> Reply
     diagonal::diagonal(slowness)
 }
 
+#[tactic(auto, unfolding(eikonal::specs::Refusals::by_lists))]
 pub fn murgolab_march_plain(
     width: u32,
     height: u32,
@@ -51,22 +56,18 @@ pub fn murgolab_march_plain(
         (March horizon) [] (length sides.old) (length work.old))
         result (lent times.old sides.old work.old) (lent times.new sides.new work.new) }
 {
-    engine::calls::play(
+    let board = Handed {
         width,
         height,
         storeys,
         slow,
-        cells,
-        begins,
-        nothing_own(),
-        march_job(horizon),
-        &slow[..0],
-        times,
-        sides,
-        work,
-    )
+        starts: Lists { cells, begins },
+    };
+    let job = Job::March { horizon };
+    play(&board, Own::NOTHING, job, &[], times, sides, work)
 }
 
+#[tactic(auto, unfolding(eikonal::specs::Refusals::by_lists))]
 pub fn murgolab_one_round_plain(
     width: u32,
     height: u32,
@@ -86,22 +87,22 @@ pub fn murgolab_one_round_plain(
         (Round across down bound) order.now (length sides.old) (length work.old))
         result (lent times.old sides.old work.old) (lent times.new sides.new work.new) }
 {
-    engine::calls::play(
+    let board = Handed {
         width,
         height,
         storeys,
         slow,
-        cells,
-        begins,
-        nothing_own(),
-        round_job(across, down, bound),
-        order,
-        times,
-        sides,
-        work,
-    )
+        starts: Lists { cells, begins },
+    };
+    let job = Job::Round {
+        across,
+        down,
+        bound,
+    };
+    play(&board, Own::NOTHING, job, order, times, sides, work)
 }
 
+#[tactic(auto, unfolding(eikonal::specs::Refusals::by_lists))]
 pub fn murgolab_tile_run_plain(
     width: u32,
     height: u32,
@@ -122,20 +123,20 @@ pub fn murgolab_tile_run_plain(
         (Run across down stride horizon) order.now (length sides.old) (length work.old))
         result (lent times.old sides.old work.old) (lent times.new sides.new work.new) }
 {
-    engine::calls::play(
+    let board = Handed {
         width,
         height,
         storeys,
         slow,
-        cells,
-        begins,
-        nothing_own(),
-        run_job(across, down, stride, horizon),
-        order,
-        times,
-        sides,
-        work,
-    )
+        starts: Lists { cells, begins },
+    };
+    let job = Job::Run {
+        across,
+        down,
+        stride,
+        horizon,
+    };
+    play(&board, Own::NOTHING, job, order, times, sides, work)
 }
 
 pub fn murgolab_turn(time: u32, ticks: u32) -> TurnReply
@@ -156,6 +157,7 @@ pub fn murgolab_read_scenario_plain(
     scenario_read::read_scenario(file, slow, cells, begins)
 }
 
+#[tactic(auto, unfolding(eikonal::specs::Refusals::by_lists))]
 pub fn murgolab_write_scenario_plain(
     width: u32,
     height: u32,
@@ -170,11 +172,17 @@ pub fn murgolab_write_scenario_plain(
     ensures { Writes (by_lists width height storeys slow.now cells.now begins.now) ticks ground
         out.old out.new result }
 {
-    scenario_write::write_scenario(
-        width, height, storeys, ticks, ground, slow, cells, begins, out,
-    )
+    let board = Handed {
+        width,
+        height,
+        storeys,
+        slow,
+        starts: Lists { cells, begins },
+    };
+    write_scenario(&board, ticks, ground, out)
 }
 
+#[tactic(auto, unfolding(eikonal::specs::Refusals::by_records))]
 pub fn murgolab_march(
     width: u32,
     height: u32,
@@ -190,22 +198,18 @@ pub fn murgolab_march(
         (March horizon) [] (length sides.old) (length work.old))
         result (lent times.old sides.old work.old) (lent times.new sides.new work.new) }
 {
-    // a march has no order of tiles
-    record_calls::calls::play_records(
+    let board = Handed {
         width,
         height,
         storeys,
         slow,
-        starts,
-        nothing_own(),
-        march_job(horizon),
-        &slow[..0],
-        times,
-        sides,
-        work,
-    )
+        starts: Records { starts },
+    };
+    let job = Job::March { horizon };
+    play(&board, Own::NOTHING, job, &[], times, sides, work)
 }
 
+#[tactic(auto, unfolding(eikonal::specs::Refusals::by_records))]
 pub fn murgolab_one_round(
     width: u32,
     height: u32,
@@ -224,21 +228,22 @@ pub fn murgolab_one_round(
         (Round across down bound) order.now (length sides.old) (length work.old))
         result (lent times.old sides.old work.old) (lent times.new sides.new work.new) }
 {
-    record_calls::calls::play_records(
+    let board = Handed {
         width,
         height,
         storeys,
         slow,
-        starts,
-        nothing_own(),
-        round_job(across, down, bound),
-        order,
-        times,
-        sides,
-        work,
-    )
+        starts: Records { starts },
+    };
+    let job = Job::Round {
+        across,
+        down,
+        bound,
+    };
+    play(&board, Own::NOTHING, job, order, times, sides, work)
 }
 
+#[tactic(auto, unfolding(eikonal::specs::Refusals::by_records))]
 pub fn murgolab_tile_run(
     width: u32,
     height: u32,
@@ -258,30 +263,30 @@ pub fn murgolab_tile_run(
         (Run across down stride horizon) order.now (length sides.old) (length work.old))
         result (lent times.old sides.old work.old) (lent times.new sides.new work.new) }
 {
-    record_calls::calls::play_records(
+    let board = Handed {
         width,
         height,
         storeys,
         slow,
-        starts,
-        nothing_own(),
-        run_job(across, down, stride, horizon),
-        order,
-        times,
-        sides,
-        work,
-    )
+        starts: Records { starts },
+    };
+    let job = Job::Run {
+        across,
+        down,
+        stride,
+        horizon,
+    };
+    play(&board, Own::NOTHING, job, order, times, sides, work)
 }
 
 pub fn murgolab_read_scenario(file: &[u8], slow: &mut [u32], starts: &mut [Start]) -> Scenario
     ensures { Reads file.now slow.old slow.new
         (cells_of starts.old) (cells_of starts.new) (begins_of starts.old) (begins_of starts.new) result }
 {
-    let answer = scenario_read::read_ground(file, slow, starts.len());
-    record_files::read::read_records(file, record_files::read::count_of(answer), starts);
-    answer
+    scenario_read::read_records(file, slow, starts)
 }
 
+#[tactic(auto, unfolding(eikonal::specs::Refusals::by_records))]
 pub fn murgolab_write_scenario(
     width: u32,
     height: u32,
@@ -295,23 +300,14 @@ pub fn murgolab_write_scenario(
     ensures { Writes (by_records width height storeys slow.now starts.now) ticks ground
         out.old out.new result }
 {
-    let judged = record_calls::judge::judge_records(slow, starts);
-    let reply = scenario_write::begin_file(
+    let board = Handed {
         width,
         height,
         storeys,
-        ticks,
-        ground,
         slow,
-        starts.len(),
-        starts.len(),
-        judged,
-        out,
-    );
-    let at = record_files::write::place_of(reply, starts.len());
-    let count = record_files::write::count_of(reply, starts.len());
-    record_files::write::write_records(out, at, count, starts);
-    reply
+        starts: Records { starts },
+    };
+    write_scenario(&board, ticks, ground, out)
 }
 
 pub fn murgolab_tablet_run(file: &[u8], stride: u32, across: u32, down: u32, out: &mut [u8]) -> u64

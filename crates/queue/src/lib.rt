@@ -7,8 +7,6 @@ ghost use Rattle.std.specs.Prelude.{◌≡◌, ◌⊎◌, ℕ, ◌+◌, ◌*◌,
 ghost use Rattle.queue.specs.Heap.{never, key, cell, place, keys, Heap, Put, Least};
 ghost use Rattle.queue.specs.Mending.{Room, Seated, Found, Hole, Below, Moved, Rested, Chosen};
 
-use lists::{lesser, nearer};
-
 pub mod lists;
 
 const NEVER: u32 = 4294967295;
@@ -84,7 +82,7 @@ fn better(a: usize, x: u32, b: usize, y: u32) -> usize
 fn less(x: u32, y: u32) -> usize
     ensures { ((result ≡ 0) × (y ≤ x)) ⊎ ((result ≡ 1) × (x < y)) }
 {
-    if x < y { 1 } else { 0 }
+    usize::from(x < y)
 }
 
 // A slot and its key.
@@ -103,13 +101,13 @@ fn least_of_row(work: &[u32], f: usize) -> Child
     let q = work[2 * f + 2];
     let u = work[2 * f + 4];
     let v = work[2 * f + 6];
-    let x = lesser(p, q);
-    let y = lesser(u, v);
+    let x = p.min(q);
+    let y = u.min(v);
     let a = f + less(q, p);
     let b = f + 2 + less(v, u);
     Child {
         slot: better(a, x, b, y),
-        x: lesser(x, y),
+        x: x.min(y),
     }
 }
 
@@ -118,15 +116,15 @@ fn least_of_few(work: &[u32], f: usize, last: usize) -> Child
     requires { (f ≤ last) × (last < f + 3) × (2 * (last + 1) ≤ length work.now) }
     ensures { (result.x ≡ key work.now result.slot) × Chosen work.now f last result.slot }
 {
-    let m = nearer(f + 1, last);
+    let m = last.min(f + 1);
     let p = work[2 * f];
     let q = work[2 * m];
     let y = work[2 * last];
-    let x = lesser(p, q);
+    let x = p.min(q);
     let a = better(f, p, m, q);
     Child {
         slot: better(a, x, last, y),
-        x: lesser(x, y),
+        x: x.min(y),
     }
 }
 

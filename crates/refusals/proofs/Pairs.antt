@@ -3,6 +3,7 @@ use mathlib.Core.Path.{◌≡◌, refl, sym, ap, ◌∙◌}
 use mathlib.Core.Bool.{Bool, ◌||◌, or-false, or_assoc}
 use mathlib.Core.List.{List, [], ◌∷◌, ◌++◌}
 use Prim.Native.Nat.{ℕ}
+use Rattle.std.specs.List.{fold}
 use Rattle.eikonal.specs.Board.{along_row, down_column}
 use Rattle.eikonal.specs.Refusals.{steep, half_wall, uneven, any_pair, pair_causes}
 use Rattle.refusals.specs.declared.board.Flaws.{Flaws}
@@ -31,6 +32,15 @@ pub with_pairs-more : (ss : List ℕ) (s : ℕ) (f : Flaws) → with_pair s (wit
 unfolding with_pair with_pairs
 with_pairs-more ss s f =
     rw (any_pair-more steep f.steep ss s, any_pair-more half_wall f.half ss s, any_pair-more uneven f.uneven ss s) refl
+
+pub with_pairs-folded : (ss : List ℕ) (f : Flaws) → fold (λ k s. with_pair s k) f ss ≡ with_pairs ss f
+unfolding with_pair with_pairs any_pair
+with_pairs-folded [] f = sym (with_no_pairs f)
+with_pairs-folded (s ∷ ss) f =
+    let any = λ (p : (g h : ℕ) → Bool). any_pair p ss in
+    let here = λ (p : (g h : ℕ) → Bool). p (along_row s) (down_column s) in
+    with_pairs-folded ss (with_pair s f)
+    ∙ rw (or_assoc f.steep (here steep) (any steep), or_assoc f.half (here half_wall) (any half_wall), or_assoc f.uneven (here uneven) (any uneven)) refl
 
 -- the ground's pair, then all of a list
 pub with_first : (s : ℕ) (ss : List ℕ) → with_pairs ss (with_pair s flawless) ≡ with_pairs (s ∷ ss) flawless

@@ -1,18 +1,19 @@
 -- Starts judged one after the other, with what the ones before left, so that a list can be judged in parts.
 -- No public promise rests on these.
-use Rattle.std.specs.Prelude.{Bool, false, ◌&&◌, ◌||◌, cond, List, [], ◌∷◌, ℕ, suc, ◌+◌, ◌<◌, ltb, leb, eqb, length, get_or}
+use Rattle.std.specs.Prelude.{Bool, true, false, ◌||◌, cond, List, [], ◌∷◌, ℕ, suc, ◌+◌, ◌<◌, ltb, leb, eqb, length, get_or, Option, Some, None}
 use Rattle.eikonal.specs.declared.Start.{Start}
-use Rattle.eikonal.specs.Order.{Cause, caused, at_fault}
+use Rattle.eikonal.specs.Order.{Cause, caused}
 use Rattle.eikonal.specs.Refusals.{on_board}
 use Rattle.refusals.specs.declared.board.Judged.{Judged}
 
 -- before any start: any cell may come, and no cause was met
 abbrev pub nothing_judged : Judged
-nothing_judged = record { seen = 0; least = 0; off = 0; low = 0; late = false; walled = false }
+nothing_judged = record { seen = 0; least = 0; off = None; low = None; late = false; walled = false }
 
--- the place of the first at fault after one start more: it is the number of starts looked at while none of them is
-unfoldable pub onward : (first seen : ℕ) → (good : Bool) → ℕ
-onward i k p = cond (eqb i k && p) (suc k) i
+-- the place of the first at fault, where there is one, after one start more
+unfoldable pub onward : (first : Option ℕ) → (seen : ℕ) → (good : Bool) → Option ℕ
+onward (Some i) k p = Some i
+onward None k p = cond p None (Some k)
 
 -- one start more, on a board of n cells, with the slowness of its cell
 unfoldable pub judge_start : (n slow cell time : ℕ) → Judged → Judged
@@ -41,7 +42,11 @@ unwalled c = 1
 abbrev pub Countable : (more : ℕ) → Judged → Type 0
 Countable k j = j.seen + k < 18446744073709551616
 
+-- a cause by the first start at fault, where there is one
+abbrev pub fault : (number : ℕ) → (first : Option ℕ) → Cause
+fault k (Some i) = record { number = k; met = true; place = i }
+fault k None = record { number = k; met = false; place = 0 }
+
 -- 7, 18, 8, 9 by what was met
 unfoldable pub judged_causes : Judged → List Cause
-judged_causes j =
-    at_fault 7 j.off j.seen ∷ at_fault 18 j.low j.seen ∷ caused 8 j.late ∷ caused 9 j.walled ∷ []
+judged_causes j = fault 7 j.off ∷ fault 18 j.low ∷ caused 8 j.late ∷ caused 9 j.walled ∷ []

@@ -1,14 +1,16 @@
 // Whether a board is refused, and why: 2, 4, 5, 21, 23, 7, 18, 8 or 9.
-ghost use Rattle.std.specs.Prelude.{◌≡◌, ◌&&◌, not, List, [], ◌∷◌, ◌++◌, ℕ, suc, ◌*◌, ◌≤◌, ◌<◌, min, eqb, length, get_or};
-ghost use Rattle.eikonal.specs.Board.{board_of};
-ghost use Rattle.eikonal.specs.Order.{caused, or_else, first_of};
-ghost use Rattle.eikonal.specs.Refusals.{sides_good, steep, half_wall, uneven, ill_stacked, starts_of, handed, board_causes};
-ghost use Rattle.eikonal.specs.declared.Start.{Start};
+ghost use Rattle.std.specs.Prelude.{◌≡◌, List, ◌++◌, ℕ, suc, ◌*◌, ◌≤◌, ◌<◌, get_or};
+ghost use Rattle.eikonal.specs.Order.{first_of};
+ghost use Rattle.eikonal.specs.Refusals.{sides_good, steep, half_wall, uneven, ill_stacked, board_causes};
+ghost use Rattle.eikonal.specs.Told.{told};
+ghost use Rattle.eikonal.specs.Handing.{handed_in};
 ghost use Rattle.refusals.specs.Flaws.{flawless, with_pair, with_pairs, flaw_causes};
 ghost use Rattle.refusals.specs.Judge.{nothing_judged, onward, judge_start, judge, Countable, judged_causes};
 
-use super::causes::{below, or_else, same, when, within};
-use eikonal::{Refusal, cause, house_size, shorter};
+use super::causes::{refuse_at, refuse_if, within};
+use eikonal::refused::{Cause, Checked};
+use eikonal::starts::{Handed, Starts};
+use eikonal::{Start, house_size};
 
 // The sides of a board or of a tile.
 pub fn sides_good(width: u32, height: u32) -> bool
@@ -54,6 +56,7 @@ pub fn is_uneven(g: u32, h: u32) -> bool
 }
 
 // One slowness more.
+#[tactic(auto, unfolding(crate::specs::Flaws::with_pair, eikonal::specs::Board::along_row, eikonal::specs::Board::down_column))]
 pub fn with_pair(slow: u32, so_far: Flaws) -> Flaws
     ensures { result ≡ with_pair slow so_far }
 {
@@ -70,44 +73,41 @@ pub fn with_pair(slow: u32, so_far: Flaws) -> Flaws
 pub fn with_pairs(slow: &[u32], so_far: Flaws) -> Flaws
     ensures { result ≡ with_pairs slow.now so_far }
 {
-    let mut flaws = so_far;
-    let mut i = 0;
-    while i < slow.len() {
-        flaws = with_pair(slow[i], flaws);
-        i += 1;
-    }
-    flaws
+    slow.iter()
+        .fold(so_far, |flaws, pair| with_pair(*pair, flaws))
 }
 
 // Whether so many storeys make no house, where a pair with unequal numbers was met or was not.
+#[tactic(auto, unfolding(eikonal::specs::Refusals::ill_stacked))]
 fn ill_stacked(width: u32, height: u32, storeys: u32, uneven: bool) -> bool
     requires { (width ≤ 256) × (height ≤ 256) }
     ensures { result ≡ ill_stacked width height storeys uneven }
 {
-    let crowded = below(65536, house_size(width, height, storeys));
-    let tall = below(1, storeys as usize);
+    let crowded = house_size(width, height, storeys) > 65536;
+    let tall = storeys > 1;
     !within(1, 8, storeys as usize) | (crowded | (tall & uneven))
 }
 
-// 5, 21, 23 by the pairs that were looked at, on a board with these sides and storeys: the last one first, so that those before it hide it.
-pub fn flaws_refusal(width: u32, height: u32, storeys: u32, flaws: Flaws) -> Refusal
+// 5, 21, 23 by the pairs that were looked at, on a board with these sides and storeys.
+#[tactic(auto, using(eikonal::proofs::Outcomes::outcomes), unfolding(crate::specs::Flaws::flaw_causes))]
+pub fn check_flaws(width: u32, height: u32, storeys: u32, flaws: Flaws) -> Checked
     requires { (width ≤ 256) × (height ≤ 256) }
-    ensures { result ≡ first_of (flaw_causes width height storeys flaws) }
+    ensures { told result ≡ first_of (flaw_causes width height storeys flaws) }
 {
     let ill = ill_stacked(width, height, storeys, flaws.uneven);
-    let by_23 = when(ill, 23, 0, cause(0));
-    let by_21 = when(flaws.half, 21, 0, by_23);
-    when(flaws.steep, 5, 0, by_21)
+    refuse_if(flaws.steep, Cause::Steep)?;
+    refuse_if(flaws.half, Cause::HalfWall)?;
+    refuse_if(ill, Cause::Stacked)
 }
 
 // What the starts looked at so far leave: how many they are, the least cell that the next may have, the places of the first off the board and of
-// the first not above the one before, each as many as were looked at while there is none, and which other causes were met.
+// the first not above the one before, where there are any, and which other causes were met.
 #[derive(Clone, Copy)]
 pub struct Judged {
     pub seen: usize,
     pub least: usize,
-    pub off: usize,
-    pub low: usize,
+    pub off: Option<usize>,
+    pub low: Option<usize>,
     pub late: bool,
     pub walled: bool,
 }
@@ -118,22 +118,23 @@ pub fn nothing_judged() -> Judged
     Judged {
         seen: 0,
         least: 0,
-        off: 0,
-        low: 0,
+        off: None,
+        low: None,
         late: false,
         walled: false,
     }
 }
 
-// The place of the first start at fault, where one more was looked at: it goes along with the count while all are good.
-fn onward(first: usize, seen: usize, good: bool) -> usize
-    requires { suc seen < 18446744073709551616 }
+// The place of the first start at fault, where there is one, after one start more.
+#[tactic(auto, unfolding(crate::specs::Judge::onward))]
+fn onward(first: Option<usize>, seen: usize, good: bool) -> Option<usize>
     ensures { result ≡ onward first seen good }
 {
-    if !good {
-        return first;
+    match first {
+        Some(place) => Some(place),
+        None if good => None,
+        None => Some(seen),
     }
-    if first == seen { seen + 1 } else { first }
 }
 
 // One start more, on a board of n cells, with the slowness of its cell.
@@ -147,7 +148,7 @@ pub fn judge_start(n: usize, slow: u32, cell: u32, time: u32, so_far: Judged) ->
         least: at + 1,
         off: onward(so_far.off, so_far.seen, at < n),
         low: onward(so_far.low, so_far.seen, so_far.least <= at),
-        late: so_far.late | below(1000000, time as usize),
+        late: so_far.late | (time > 1000000),
         walled: so_far.walled | (slow == 0),
     }
 }
@@ -163,98 +164,54 @@ fn slowness_at(slow: &[u32], cell: u32) -> u32
     0
 }
 
-// The starts of a part of the lists, after those judged so far. Of lists of unequal length the shorter counts.
-pub fn judge_starts(slow: &[u32], cells: &[u32], begins: &[u32], so_far: Judged) -> Judged
-    requires { Countable (min (length cells.now) (length begins.now)) so_far }
-    ensures { result ≡ judge slow.now (starts_of cells.now begins.now) so_far }
+// All starts, on a board with these slownesses.
+pub fn judge_starts<S: Starts>(slow: &[u32], starts: S) -> Judged
+    ensures { result ≡ judge slow.now (S.all starts) nothing_judged }
 {
-    let n = shorter(cells.len(), begins.len());
-    let mut judged = so_far;
-    let mut i = 0;
-    while i < n {
-        let cell = cells[i];
-        judged = judge_start(slow.len(), slowness_at(slow, cell), cell, begins[i], judged);
-        i += 1;
+    let mut judged = nothing_judged();
+    for i in 0..starts.many() {
+        let Start { cell, time } = starts.at(i);
+        judged = judge_start(slow.len(), slowness_at(slow, cell), cell, time, judged);
     }
     judged
 }
 
-// 7, 18, 8, 9: each for the whole list, the last one first, so that those before it hide it.
-pub fn judged_refusal(judged: Judged) -> Refusal
-    ensures { result ≡ first_of (judged_causes judged) }
+// 7, 18, 8, 9: each for the whole list.
+#[tactic(auto, using(eikonal::proofs::Outcomes::outcomes), unfolding(crate::specs::Judge::judged_causes))]
+pub fn check_judged(judged: Judged) -> Checked
+    ensures { told result ≡ first_of (judged_causes judged) }
 {
-    let off = below(judged.off, judged.seen);
-    let low = below(judged.low, judged.seen);
-    let by_9 = when(judged.walled, 9, 0, cause(0));
-    let by_8 = when(judged.late, 8, 0, by_9);
-    let by_18 = when(low, 18, judged.low, by_8);
-    when(off, 7, judged.off, by_18)
+    refuse_at(judged.off, Cause::OffBoard)?;
+    refuse_at(judged.low, Cause::NotRising)?;
+    refuse_if(judged.late, Cause::Late)?;
+    refuse_if(judged.walled, Cause::OnWall)
 }
 
-// 4, where nothing was found before: sides that are too long have no N.
-fn length_refusal(
-    so_far: Refusal,
-    width: u32,
-    height: u32,
-    storeys: u32,
-    slow: usize,
-    paired: bool,
-) -> Refusal
-    requires { so_far.number ≡ 0 → (width ≤ 256) × (height ≤ 256) }
-    ensures { result ≡ or_else so_far (first_of (caused 4 (not (paired && eqb slow (width * height * storeys))) ∷ [])) }
-{
-    if so_far.number != 0 {
-        return so_far;
-    }
-    let whole = same(slow, house_size(width, height, storeys));
-    when(!(paired & whole), 4, 0, cause(0))
-}
-
-// 5, 21, 23 of the slownesses, behind what other pairs left: the list is gone through where nothing was found before.
-fn slow_refusal(
-    so_far: Refusal,
-    width: u32,
-    height: u32,
-    storeys: u32,
-    slow: &[u32],
+// A board as it is handed in: 2, 4, 5, 21, 23, 7, 18, 8 or 9. Other pairs than the board's, as the ground's, were looked at before; what the call looks
+// for behind 2 and behind 23 was found already.
+#[tactic(auto, using(eikonal::proofs::Outcomes::outcomes), unfolding(eikonal::specs::Refusals::board_causes))]
+pub fn check_board<S: Starts>(
+    board: &Handed<S>,
     others: Flaws,
-) -> Refusal
-    requires { so_far.number ≡ 0 → (width ≤ 256) × (height ≤ 256) }
-    ensures { result ≡ or_else so_far (first_of (flaw_causes width height storeys (with_pairs slow.now others))) }
+    ticks: Checked,
+    kinds: Checked,
+) -> Checked
+    ensures { (gs : List ℕ) → others ≡ with_pairs gs flawless
+        → told result ≡ first_of (board_causes (handed_in S.all S.paired board.now) (gs ++ board.now.slow.now) (told ticks) (told kinds)) }
 {
-    if so_far.number != 0 {
-        return so_far;
-    }
-    flaws_refusal(width, height, storeys, with_pairs(slow, others))
-}
-
-// A board whose starts are judged, whether they are records or plain lists; of these the lengths matter here. Other pairs than the board's, as the
-// ground's, were looked at before; what the call looks for behind 2 and behind 23 was found already.
-pub fn board_refusal(
-    width: u32,
-    height: u32,
-    storeys: u32,
-    slow: &[u32],
-    cells: usize,
-    begins: usize,
-    judged: Judged,
-    others: Flaws,
-    ticks: Refusal,
-    kinds: Refusal,
-) -> Refusal
-    ensures { (xs : List Start) (gs : List ℕ) → judged ≡ judge slow.now xs nothing_judged → others ≡ with_pairs gs flawless
-        → result ≡ first_of (board_causes (handed (board_of width height storeys slow.now xs) (eqb cells begins))
-        (gs ++ slow.now) ticks kinds) }
-{
-    let sides = when(!sides_good(width, height), 2, 0, or_else(ticks, cause(0)));
-    let lists = length_refusal(
-        sides,
+    let Handed {
         width,
         height,
         storeys,
-        slow.len(),
-        same(cells, begins),
-    );
-    let pairs = slow_refusal(lists, width, height, storeys, slow, others);
-    or_else(pairs, or_else(kinds, judged_refusal(judged)))
+        slow,
+        starts,
+    } = *board;
+    refuse_if(!sides_good(width, height), Cause::Sides)?;
+    ticks?;
+    // of sides that are too long there is no N
+    let whole = starts.are_paired() & (slow.len() == house_size(width, height, storeys));
+    refuse_if(!whole, Cause::Lengths)?;
+    check_flaws(width, height, storeys, with_pairs(slow, others))?;
+    kinds?;
+    check_judged(judge_starts(slow, starts))
 }

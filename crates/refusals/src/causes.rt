@@ -1,21 +1,11 @@
-// The first of the causes that are met, and the tests that causes are made of.
-ghost use Rattle.std.specs.Prelude.{◌≡◌, cond, ltb, eqb};
-ghost use Rattle.eikonal.specs.Order.{cause_at, or_else};
+// Causes that are looked for one after the other: the first that is met is the refusal.
+ghost use Rattle.std.specs.Prelude.{◌≡◌, [], ◌∷◌};
+ghost use Rattle.eikonal.specs.Order.{caused, first_of};
 ghost use Rattle.eikonal.specs.Refusals.{within};
+ghost use Rattle.eikonal.specs.Told.{number_of, told};
+ghost use Rattle.refusals.specs.Judge.{fault};
 
-use eikonal::{Refusal, cause_at};
-
-pub fn same(a: usize, b: usize) -> bool
-    ensures { result ≡ eqb a b }
-{
-    a == b
-}
-
-pub fn below(a: usize, b: usize) -> bool
-    ensures { result ≡ ltb a b }
-{
-    a < b
-}
+use eikonal::refused::{Cause, Checked, Refusal};
 
 pub fn within(least: usize, most: usize, n: usize) -> bool
     ensures { result ≡ within least most n }
@@ -23,22 +13,24 @@ pub fn within(least: usize, most: usize, n: usize) -> bool
     (least <= n) & (n <= most)
 }
 
-// The refusal by a cause where it was met, or else the next one.
-pub fn when(met: bool, number: u32, place: usize, next: Refusal) -> Refusal
-    ensures { result ≡ cond met (cause_at number place) next }
+// A cause that is met refuses.
+#[tactic(auto, unfolding(eikonal::specs::Order::first_of))]
+pub fn refuse_if(met: bool, cause: Cause) -> Checked
+    ensures { told result ≡ first_of (caused (number_of cause) met ∷ []) }
 {
     if met {
-        return cause_at(number, place);
+        return Err(cause.into());
     }
-    next
+    Ok(())
 }
 
-// A refusal, or where it is none the next.
-pub fn or_else(refusal: Refusal, next: Refusal) -> Refusal
-    ensures { result ≡ or_else refusal next }
+// By the first start at fault, where there is one.
+#[tactic(auto, unfolding(eikonal::specs::Order::first_of))]
+pub fn refuse_at(first: Option<usize>, cause: Cause) -> Checked
+    ensures { told result ≡ first_of (fault (number_of cause) first ∷ []) }
 {
-    if refusal.number != 0 {
-        return refusal;
+    match first {
+        Some(place) => Err(Refusal { cause, place }),
+        None => Ok(()),
     }
-    next
 }

@@ -2,12 +2,12 @@
 use mathlib.Core.Path.{◌≡◌, refl, sym, ap, ◌∙◌}
 use mathlib.Core.List.{List, ◌++◌}
 use mathlib.Core.Logic.{◌≢◌}
-use Prim.Native.Nat.{ℕ, ◌+◌, ◌≤◌, ◌<◌}
+use Prim.Native.Nat.{ℕ, ◌+◌, ◌≤◌}
 use native.Mathlib.Omega.{arith}
 use lib.ListN.{length, drop}
 use lib.Seq.{sets-eq, length-sets, length-take-le}
-use borrow.Author.Tests.{lt-ltb, le-ltb, eq-eqb, ne_eqb}
-use Rattle.eikonal.specs.declared.Refusal.{Refusal}
+use borrow.Author.Tests.{le-ltb, eq-eqb, ne_eqb}
+use Rattle.eikonal.specs.Order.{Refusal}
 use Rattle.eikonal.proofs.Causes.{NoneMet, none-met, unrefused, number_is}
 use Rattle.tablet.specs.Small.{small_causes, small_refusal}
 use Rattle.rings_lines.specs.Put.{Put}
@@ -27,9 +27,6 @@ unfolding lines
 lines-refused f k e n = rw (← e, ne_eqb k.number 0 n) refl
 
 -- ---- the answer
-pub says-short : (f out : List ℕ) → length out < room → RingsSays f out out 0
-says-short f out h = let e = lt-ltb (length out) room h in record { answers = rw e refl; leaves = rw e refl; within = omega arith; counts = refl }
-
 pub says-lines : (f : List ℕ) {out now xs : List ℕ} {r : ℕ} → room ≤ length out → xs ≡ lines f → Put out 0 xs now r → r ≤ length out → RingsSays f out now r
 says-lines f {out} {now} {xs} {r} h e p m =
     let fits : 0 + length xs ≤ length out = omega (arith, p.place) in

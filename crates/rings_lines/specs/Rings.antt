@@ -2,7 +2,7 @@
 use Rattle.std.specs.Prelude.{◌≡◌, cond, List, [], ◌∷◌, ◌++◌, ℕ, ◌+◌, ◌%◌, ◌≤◌, ltb, eqb, length, take, drop}
 use Rattle.eikonal.specs.Board.{never, marched}
 use Rattle.eikonal.specs.Order.{Cause, caused, first_of}
-use Rattle.eikonal.specs.declared.Refusal.{Refusal}
+use Rattle.eikonal.specs.Order.{Refusal}
 use Rattle.scenario.specs.File.{file_size, head_in, held}
 use Rattle.scenario.specs.declared.Head.{Head}
 use Rattle.scenario.specs.Turns.{turn_of}

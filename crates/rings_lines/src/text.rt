@@ -7,10 +7,10 @@ fn digit(x: u32) -> u8
     requires { x ≤ 9 }
     ensures { result ≡ 48 + x }
 {
-    48 + x as u8
+    b'0' + x as u8
 }
 
-// So many digits at most, from a place on. Answers the place behind them.
+// So many digits at most, from a place on. Answers the place behind them. A loop would be no plainer: it had to count the digits first.
 fn put_digits(out: &mut [u8], at: usize, most: usize, x: u32) -> usize
     requires { at + most ≤ length out.old }
     ensures { Put out.old at (digits most x) out.new result }

@@ -1,5 +1,5 @@
 // The writing of a single round: tile by tile in the order given, each row of a tile lent on as a part of the times.
-ghost use Rattle.std.specs.Prelude.{◌≡◌, true, cond, [], ◌+◌, ◌*◌, ◌≤◌, ◌<◌, eqb, length, get_or};
+ghost use Rattle.std.specs.Prelude.{◌≡◌, true, [], ◌+◌, ◌*◌, ◌≤◌, ◌<◌, length, get_or};
 ghost use Rattle.eikonal.specs.Refusals.{order_good};
 ghost use Rattle.eikonal.specs.Inner.Clip.{clip};
 ghost use Rattle.front.specs.Board.{land};
@@ -7,14 +7,7 @@ ghost use Rattle.rows.specs.Lists.{due};
 ghost use Rattle.rows.specs.Rows.{Entered, Everywhere, Block, Pillar, tile_in, Fitting, Wrote};
 
 use super::whole::clip;
-use eikonal::shorter;
 use front::Shape;
-
-fn differs(a: u32, b: u32) -> u32
-    ensures { result ≡ cond (eqb a b) 0 1 }
-{
-    if a == b { 0 } else { 1 }
-}
 
 // The leaf: writes each time up to the bound, else never, and counts the entries that were another number. No way out of the loop, so that
 // several are compared at a time.
@@ -23,13 +16,10 @@ fn fill_row(row: &mut [u32], from: &[u32], bound: u32) -> u32
     ensures { Entered Everywhere (λ c. clip bound (get_or from.now c 0)) row.old row.new result }
 {
     let mut count = 0;
-    let mut column = 0;
-    while column < row.len() {
-        let before = row[column];
+    for (column, time) in row.iter_mut().enumerate() {
         let t = clip(from[column], bound);
-        row[column] = t;
-        count += differs(before, t);
-        column += 1;
+        count += u32::from(*time != t);
+        *time = t;
     }
     count
 }
@@ -73,10 +63,8 @@ fn write_rows(
         times.old times.new result }
 {
     let mut count = 0;
-    let mut row = top;
-    while row < bottom {
+    for row in top..bottom {
         count += write_row(times, work, shape, row, left, right, bound);
-        row += 1;
     }
     count
 }
@@ -97,10 +85,9 @@ fn write_storeys(
         times.old times.new result }
 {
     let h = shape.height as usize;
-    let lines = h * (shape.storeys as usize);
     let mut count = 0;
-    let mut first = 0;
-    while first < lines {
+    for storey in 0..shape.storeys as usize {
+        let first = storey * h;
         count += write_rows(
             times,
             work,
@@ -111,7 +98,6 @@ fn write_storeys(
             right,
             bound,
         );
-        first += h;
     }
     count
 }
@@ -128,8 +114,8 @@ fn write_tile(times: &mut [u32], work: &[u32], shape: Shape, tile: u32, bound: u
     let t = tile as usize;
     let top = t / in_a_row * down;
     let left = t % in_a_row * across;
-    let bottom = shorter(top + down, shape.height as usize);
-    let right = shorter(left + across, w);
+    let bottom = (top + down).min(shape.height as usize);
+    let right = (left + across).min(w);
     write_storeys(times, work, shape, top, bottom, left, right, bound)
 }
 
@@ -139,10 +125,8 @@ pub fn write_tiles(times: &mut [u32], work: &[u32], shape: Shape, order: &[u32],
     ensures { Wrote shape bound work.now times.old times.new result }
 {
     let mut count = 0;
-    let mut i = 0;
-    while i < order.len() {
-        count += write_tile(times, work, shape, order[i], bound);
-        i += 1;
+    for tile in order {
+        count += write_tile(times, work, shape, *tile, bound);
     }
     count
 }

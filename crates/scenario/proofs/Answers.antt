@@ -6,7 +6,7 @@ use Prim.Native.Nat.{ℕ}
 use native.Mathlib.Decide.{ℕ_discrete}
 use lib.ListN.{length, drop}
 use borrow.Author.Tests.{eq-eqb, ne_eqb}
-use Rattle.eikonal.specs.declared.Refusal.{Refusal}
+use Rattle.eikonal.specs.Order.{Refusal}
 use Rattle.scenario.specs.File.{head_in}
 use Rattle.scenario.specs.Calls.{filled, scenario, scenario_of, reader_answer}
 

@@ -5,20 +5,23 @@ use mathlib.Core.Bool.{Bool, true, false, ◌&&◌, not}
 use mathlib.Core.List.{List, [], ◌∷◌}
 use Prim.Native.Nat.{ℕ, suc, ◌+◌, ◌≤◌, ◌<◌}
 use native.Mathlib.Omega.{arith}
+use native.Mathlib.Decide.{dec_le}
 use lib.Dec.{ltb, leb, eqb}
 use lib.ListN.{length}
-use borrow.Author.Tests.{ltb-false, eqb-true, eq-eqb, leb-true, le-leb, ltb-true, not-false, not-true}
+use borrow.Author.Tests.{lt-ltb, le-ltb, lt-leb, ltb-false, eqb-true, eq-eqb, leb-true, le-leb, ltb-true, not-false, not-true}
 use Rattle.eikonal.specs.Board.{size}
-use Rattle.eikonal.specs.Order.{caused, found, none, first_of}
+use Rattle.eikonal.specs.Order.{caused, found, none, or_else, first_of}
 use Rattle.eikonal.specs.Refusals.{sides_good, late, Handed, handed, pair_causes, start_causes, board_causes, handed_refusal, board_refusal}
 use Rattle.eikonal.specs.Inner.Good.{starts_rise}
 use Rattle.eikonal.specs.declared.Start.{Start}
-use Rattle.eikonal.specs.declared.Refusal.{Refusal}
-use Rattle.eikonal.proofs.Causes.{NoneMet, none-met, unrefused, met-append, met_parts, number_is}
-use Rattle.eikonal.proofs.Good.{in_range, and-true, or-false}
+use Rattle.eikonal.specs.Order.{Refusal}
+use Rattle.eikonal.proofs.Causes.{NoneMet, none-met, unrefused, met-append, met_parts, number_is, first-append}
+use Rattle.eikonal.proofs.Good.{in_range, and-true, or-false, sides-within}
 use Rattle.scenario.specs.Runs.{runs_good}
 use Rattle.scenario.specs.File.{head_size, file_size, head_in, runs_in, held}
 use Rattle.scenario.specs.File.{ticks_good, length_good, front_causes, rest_causes, file_causes, file_refusal}
+use Rattle.scenario.specs.declared.Head.{Head}
+use Rattle.scenario.specs.Inner.Walk.{Fits}
 use Rattle.scenario.specs.Turns.{turn_refusal}
 use Rattle.scenario.proofs.Records.{All}
 use Rattle.scenario.proofs.Slows.{Good, cells_alone}
@@ -94,6 +97,22 @@ headed f n =
     let one = and-true (leb head_size (length f)) _ (not-false _ n.0) in
     record { head = leb-true head_size (length f) one.0; long = eqb-true (length f) _ one.1; sides = not-false _ n.1.0 }
 
+-- where code looks for 1 twice: a file is too short for a head, or not as long as its head x says
+module _ (f : List ℕ) (x : Head) (e : x ≡ head_in f) where
+  pub front_split : (n : ℕ) (p : Bool) → n ≡ file_size x.runs x.starts → p ≡ sides_good x.width x.height
+      → first_of (caused 1 (ltb (length f) head_size) ∷ caused 1 (not (eqb (length f) n)) ∷ caused 2 (not p) ∷ []) ≡ first_of (front_causes f)
+  unfolding front_causes length_good first_of
+  front_split n p long good = rw (long, good, e) (elim (dec_le head_size (length f)) [
+    | yes h ↦ rw (le-leb head_size (length f) h, le-ltb (length f) head_size h) refl
+    | no h ↦ rw (lt-leb head_size (length f) (omega arith), lt-ltb (length f) head_size (omega arith)) refl
+  ])
+
+  pub front_fits : none ≡ first_of (front_causes f) → Fits x f
+  front_fits z =
+      let h = headed f (none-met (front_causes f) (sym (number_is z))) in
+      let s = sides-within _ _ h.sides in
+      record { head = e; long = rw e h.long; wide = rw e s.1; high = rw e s.3 }
+
 -- and 3, 5, 21, 23, 6, 7, 18, 8, 9
 pub record Accepted (f : List ℕ) : Type 0 where
   pub front : Headed f
@@ -101,6 +120,11 @@ pub record Accepted (f : List ℕ) : Type 0 where
   pub slows : let x = head_in f in Good x.width x.height x.storeys (x.ground ∷ slows_of (runs_in f))
   pub runs : runs_good (size (held f)) (head_in f).ground 0 (head_in f).ground (runs_in f) ≡ true
   pub starts : NoneMet (start_causes (held f))
+
+-- the front, then the rest
+pub file_by_parts : (f : List ℕ) → file_refusal f ≡ or_else (first_of (front_causes f)) (first_of (rest_causes f))
+unfolding file_refusal file_causes
+file_by_parts f = first-append (front_causes f) (rest_causes f)
 
 module _ (f : List ℕ) where
   pub accepted : (file_refusal f).number ≡ 0 → Accepted f

@@ -171,6 +171,8 @@ pub runs_of-count : (g : ℕ) (ss : List ℕ) → length (runs_of g ss) ≤ suc 
 unfolding runs_of
 runs_of-count g ss = runs_on-count g 0 0 g ss
 
+pub ruleset counts = (runs_of-count)
+
 -- the numbers of good runs fit their bytes
 pub record Small (x : Run) : Type 0 where
   pub offset : x.offset < 4294967296

@@ -14,5 +14,6 @@ pub mod Composed
 pub mod Turns
 pub mod Places
 pub mod Promises
+pub mod StartRecords
 mod Example
 pub mod RunWalk

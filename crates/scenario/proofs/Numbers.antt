@@ -3,9 +3,8 @@ use mathlib.Core.Path.{◌≡◌, ap₂}
 use mathlib.Core.List.{List, [], ◌∷◌, ◌++◌}
 use Prim.Native.Nat.{ℕ, ◌+◌, ◌*◌, ◌/◌, ◌%◌, ◌≤◌, ◌<◌}
 use native.Mathlib.Omega.{arith}
-use native.Mathlib.Nat.{add-zero}
-use lib.ListN.{length, take, drop, get_or}
-use lib.Seq.{get_or-drop, drop-drop}
+use lib.ListN.{length, take, drop}
+use lib.Seq.{get_or-drop}
 use Rattle.scenario.specs.Bytes.{two, four, two_bytes, four_bytes, Bytes}
 
 pub bytes_drop : (n : ℕ) (bs : List ℕ) → Bytes bs → Bytes (drop n bs)
@@ -41,12 +40,3 @@ four-back (a ∷ b ∷ c ∷ []) h l = absurd (omega arith)
 four-back (a ∷ b ∷ c ∷ d ∷ bs) h l =
     ap₂ ◌++◌ (back a b (a + 256 * b + 65536 * (c + 256 * d)) (h 0) (h 1) (omega (arith, h 0, h 1)))
     (back c d ((a + 256 * b + 65536 * (c + 256 * d)) / 65536) (h 2) (h 3) (omega (arith, h 0, h 1, h 2, h 3)))
-
--- ---- numbers at a place
-pub two-drop : (bs : List ℕ) (at : ℕ) → two (drop at bs) ≡ get_or bs at 0 + 256 * get_or bs (at + 1) 0
-unfolding two
-two-drop bs at = rw (get_or-drop at bs 0 0, get_or-drop at bs 1 0, add-zero at)
-
-pub four-drop : (bs : List ℕ) (at : ℕ) → four (drop at bs) ≡ two (drop at bs) + 65536 * two (drop (at + 2) bs)
-unfolding four
-four-drop bs at = rw (drop-drop 2 at bs)

@@ -11,7 +11,7 @@ use Rattle.eikonal.specs.Order.{Cause, caused, cause, none, first_of, rank, rank
 use Rattle.eikonal.specs.Refusals.{Handed, board_causes, pair_causes, record_causes, start_causes}
 use Rattle.eikonal.specs.Promise.{FirstAtFault}
 use Rattle.eikonal.specs.declared.Start.{Start}
-use Rattle.eikonal.specs.declared.Refusal.{Refusal}
+use Rattle.eikonal.specs.Order.{Refusal}
 use Rattle.eikonal.proofs.Places.{all_plain, in_front, in_the_rear, Tells, tells, tells_none, tells_answer}
 use Rattle.scenario.specs.File.{held, ticks_good, front_causes, rest_causes, file_causes}
 use Rattle.scenario.specs.Turns.{turn_refusal}

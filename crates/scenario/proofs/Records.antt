@@ -4,7 +4,7 @@ use mathlib.Core.Path.{◌≡◌, refl, sym, ap, ap₂, ◌∙◌}
 use mathlib.Core.List.{List, [], ◌∷◌, ◌++◌, append_assoc}
 use Prim.Native.Nat.{ℕ, zero, suc, ◌+◌, ◌*◌, ◌-◌, ◌≤◌, ◌<◌}
 use native.Mathlib.Omega.{arith}
-use lib.ListN.{length, take, drop, length-append, length-drop}
+use lib.ListN.{length, get_or, take, drop, length-append, length-drop}
 use lib.Seq.{take-add, drop-drop}
 use Rattle.scenario.specs.Bytes.{records, bytes_of, Bytes}
 use Rattle.scenario.proofs.Numbers.{bytes_drop}
@@ -18,6 +18,14 @@ module _ {A : Type 0} (k : ℕ) (f : List ℕ → A) where
   unfolding records
   length-records zero bs = refl
   length-records (suc n) bs = ap suc (length-records n (drop k bs))
+
+  pub record_at : (n i : ℕ) (bs : List ℕ) (d : A) → i < n → get_or (records k f n bs) i d ≡ f (drop (k * i) bs)
+  unfolding records
+  record_at zero i bs d l = absurd (omega arith)
+  record_at (suc n) zero bs d l = ap (λ (m : ℕ). f (drop m bs)) (let e : 0 ≡ k * 0 = omega arith in e)
+  record_at (suc n) (suc i) bs d l =
+      let e : k + k * i ≡ k * suc i = omega arith in
+      record_at n i (drop k bs) d (omega arith) ∙ ap f (drop-drop (k * i) k bs ∙ ap (λ (m : ℕ). drop m bs) e)
 
   -- records read in two parts
   pub records-append : (n m : ℕ) (bs : List ℕ) → records k f (n + m) bs ≡ records k f n bs ++ records k f m (drop (k * n) bs)

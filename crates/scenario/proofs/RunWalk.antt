@@ -83,3 +83,8 @@ module _ (f : List ℕ) (count i : ℕ) (x : Run) (l : i < count) (e : x ≡ run
   pub near_before : (g c : ℕ) → c < x.offset → near g c (runs_onward f count i) ≡ g
   unfolding near
   near_before g c h = rw (runs-next, lt-leb x.offset c h)
+
+-- the steps of the walks, by their own names
+pub ruleset passing = (past-here, past_next, past-none)
+
+pub ruleset rules_kept = (good-here, good-next, good_none)

@@ -1,15 +1,21 @@
 -- Turns: when they close, and what the call answers.
-use mathlib.Core.Path.{◌≡◌, sym, ap, ◌∙◌}
-use mathlib.Core.Bool.{true, false}
-use Prim.Native.Nat.{ℕ, ◌+◌, ◌*◌, ◌/◌, ◌-◌, ◌≤◌, ◌<◌}
+use mathlib.Core.Path.{◌≡◌, refl, sym, ap, ◌∙◌}
+use mathlib.Core.Bool.{true}
+use Prim.Native.Nat.{ℕ, ◌+◌, ◌*◌, ◌-◌, ◌≤◌, ◌<◌}
 use native.Mathlib.Omega.{arith}
-use borrow.Author.Tests.{lt-ltb, le-ltb}
+use borrow.Author.Tests.{lt-ltb, le-ltb, ne_eqb}
+use Rattle.std.specs.Prelude.{Result, Ok, Err, IsErrAnd}
+use Rattle.std.specs.Int.{div_ceil}
+use Rattle.std.proofs.lemmas.Grind.{div_ceil_times}
 use Rattle.eikonal.specs.Board.{never, largest}
 use Rattle.eikonal.specs.Order.{first_of}
 use Rattle.eikonal.specs.Tiles.{up}
-use Rattle.eikonal.proofs.Up.{multiple_covers, multiple_below, up_covers, up_close, up_is}
+use Rattle.eikonal.specs.Told.{number_of, refusal_of}
+use Rattle.eikonal.specs.declared.refused.Refusal as code
+use Rattle.eikonal.proofs.Up.{up_covers, up_close, up_is}
+use Rattle.eikonal.proofs.Outcomes.{numbered}
 use Rattle.scenario.specs.File.{ticks_good}
-use Rattle.scenario.specs.Turns.{turn_of, to_go, turn_refusal, turn_reply, turn_answer, TurnSays}
+use Rattle.scenario.specs.Turns.{turn_of, to_go, turn_refusal, turn_reply, turn_told, turn_answer, TurnSays}
 use Rattle.scenario.specs.Promise.{TurnCloses, OneTurn}
 use Rattle.scenario.specs.declared.TurnReply.{TurnReply}
 use Rattle.scenario.proofs.Causes.{some-ticks}
@@ -33,30 +39,34 @@ one_turn t k n g h c l =
     (n-is ∙ sym e.0, rw (e.1, ← n-is) (omega arith))
 
 -- ---- what the call answers
-module _ (t k : ℕ) (x : TurnReply) where
-  pub says_refused : x ≡ turn_reply 3 0 0 → ticks_good k ≡ false → TurnSays t k x
+-- by the refusal that was found
+pub says_refused : (t k : ℕ) (r : code.Refusal) (x : Result (ℕ × ℕ) code.Refusal) → IsErrAnd x (λ y. y ≡ r) → refusal_of r ≡ turn_refusal k
+    → TurnSays t k (turn_told x)
+unfolding TurnSays turn_answer
+says_refused t k r (Ok p) h e = absurd h
+says_refused t k r (Err y) h e =
+    let answer : turn_reply (number_of y.cause) 0 0 ≡ turn_answer (refusal_of y) t k = rw (ne_eqb (number_of y.cause) 0 (numbered y.cause)) refl in
+    answer ∙ ap (λ u. turn_answer u t k) (ap refusal_of h ∙ e)
+
+module _ (t k : ℕ) (good : ticks_good k ≡ true) where
+  says : (n g : ℕ) → (n ≡ turn_of t k) × (g ≡ to_go t k) → TurnSays t k (turn_reply 0 n g)
   unfolding TurnSays turn_refusal first_of turn_answer
-  says_refused e bad = rw bad e
+  says n g both = rw (good, ← both.0, ← both.1) refl
 
-  module _ (n g : ℕ) (e : x ≡ turn_reply 0 n g) (good : ticks_good k ≡ true) where
-    says : (n ≡ turn_of t k) × (g ≡ to_go t k) → TurnSays t k x
-    unfolding TurnSays turn_refusal first_of turn_answer
-    says both = rw (good, ← both.0, ← both.1) e
+  pub says_never : largest < t → TurnSays t k (turn_reply 0 never 0)
+  unfolding turn_of to_go
+  says_never h = let late = lt-ltb largest t h in says never 0 (rw late refl, rw late refl)
 
-    pub says_never : largest < t → n ≡ never → g ≡ 0 → TurnSays t k x
-    unfolding turn_of to_go
-    says_never h i j = let late = lt-ltb largest t h in says (rw late i, rw late j)
+  pub ceil_closes : (n : ℕ) → n ≡ div_ceil t k → (t ≤ n * k) × (n * k < t + k)
+  ceil_closes n e = rw e (div_ceil_times t k (some-ticks k good).0)
 
-  -- the whole turns in y, which is the time and a turn less a tick
-  pub says-turn :
-      (y g : ℕ) → x ≡ turn_reply 0 (y / k) g → ticks_good k ≡ true → t ≤ largest
-      → t + k ≤ y + 1 → y < t + k → g ≡ y / k * k - t → TurnSays t k x
+  pub says_turn : (n : ℕ) → n ≡ div_ceil t k → t ≤ largest → TurnSays t k (turn_reply 0 n (n * k - t))
   unfolding OneTurn
-  says-turn y g e good h low high i =
-      let covers = multiple_covers t k y (some-ticks k good).0 low in
-      let below = multiple_below (t + k) k y high in
-      says (y / k) g e good (one_turn t k (y / k) g h (omega (arith, covers)) (omega (arith, covers, below)))
+  says_turn n e h =
+      let c = ceil_closes n e in
+      says n (n * k - t) (one_turn t k n (n * k - t) h (omega (arith, c.0)) (omega (arith, c.0, c.1)))
 
+module _ (t k : ℕ) (x : TurnReply) where
   pub turn_said : ticks_good k ≡ true → TurnSays t k x → x.turn ≡ turn_of t k
   unfolding TurnSays turn_refusal first_of turn_answer turn_reply
   turn_said good e = ap (λ u. u.turn) e ∙ rw good

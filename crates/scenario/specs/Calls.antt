@@ -1,9 +1,11 @@
 -- What the reader and the writer answer, and what they leave in lent lists.
-use Rattle.std.specs.Prelude.{◌≡◌, Bool, ◌&&◌, not, cond, List, [], ◌∷◌, ◌++◌, ℕ, ◌*◌, min, ltb, leb, eqb, length, drop}
+use Rattle.std.specs.Prelude.{◌≡◌, Bool, ◌&&◌, not, cond, List, [], ◌∷◌, ◌++◌, ℕ, ◌*◌, min, ltb, leb, eqb, length, drop, Result, Ok, Err}
 use Rattle.eikonal.specs.Order.{Cause, caused, none, first_of}
 use Rattle.eikonal.specs.Refusals.{Handed, board_causes, cells_of, begins_of}
 use Rattle.eikonal.specs.Ledger.{answered}
-use Rattle.eikonal.specs.declared.Refusal.{Refusal}
+use Rattle.eikonal.specs.Order.{Refusal}
+use Rattle.eikonal.specs.Told.{refusal_of}
+use Rattle.eikonal.specs.declared.refused.Refusal as code
 use Rattle.eikonal.specs.declared.Reply.{Reply}
 use Rattle.scenario.specs.File.{file_of, head_in, held, starts_in, file_causes}
 use Rattle.scenario.specs.Turns.{turn_refusal}
@@ -32,6 +34,11 @@ scenario_of x = scenario none x.width x.height x.storeys x.ticks x.ground x.star
 
 unfoldable pub reader_answer : Refusal → List ℕ → Scenario
 reader_answer k f = cond (eqb k.number 0) (scenario_of (head_in f)) (scenario k 0 0 0 0 0 0)
+
+-- an outcome, as the C struct has it: the rest of a head, or a refusal and zeros
+abbrev pub scenario_told : Result Head code.Refusal → Scenario
+scenario_told (Ok x) = scenario_of x
+scenario_told (Err r) = scenario (refusal_of r) 0 0 0 0 0 0
 
 pub record Reads (f slow slow-now cells cells-now begins begins-now : List ℕ) (x : Scenario) : Type 0 where
   pub answers : x ≡ reader_answer (reader_refusal f (length slow) (min (length cells) (length begins))) f

@@ -4,7 +4,7 @@ use Rattle.eikonal.specs.Board.{Board, board_of, size}
 use Rattle.eikonal.specs.declared.Start.{Start}
 use Rattle.eikonal.specs.Order.{Cause, caused, first_of}
 use Rattle.eikonal.specs.Refusals.{within, sides_good, pair_causes, start_causes}
-use Rattle.eikonal.specs.declared.Refusal.{Refusal}
+use Rattle.eikonal.specs.Order.{Refusal}
 use Rattle.scenario.specs.Bytes.{two, four, two_bytes, four_bytes, records, bytes_of}
 use Rattle.scenario.specs.declared.Head.{Head}
 use Rattle.scenario.specs.declared.Run.{Run}

@@ -4,4 +4,5 @@ pub mod File
 pub mod Turns
 pub mod Calls
 pub mod Promise
+pub mod StartRecords
 pub mod Inner

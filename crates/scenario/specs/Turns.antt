@@ -1,9 +1,11 @@
 -- TURNS: tokens go down when a turn closes (Card 3 of document 02).
-use Rattle.std.specs.Prelude.{◌≡◌, not, cond, [], ◌∷◌, ℕ, ◌*◌, ◌-◌, ltb, eqb}
+use Rattle.std.specs.Prelude.{◌≡◌, not, cond, [], ◌∷◌, ℕ, ◌*◌, ◌-◌, ltb, eqb, Result, Ok, Err}
 use Rattle.eikonal.specs.Board.{never, largest}
 use Rattle.eikonal.specs.Order.{caused, first_of}
 use Rattle.eikonal.specs.Tiles.{up}
-use Rattle.eikonal.specs.declared.Refusal.{Refusal}
+use Rattle.eikonal.specs.Order.{Refusal}
+use Rattle.eikonal.specs.Told.{number_of}
+use Rattle.eikonal.specs.declared.refused.Refusal as found
 use Rattle.scenario.specs.File.{ticks_good}
 use Rattle.scenario.specs.declared.TurnReply.{TurnReply}
 
@@ -21,6 +23,11 @@ turn_refusal k = first_of (caused 3 (not (ticks_good k)) ∷ [])
 
 unfoldable pub turn_reply : (number turn to_go : ℕ) → TurnReply
 turn_reply n t g = record { number = n; turn = t; to_go = g }
+
+-- what an outcome says, a turn and its ticks to go or a refusal
+abbrev pub turn_told : Result (ℕ × ℕ) found.Refusal → TurnReply
+turn_told (Ok p) = turn_reply 0 p.0 p.1
+turn_told (Err r) = turn_reply (number_of r.cause) 0 0
 
 -- number 0, the turn and the ticks to go; or a refusal's number and zeros
 unfoldable pub turn_answer : Refusal → (time ticks : ℕ) → TurnReply

@@ -3,10 +3,10 @@ ghost use Rattle.std.specs.Prelude.{◌≡◌, ◌*◌, ◌≤◌, length, take}
 ghost use Rattle.scenario.specs.File.{head_size, runs_end, file_size, head_bytes, head_in};
 
 use super::bytes::{four_at, put_four, put_two, two_at};
-use super::runs::wide;
 use super::{HEAD, Head, RUN, START};
 use eikonal::house_size;
 
+#[tactic(auto, unfolding(crate::specs::File::head_in))]
 pub fn head_of(file: &[u8]) -> Head
     requires { head_size ≤ length file.now }
     ensures { result ≡ head_in file.now }
@@ -22,6 +22,7 @@ pub fn head_of(file: &[u8]) -> Head
     }
 }
 
+#[tactic(auto, unfolding(crate::specs::File::head_bytes))]
 pub fn put_head(out: &mut [u8], head: Head)
     requires { head_size ≤ length out.old }
     ensures { take head_size out.new ≡ head_bytes head }
@@ -47,12 +48,12 @@ pub fn board_size(head: Head) -> usize
 pub fn starts_base(head: Head) -> usize
     ensures { result ≡ runs_end head.runs }
 {
-    HEAD + RUN * wide(head.runs)
+    HEAD + RUN * head.runs as usize
 }
 
 // usize has 64 bits: no two counts of 32 bits make the sum wrap.
 pub fn file_length(head: Head) -> usize
     ensures { result ≡ file_size head.runs head.starts }
 {
-    starts_base(head) + START * wide(head.starts)
+    starts_base(head) + START * head.starts as usize
 }

@@ -1,2 +1,4 @@
 mod StartWalk
 mod Painting
+mod Rest
+mod Copied

@@ -5,7 +5,9 @@ use mathlib.Core.List.{List, ◌∷◌, ◌++◌, append_assoc}
 use Prim.Native.Nat.{ℕ, ◌+◌, ◌-◌, ◌≤◌, ◌<◌}
 use native.Mathlib.Omega.{arith}
 use lib.ListN.{length, take, drop, replicate}
-use lib.Seq.{take_all}
+use borrow.Rule.Slice.PartMut.{put_mid}
+use Rattle.std.proofs.Common.{rules}
+use Rattle.std.proofs.lemmas.Slice.{take-put_mid, overwrites}
 use Rattle.eikonal.proofs.Good.{and-true}
 use Rattle.scenario.specs.declared.Run.{Run}
 use Rattle.scenario.specs.Runs.{end, painted, run_good, runs_good}
@@ -15,21 +17,15 @@ use Rattle.scenario.proofs.Records.{onward-none}
 use Rattle.scenario.proofs.GoodRuns.{Fits, good-fits}
 use Rattle.scenario.proofs.RunWalk.{runs-next}
 
--- ground from a to the run's offset b, the run from there to e
-pub ground-and-run : (l m o : List ℕ) (a g b e : ℕ) (x : Run) → b ≡ x.offset → e ≡ x.offset + x.long
-    → take b m ≡ take a l ++ replicate (b - a) g → take e o ≡ take b m ++ replicate (e - b) x.slow
-    → take (x.offset + x.long) o ≡ take a l ++ (replicate (x.offset - a) g ++ replicate x.long x.slow)
-ground-and-run l m o a g b e x p q first second =
-    ap (λ u. take u o) (sym q) ∙ second ∙ ap (λ u. u ++ replicate (e - b) x.slow) first
-    ∙ append_assoc (take a l) (replicate (b - a) g) (replicate (e - b) x.slow)
-    ∙ (λ i. take a l ++ (replicate (p i - a) g ++ replicate (rest i) x.slow))
-  where
-    rest : e - b ≡ x.long
-    rest = omega arith
+-- the entries from a to b written, and then those from b to e
+pub two_parts : (l ys zs : List ℕ) (a b e : ℕ) → a ≤ b → e ≤ length l → length ys ≡ b - a → b + length zs ≡ e
+    → take e (put_mid b (e - b) (put_mid a (b - a) l ys) zs) ≡ take a l ++ (ys ++ zs)
+two_parts l ys zs a b e h k m n =
+    take-put_mid b (e - b) (put_mid a (b - a) l ys) zs e (omega arith) (search (rules, overwrites))
+    ∙ ap (λ u. u ++ zs) (take-put_mid a (b - a) l ys b (omega arith) (omega arith)) ∙ append_assoc (take a l) ys zs
 
 -- painted up to a free cell, with the runs from the i-th on still to come; z is the slowness of the run before
 pub record Painting (f : List ℕ) (count g n : ℕ) (slow : List ℕ) (free i : ℕ) : Type 0 where
-  pub upto : i ≤ count
   pub within : free ≤ n
   pub long : length slow ≡ n
   pub last : ℕ
@@ -38,7 +34,7 @@ pub record Painting (f : List ℕ) (count g n : ℕ) (slow : List ℕ) (free i :
 
 pub painting_none : (f : List ℕ) (count g n : ℕ) (slow : List ℕ) → length slow ≡ n → runs_good n g 0 g (runs_onward f count 0) ≡ true
     → Painting f count g n slow 0 0
-painting_none f count g n slow l e = record { upto = omega arith; within = omega arith; long = l; last = g; good = e; done = refl }
+painting_none f count g n slow l e = record { within = omega arith; long = l; last = g; good = e; done = refl }
 
 module _ {f : List ℕ} {count g n : ℕ} {slow : List ℕ} {free i : ℕ} (p : Painting f count g n slow free i) where
   module _ (x : Run) (l : i < count) (e : x ≡ run_in (drop (runs_end i) f)) where
@@ -61,7 +57,6 @@ module _ {f : List ℕ} {count g n : ℕ} {slow : List ℕ} {free i : ℕ} (p : 
         → take (x.offset + x.long) now ≡ take free slow ++ (replicate (x.offset - free) g ++ replicate x.long x.slow)
         → Painting f count g n now edge (i + 1)
     painting_more now edge h r q = rw r (record {
-      upto = omega arith;
       within = painting_fits.within;
       long = h;
       last = x.slow;
@@ -71,9 +66,9 @@ module _ {f : List ℕ} {count g n : ℕ} {slow : List ℕ} {free i : ℕ} (p : 
           ∙ ap (λ u. take free slow ++ u) (append_assoc (replicate (x.offset - free) g) _ _ ∙ next-painted) ∙ p.done;
     })
 
-  pub painting_end : count ≤ i → (now : List ℕ) → length now ≡ n → take n now ≡ take free slow ++ replicate (n - free) g
+  pub painting_end : count ≤ i → (now : List ℕ) → now ≡ take free slow ++ replicate (n - free) g
       → now ≡ painted g 0 n (runs_onward f count 0)
   unfolding painted
-  painting_end l now h q =
-      sym (take_all n now (omega arith)) ∙ q
+  painting_end l now q =
+      q
       ∙ ap (λ u. take free slow ++ painted g free n u) (sym (onward-none run_size run_in f head_size count i l)) ∙ p.done

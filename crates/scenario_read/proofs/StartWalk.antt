@@ -1,12 +1,12 @@
 -- A walk over the starts of a file, and over starts and runs together: what the start in hand says of all from there on.
 use mathlib.Core.Path.{◌≡◌, refl, sym, ap, ap₂, ◌∙◌}
 use mathlib.Core.Bool.{true, false, ◌&&◌, ◌||◌}
-use mathlib.Core.List.{List, [], ◌∷◌, ◌++◌, map}
+use mathlib.Core.List.{List, [], ◌∷◌, ◌++◌}
 use Prim.Native.Nat.{ℕ, suc, ◌+◌, ◌*◌, ◌-◌, ◌≤◌, ◌<◌}
 use native.Mathlib.Omega.{arith}
 use native.Mathlib.Decide.{dec_le}
 use lib.Dec.{ltb, leb, eqb}
-use lib.ListN.{length, get_or, take, drop, set, replicate, length-replicate, get_or-replicate, get_or-append}
+use lib.ListN.{get_or, drop, replicate, length-replicate, get_or-replicate, get_or-append}
 use lib.Seq.{get_or-append-add}
 use borrow.Author.Tests.{le-leb, lt-leb, ne_eqb, leb-true, ltb-true}
 use Rattle.eikonal.specs.Board.{Board, slowness}
@@ -22,7 +22,6 @@ use Rattle.scenario.specs.Runs.{end, painted, run_good, runs_good}
 use Rattle.scenario.specs.File.{start_size, start_in}
 use Rattle.scenario.specs.Inner.Walk.{starts_onward, past, near, wall_among}
 use Rattle.scenario.proofs.Records.{onward-none, onward-next, onward-all}
-use Rattle.scenario.proofs.Filling.{one_more}
 use Rattle.scenario.proofs.GoodRuns.{good-fits}
 
 pub starts-all : (f : List ℕ) (a count : ℕ) → records start_size start_in count (drop a f) ≡ starts_onward f a count 0
@@ -50,11 +49,6 @@ module _ (f : List ℕ) (a count i : ℕ) (x : Start) (l : i < count) (e : x ≡
       ≡ judge_by n g (starts_onward f a count (i + 1)) (judge_start n (g x.cell) x.cell x.time j)
   unfolding judge_by
   judged-next n g j = rw next
-
-  -- its cell, or its time, is entered into a list
-  pub start-entered : (g : Start → ℕ) (old : List ℕ) → i < length old
-      → take (i + 1) (set old i (g x)) ++ map g (starts_onward f a count (i + 1)) ≡ take i old ++ map g (starts_onward f a count i)
-  start-entered g old h = rw next (one_more old i (g x) _ h)
 
 -- ---- starts among runs
 -- cells that rise from l on rise from anything lower on
@@ -151,3 +145,8 @@ walls_found b n g l xs (s ∷ ss) p e h =
     ∙ painted-at n g 0 g s.cell xs e (omega arith) high
     in
     ap₂ (λ u v. eqb u 0 || v) here (walls_found b n g (suc s.cell) xs ss p e r.1)
+
+-- the steps of the two walks, by their own names
+pub ruleset judging = (judged-none, judged-next)
+
+pub ruleset walling = (wall_here, rise-behind, wall_next, wall_none)

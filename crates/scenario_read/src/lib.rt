@@ -5,33 +5,21 @@ pub mod judge;
 pub mod paint;
 pub mod starts;
 
-ghost use Rattle.std.specs.Prelude.{◌≡◌, ◌+◌, ◌*◌, ◌≤◌, length, drop};
+ghost use Rattle.std.specs.Prelude.{◌≡◌, ◌++◌, ◌≤◌, length, drop, IfOk};
 ghost use Rattle.eikonal.specs.Board.{size};
 ghost use Rattle.eikonal.specs.Refusals.{cells_of, begins_of};
-ghost use Rattle.scenario.specs.Bytes.{records};
-ghost use Rattle.scenario.specs.File.{start_size, held, start_in, start_count, starts_in, file_refusal};
-ghost use Rattle.scenario.specs.Calls.{filled, reader_refusal, reader_answer, Reads};
+ghost use Rattle.eikonal.specs.Told.{told};
+ghost use Rattle.scenario.specs.File.{held, start_count, starts_in, file_refusal};
+ghost use Rattle.scenario.specs.Calls.{filled, reader_refusal, Reads};
+ghost use Rattle.scenario.specs.Inner.Walk.{Fits};
 
-use eikonal::shorter;
-use scenario::heads::{board_size, head_of, starts_base};
-use scenario::runs::wide;
-use scenario::starts::start_at;
-use scenario::{START, Scenario};
-
-// The starts from a place in the file on, as many as the lists hold.
-pub fn read_starts(file: &[u8], base: usize, cells: &mut [u32], begins: &mut [u32])
-    requires { (base + start_size * length cells.old ≤ length file.now) × (length cells.old ≡ length begins.old) }
-    ensures cells { cells.new ≡ cells_of (records start_size start_in (length cells.old) (drop base file.now)) }
-    ensures begins { begins.new ≡ begins_of (records start_size start_in (length cells.old) (drop base file.now)) }
-{
-    let mut i = 0;
-    while i < cells.len() {
-        let start = start_at(file, base + START * i);
-        cells[i] = start.cell;
-        begins[i] = start.time;
-        i += 1;
-    }
-}
+use eikonal::Start;
+use eikonal::refused::Refusal;
+use eikonal::starts::Starts;
+use judge::check_scenario;
+use scenario::heads::{board_size, head_of};
+use scenario::starts::starts_in;
+use scenario::{Head, Scenario};
 
 // The slownesses of a file that was judged; later entries stay.
 pub fn fill_slow(file: &[u8], slow: &mut [u32])
@@ -44,30 +32,40 @@ pub fn fill_slow(file: &[u8], slow: &mut [u32])
 }
 
 // Its starts; later entries stay.
-fn fill_starts(file: &[u8], cells: &mut [u32], begins: &mut [u32])
-    requires file { (file_refusal file.now).number ≡ 0 }
+fn fill_starts(file: &[u8], head: Head, cells: &mut [u32], begins: &mut [u32])
+    requires file { Fits «head» file.now }
     requires room { (start_count file.now ≤ length cells.old) × (start_count file.now ≤ length begins.old) }
     ensures cells { cells.new ≡ filled 0 (cells_of (starts_in file.now)) cells.old }
     ensures begins { begins.new ≡ filled 0 (begins_of (starts_in file.now)) begins.old }
 {
-    let head = head_of(file);
-    let base = starts_base(head);
-    let q = wide(head.starts);
-    read_starts(file, base, &mut cells[..q], &mut begins[..q]);
+    let starts = starts_in(file, head);
+    for i in 0..starts.many() {
+        let start = starts.at(i);
+        cells[i] = start.cell;
+        begins[i] = start.time;
+    }
 }
 
-// What the reader answers, where there is room for so many starts; the slownesses of an accepted file are filled in. A refused
-// one leaves the list as it was.
-pub fn read_ground(file: &[u8], slow: &mut [u32], starts: usize) -> Scenario
-    ensures { (result ≡ reader_answer (reader_refusal file.now (length slow.old) starts) file.now)
-        × (slow.new ≡ filled result.number (held file.now).slow slow.old) }
+// The same into records.
+fn fill_records(file: &[u8], head: Head, records: &mut [Start])
+    requires { Fits «head» file.now × (start_count file.now ≤ length records.old) }
+    ensures { records.new ≡ starts_in file.now ++ drop (start_count file.now) records.old }
 {
-    let judged = judge::judge_scenario(file, slow.len(), starts);
-    if judged.number != 0 {
-        return judged;
+    let starts = starts_in(file, head);
+    for i in 0..starts.many() {
+        records[i] = starts.at(i);
     }
+}
+
+// The head of a file that nothing refuses, where there is room for so many starts; its slownesses are filled in. A refused file leaves the list as it was.
+pub fn read_ground(file: &[u8], slow: &mut [u32], starts: usize) -> Result<Head, Refusal>
+    ensures told { told result ≡ reader_refusal file.now (length slow.old) starts }
+    ensures head { IfOk result (λ x. Fits x file.now) }
+    ensures slow { slow.new ≡ filled (told result).number (held file.now).slow slow.old }
+{
+    let head = check_scenario(file, slow.len(), starts)?;
     fill_slow(file, slow);
-    judged
+    Ok(head)
 }
 
 // Fills the slownesses and the starts that a file holds; later entries stay. The whole file is judged first: a refused
@@ -81,10 +79,21 @@ pub fn read_scenario(
     ensures { Reads file.now slow.old slow.new
         cells.old cells.new begins.old begins.new result }
 {
-    let answer = read_ground(file, slow, shorter(cells.len(), begins.len()));
-    if answer.number != 0 {
-        return answer;
+    let outcome = read_ground(file, slow, cells.len().min(begins.len()));
+    if let Ok(head) = outcome {
+        fill_starts(file, head, cells, begins);
     }
-    fill_starts(file, cells, begins);
-    answer
+    outcome.into()
+}
+
+// The same with the starts as records.
+pub fn read_records(file: &[u8], slow: &mut [u32], records: &mut [Start]) -> Scenario
+    ensures { Reads file.now slow.old slow.new
+        (cells_of records.old) (cells_of records.new) (begins_of records.old) (begins_of records.new) result }
+{
+    let outcome = read_ground(file, slow, records.len());
+    if let Ok(head) = outcome {
+        fill_records(file, head, records);
+    }
+    outcome.into()
 }

@@ -1,52 +1,34 @@
 // A board written as a scenario file. Each function fills a list of bytes from a place on; the bytes in front of it stay.
-ghost use Rattle.std.specs.Prelude.{◌≡◌, cond, [], ◌++◌, ℕ, ◌+◌, ◌*◌, ◌≤◌, ◌<◌, eqb, length, take, drop, get_or};
-ghost use Rattle.eikonal.specs.Refusals.{starts_of};
+ghost use Rattle.std.specs.Prelude.{◌≡◌, [], ◌++◌, ◌+◌, ◌*◌, ◌≤◌, ◌<◌, length, take};
+ghost use Rattle.eikonal.specs.Handing.{handed_in};
 ghost use Rattle.scenario.specs.Bytes.{bytes_of};
-ghost use Rattle.scenario.specs.Runs.{closed, runs_on, runs_of};
-ghost use Rattle.scenario.specs.File.{head_size, run_size, start_size, runs_end, run_bytes, start_bytes, head_of, front};
+ghost use Rattle.scenario.specs.Runs.{closed, runs_of};
+ghost use Rattle.scenario.specs.File.{head_size, run_size, start_size, runs_end, file_size, run_bytes, start_bytes, head_of, front};
 
+use eikonal::starts::{Handed, Starts};
 use scenario::bytes::put_wide_pair;
-use scenario::heads::put_head;
+use scenario::heads::{put_head, starts_base};
 use scenario::runs::put_run;
 use scenario::{HEAD, Head, RUN, Run, START};
 
-// Where the stretch of equal slowness ends that begins at a cell.
-fn stretch_end(slow: &[u32], from: usize) -> usize
-    requires { from < length slow.now }
-    ensures bounds { (from < result) × (result ≤ length slow.now) }
-    ensures is { (g : ℕ) → runs_on g from from g (drop from slow.now)
-        ≡ closed g from result (get_or slow.now from 0) (runs_on g result result g (drop result slow.now)) }
-{
-    let x = slow[from];
-    let mut i = from + 1;
-    while i < slow.len() {
-        if slow[i] != x {
-            return i;
-        }
-        i += 1;
-    }
-    i
-}
-
-fn differs(x: u32, ground: u32) -> usize
-    ensures { result ≡ cond (eqb x ground) 0 1 }
-{
-    if x == ground { 0 } else { 1 }
-}
-
+// A run begins at each cell that is neither ground nor as the cell before it.
+#[tactic(auto, using(crate::proofs::Stretches::counting))]
 pub fn count_runs(slow: &[u32], ground: u32) -> usize
     ensures { result ≡ length (runs_of ground slow.now) }
 {
     let mut count = 0;
-    let mut i = 0;
-    while i < slow.len() {
-        count += differs(slow[i], ground);
-        i = stretch_end(slow, i);
+    let mut last = ground;
+    for x in slow {
+        if *x != last && *x != ground {
+            count += 1;
+        }
+        last = *x;
     }
     count
 }
 
 // A stretch from a cell up to another is a run, unless it is ground. Answers the next place.
+#[tactic(auto, unfolding(scenario::specs::Bytes::bytes_of, scenario::specs::Runs::closed, scenario::specs::Runs::run))]
 fn put_stretch(out: &mut [u8], at: usize, from: usize, until: usize, x: u32, ground: u32) -> usize
     requires { (at + run_size * length (closed ground from until x []) ≤ length out.old) × (from ≤ until) × (until < 4294967296) }
     ensures at { result ≡ at + run_size * length (closed ground from until x []) }
@@ -65,58 +47,56 @@ fn put_stretch(out: &mut [u8], at: usize, from: usize, until: usize, x: u32, gro
 }
 
 // The runs behind the head.
+#[tactic(auto, using(crate::proofs::Stretches::stretch_last), unfolding(scenario::specs::Runs::runs_of))]
 pub fn write_runs(out: &mut [u8], slow: &[u32], ground: u32)
     requires { (runs_end (length (runs_of ground slow.now)) ≤ length out.old) × (length slow.now ≤ 65536) }
     ensures { let rs = runs_of ground slow.now in
         take (runs_end (length rs)) out.new ≡ take head_size out.old ++ bytes_of run_bytes rs }
 {
     let mut at = HEAD;
-    let mut i = 0;
-    while i < slow.len() {
-        let until = stretch_end(slow, i);
-        at = put_stretch(out, at, i, until, slow[i], ground);
-        i = until;
+    let mut from = 0;
+    let mut last = ground;
+    for (i, x) in slow.iter().enumerate() {
+        if *x != last {
+            at = put_stretch(out, at, from, i, last, ground);
+            from = i;
+            last = *x;
+        }
     }
+    put_stretch(out, at, from, slow.len(), last, ground);
 }
 
-// The starts of a part of the lists, from a place on.
-fn write_starts(out: &mut [u8], at: usize, cells: &[u32], begins: &[u32])
-    requires { (at + start_size * length cells.now ≤ length out.old) × (length cells.now ≡ length begins.now) }
-    ensures { take (at + start_size * length cells.now) out.new
-        ≡ take at out.old ++ bytes_of start_bytes (starts_of cells.now begins.now) }
+// The starts, in a list of their bytes.
+pub fn write_starts<S: Starts>(out: &mut [u8], starts: S)
+    requires { length out.old ≡ start_size * length (S.all starts) }
+    ensures { out.new ≡ bytes_of start_bytes (S.all starts) }
 {
-    let mut i = 0;
-    while i < cells.len() {
-        put_wide_pair(out, at + START * i, cells[i], begins[i]);
-        i += 1;
+    for i in 0..starts.many() {
+        let start = starts.at(i);
+        put_wide_pair(out, START * i, start.cell, start.time);
     }
 }
 
-// The head of a board with so many starts.
-pub fn head_for(
-    width: u32,
-    height: u32,
-    storeys: u32,
-    ticks: u32,
-    ground: u32,
-    slow: &[u32],
-    starts: usize,
-) -> Head
-    requires { (length slow.now ≤ 65536) × (starts ≤ 65536) }
-    ensures { result ≡ head_of width height storeys ticks ground slow.now starts }
+// The head of a board with its starts.
+#[tactic(auto, using(scenario::proofs::GoodRuns::counts), unfolding(scenario::specs::File::head_of))]
+pub fn head_for<S: Starts>(board: &Handed<S>, ticks: u32, ground: u32) -> Head
+    requires { (length board.now.slow.now ≤ 65536) × (length (S.all board.now.starts) ≤ 65536) }
+    ensures { let b = (handed_in S.all S.paired board.now).board in
+        result ≡ head_of b.wide b.high b.storeys ticks ground b.slow (length b.starts) }
 {
     Head {
-        width: width,
-        height: height,
-        storeys: storeys,
-        ticks: ticks,
-        ground: ground,
-        runs: count_runs(slow, ground) as u32,
-        starts: starts as u32,
+        width: board.width,
+        height: board.height,
+        storeys: board.storeys,
+        ticks,
+        ground,
+        runs: count_runs(board.slow, ground) as u32,
+        starts: board.starts.many() as u32,
     }
 }
 
 // A list that ends where the starts begin: the head, the runs.
+#[tactic(auto, unfolding(scenario::specs::File::front))]
 pub fn write_front(out: &mut [u8], head: Head, slow: &[u32])
     requires out { length out.old ≡ runs_end «head».runs }
     requires slow { («head».runs ≡ length (runs_of «head».ground slow.now)) × (length slow.now ≤ 65536) }
@@ -126,12 +106,13 @@ pub fn write_front(out: &mut [u8], head: Head, slow: &[u32])
     write_runs(out, slow, head.ground);
 }
 
-// The starts of a part of the lists, from a place on; all other bytes stay.
-pub fn put_starts(out: &mut [u8], at: usize, cells: &[u32], begins: &[u32])
-    requires { (at + start_size * length cells.now ≤ length out.old) × (length cells.now ≡ length begins.now) }
-    ensures { out.new ≡ take at out.old ++ (bytes_of start_bytes (starts_of cells.now begins.now)
-        ++ drop (at + start_size * length cells.now) out.old) }
+// All of the file: the starts behind these.
+pub fn write_all<S: Starts>(out: &mut [u8], head: Head, board: &Handed<S>)
+    requires out { length out.old ≡ file_size head.runs (length (S.all board.now.starts)) }
+    requires slow { (head.runs ≡ length (runs_of head.ground board.now.slow.now)) × (length board.now.slow.now ≤ 65536) }
+    ensures { out.new ≡ front head board.now.slow.now ++ bytes_of start_bytes (S.all board.now.starts) }
 {
-    let end = at + START * cells.len();
-    write_starts(&mut out[at..end], 0, cells, begins);
+    let (front, starts) = out.split_at_mut(starts_base(head));
+    write_front(front, head, board.slow);
+    write_starts(starts, board.starts);
 }

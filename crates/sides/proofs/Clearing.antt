@@ -1,4 +1,4 @@
--- Sides cleared, start by start or part by part.
+-- Sides cleared, start by start.
 use mathlib.Core.Path.{◌≡◌, refl, sym, ap, subst, ◌∙◌}
 use mathlib.Core.Bool.{Bool, true, false, ◌&&◌, ◌||◌, cond}
 use mathlib.Core.List.{List, [], ◌∷◌, ◌++◌}
@@ -7,12 +7,11 @@ use Prim.Native.Nat.{ℕ, suc, ◌≤◌, ◌<◌}
 use native.Mathlib.Omega.{arith}
 use native.Mathlib.Decide.{ℕ_discrete}
 use lib.Dec.{eqb}
-use lib.ListN.{length, get_or, set, take, length-set, length-take}
-use lib.Seq.{get_or-set_same, get_or-set_other, take-suc}
+use lib.ListN.{length, get_or, set, take, length-set}
+use lib.Seq.{get_or-set_same, get_or-set_other, take-suc, take_all}
 use borrow.Author.Tests.{eq-eqb, ne_eqb}
-use Rattle.eikonal.specs.Refusals.{starts_of}
+use Rattle.eikonal.specs.Handing.{no_start}
 use Rattle.eikonal.specs.declared.Start.{Start}
-use Rattle.eikonal.proofs.StartLists.{starts_of-append, starts_of-take}
 use Rattle.sides.specs.Clear.{begins_at, Cleared}
 
 -- of two lists of starts, in either
@@ -27,27 +26,27 @@ begins-append c t (x ∷ xs) ys = go (eqb x.cell c && eqb x.time t) (begins-appe
     go false e = e
 
 -- ---- one start
-module _ {ts us : List ℕ} {c t : ℕ} (on : c < length us) where
+module _ {ts us : List ℕ} (s : Start) (on : s.cell < length us) where
   -- at its cell's time
-  pub cleared-here : (x : ℕ) → x ≡ 0 → get_or ts c 0 ≡ t → Cleared (starts_of (c ∷ []) (t ∷ [])) ts us (set us c x)
-  unfolding begins_at starts_of
-  cleared-here x z e = record { long = length-set us c x; each = now }
+  pub cleared-here : (x : ℕ) → x ≡ 0 → get_or ts s.cell 0 ≡ s.time → Cleared (s ∷ []) ts us (set us s.cell x)
+  unfolding begins_at
+  cleared-here x z e = record { long = length-set us s.cell x; each = now }
     where
-      now : (d : ℕ) → d < length us → get_or (set us c x) d 0 ≡ cond ((eqb c d && eqb t (get_or ts d 0)) || false) 0 (get_or us d 0)
-      now d l = elim (ℕ_discrete d c) [
-        | yes q ↦ rw (q, eq-eqb c c refl, eq-eqb t (get_or ts c 0) (sym e)) (get_or-set_same us c x 0 on ∙ z)
-        | no q ↦ rw (ne_eqb c d (omega arith)) (get_or-set_other us c d x 0 (omega arith))
+      now : (d : ℕ) → d < length us → get_or (set us s.cell x) d 0 ≡ cond ((eqb s.cell d && eqb s.time (get_or ts d 0)) || false) 0 (get_or us d 0)
+      now d l = elim (ℕ_discrete d s.cell) [
+        | yes q ↦ rw (q, eq-eqb s.cell s.cell refl, eq-eqb s.time (get_or ts s.cell 0) (sym e)) (get_or-set_same us s.cell x 0 on ∙ z)
+        | no q ↦ rw (ne_eqb s.cell d (omega arith)) (get_or-set_other us s.cell d x 0 (omega arith))
       ]
 
   -- at another time
-  pub cleared-not : get_or ts c 0 ≢ t → Cleared (starts_of (c ∷ []) (t ∷ [])) ts us us
-  unfolding begins_at starts_of
+  pub cleared-not : get_or ts s.cell 0 ≢ s.time → Cleared (s ∷ []) ts us us
+  unfolding begins_at
   cleared-not e = record { long = refl; each = now }
     where
-      now : (d : ℕ) → d < length us → get_or us d 0 ≡ cond ((eqb c d && eqb t (get_or ts d 0)) || false) 0 (get_or us d 0)
-      now d l = elim (ℕ_discrete d c) [
-        | yes q ↦ rw (q, eq-eqb c c refl, ne_eqb t (get_or ts c 0) (λ z. e (sym z)))
-        | no q ↦ rw (ne_eqb c d (omega arith))
+      now : (d : ℕ) → d < length us → get_or us d 0 ≡ cond ((eqb s.cell d && eqb s.time (get_or ts d 0)) || false) 0 (get_or us d 0)
+      now d l = elim (ℕ_discrete d s.cell) [
+        | yes q ↦ rw (q, eq-eqb s.cell s.cell refl, ne_eqb s.time (get_or ts s.cell 0) (λ z. e (sym z)))
+        | no q ↦ rw (ne_eqb s.cell d (omega arith))
       ]
 
 -- ---- several starts
@@ -70,15 +69,11 @@ cleared_parts {xs} {ys} {ts} {a} {b} {c} p q = record { long = q.long ∙ p.long
         ∙ both (begins_at d (get_or ts d 0) xs) (begins_at d (get_or ts d 0) ys) (get_or a d 0)
         ∙ ap (λ (m : Bool). cond m 0 (get_or a d 0)) (sym (begins-append d (get_or ts d 0) xs ys))
 
--- the next entry of both lists, after the first i
-pub cleared-next : {ts a b c : List ℕ} (cs bs : List ℕ) (i : ℕ) → i < length cs → i < length bs
-    → Cleared (starts_of (take i cs) (take i bs)) ts a b → Cleared (starts_of (get_or cs i 0 ∷ []) (get_or bs i 0 ∷ [])) ts b c
-    → Cleared (starts_of (take (suc i) cs) (take (suc i) bs)) ts a c
-cleared-next cs bs i h k p q =
-    let level : length (take i cs) ≡ length (take i bs) = simp length-take (omega arith) in
-    rw (take-suc cs i 0, take-suc bs i 0, starts_of-append (take i cs) (take i bs) (get_or cs i 0 ∷ []) (get_or bs i 0 ∷ []) level) (cleared_parts p q)
+-- the next start, after the first i
+pub cleared-next : {ts a b c : List ℕ} (xs : List Start) (i : ℕ) (x : Start) → i < length xs → x ≡ get_or xs i no_start
+    → Cleared (take i xs) ts a b → Cleared (x ∷ []) ts b c → Cleared (take (suc i) xs) ts a c
+cleared-next {ts} {a} {b} {c} xs i x h e p q = rw (take-suc xs i no_start) (cleared_parts p (subst (λ y. Cleared (y ∷ []) ts b c) e q))
 
 -- and in the end all of them
-pub cleared-all : {ts a b : List ℕ} (cs bs : List ℕ) (i : ℕ) → length cs ≤ i → Cleared (starts_of (take i cs) (take i bs)) ts a b
-    → Cleared (starts_of cs bs) ts a b
-cleared-all {ts} {a} {b} cs bs i h p = subst (λ xs. Cleared xs ts a b) (starts_of-take i cs bs (omega arith)) p
+pub cleared-all : {ts a b : List ℕ} (xs : List Start) (i : ℕ) → length xs ≤ i → Cleared (take i xs) ts a b → Cleared xs ts a b
+cleared-all {ts} {a} {b} xs i h p = subst (λ ys. Cleared ys ts a b) (take_all i xs h) p

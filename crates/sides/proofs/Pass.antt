@@ -25,7 +25,7 @@ use Rattle.front.specs.Front.{ghosted, Among, NotAmong}
 use Rattle.front.specs.Seams.{edge, mark_under, mark_over}
 use Rattle.front.specs.Board.{land, tentative, Marked, Ground}
 use Rattle.front.specs.declared.Shape.{Shape}
-use Rattle.front.proofs.Theory.Reading.{place-behind, place_ahead, measured}
+use Rattle.front.proofs.Theory.Reading.{place-behind, place_ahead}
 use Rattle.front.proofs.Theory.Reading.{cells-most, cells-size, lines-most, rows_whole, storey_most}
 use Rattle.sides.specs.Row.{flat, Even}
 use Rattle.sides.specs.Pass.{Off, Lines, SeenRow, Legal, seen_at, flat_at, stack_at, found_at, Done, SomeLand, FoundWhole, Ghosts}
@@ -76,7 +76,7 @@ module _ {s : Shape} {own far off cols rows sides : List ℕ} (lg : Legal s own 
 
   module _ {area : ℕ} (storey : area ≡ s.width * s.height) where
     storey_few : area ≤ s.cells
-    storey_few = omega (arith, storey, storey_most lg.ground measured)
+    storey_few = omega (arith, storey, storey_most lg.ground)
 
     pub over-lines : Lines (mark_over s.cells area start) own far start 0 area s.width
     over-lines = lines (omega (arith, storey_few, ends)) (λ q. (omega arith, over q))
@@ -296,27 +296,21 @@ module _ (s : Shape) (work : List ℕ) where
   far_part-at : (e : ℕ) → e < s.cells → get_or (far_part s work) e 0 ≡ get_or work (s.cells + e) 0
   far_part-at e l = get_or-take (2 * s.cells - s.cells) (drop s.cells work) e 0 (omega (arith, l)) ∙ get_or-drop s.cells work e 0
 
-  pub laid_wide : {cols rows sides : List ℕ} → Laid s work cols rows sides → s.width ≤ length work
-  laid_wide la = ground-wide (length work) la.ground la.room
-
-  pub laid_legal : {cols rows sides : List ℕ} → Laid s work cols rows sides
+  pub laid_legal : {slow stored cols rows sides : List ℕ} → Ground s slow stored cols rows → Laid s work sides
       → Legal s (own_part s work) (far_part s work) (take s.width work) cols rows sides
-  laid_legal la = record {
-    slow = la.slow;
-    ground = ground-on la.ground (own_part s work) (own_part-long la.room);
+  laid_legal {slow} gr la = record {
+    slow = slow;
+    ground = ground-on gr (own_part s work) (own_part-long la.room);
     narrow = la.narrow;
     beyond = far_part-long la.room;
-    nothing = off-take work (laid_wide la) la.off;
+    nothing = off-take work (ground-wide (length work) gr la.room) la.off;
     long = la.long;
   }
 
 module _ {s : Shape} {slow stored cols rows work now then : List ℕ} (gr : Ground s slow stored cols rows) (fi : Filled 0 s.width never work now)
     (gh : Ghosts s slow stored s.cells now then) where
-  pub round_laid : {sides : List ℕ} → s.across ≤ 256 → 4 * s.cells ≤ length work → length sides ≡ s.cells → Laid s then cols rows sides
+  pub round_laid : {sides : List ℕ} → s.across ≤ 256 → 4 * s.cells ≤ length work → length sides ≡ s.cells → Laid s then sides
   round_laid narrow room long = record {
-    slow = slow;
-    stored = stored;
-    ground = gr;
     narrow = narrow;
     room = omega (arith, room, gh.long, fi.long);
     off = λ i l. gh.front i (omega (arith, l, wide-few s gr.good gr.cells)) ∙ fi.inside i (omega arith) l;

@@ -24,7 +24,7 @@ use Rattle.front.specs.Seams.{cut, stack_cut, seam, seam_back, seam_on, edge, ac
 use Rattle.front.specs.Board.{land, Ground, Site}
 use Rattle.front.specs.declared.Shape.{Shape}
 use Rattle.front.proofs.Theory.Seams.{seam-edge, columns_straight, rows_straight, storeys_straight, sees_back, sees-on}
-use Rattle.front.proofs.Theory.Reading.{across-edge, across-inside, across-border, place-behind, marked-back, marked-on, measured}
+use Rattle.front.proofs.Theory.Reading.{across-edge, across-inside, across-border, place-behind, marked-back, marked-on}
 use Rattle.front.proofs.Theory.Reading.{rows_whole, column-at, line_at, under_mark, over_mark}
 use Rattle.sides.specs.Row.{shown, left_of, right_of, on_storey}
 use Rattle.sides.specs.Pass.{Off, SeenRow, flat_at, stack_at, found_at}
@@ -113,7 +113,7 @@ module _ {s : Shape} {slow own cols rows : List ℕ} (gr : Ground s slow own col
 
     -- before and behind it in the row
     column-is : place (column_axis board) c ≡ i
-    column-is = column-at gr measured site ∙ mod-eq_of_lt l
+    column-is = column-at gr site ∙ mod-eq_of_lt l
 
     left-seen : left_of s.across (part own) (part far) i ≡ before (column_axis board) c seen
     left-seen =
@@ -150,14 +150,14 @@ module _ {s : Shape} {slow own cols rows : List ℕ} (gr : Ground s slow own col
     above-seen sr =
         row_seen sr (λ q. omega (arith, mul-le-mul_right w (place-behind gr.lines line q)))
         ∙ ap (λ (k : ℕ). across k (time_of (c - w)) (ghost c (c - w)))
-        (marked-back (cut (row_axis board) s.down) c gr.lines (line_at gr measured site) line)
+        (marked-back (cut (row_axis board) s.down) c gr.lines (line_at gr site) line)
         ∙ sees_back (rows_straight gr.good s.across s.down gr.across gr.down) c ghost time_of
 
     below-seen : {r : List ℕ} → SeenRow (get_or rows (row + 1) 0) own far (from + w - 0) w r → get_or r i 0 ≡ behind (row_axis board) c seen
     below-seen sr =
         row_seen sr (λ q. omega arith)
         ∙ ap (λ (k : ℕ). across k (time_of (c + w)) (ghost c (c + w)))
-        (marked-on (cut (row_axis board) s.down) c gr.lines (line_at gr measured site) line)
+        (marked-on (cut (row_axis board) s.down) c gr.lines (line_at gr site) line)
         ∙ sees-on (rows_straight gr.good s.across s.down gr.across gr.down) c ghost time_of
 
     -- over and under it: its whole row has the same
@@ -191,7 +191,7 @@ module _ {s : Shape} {slow own cols rows : List ℕ} (gr : Ground s slow own col
       under-seen : {r : List ℕ} → SeenRow (mark_under area from) own far (from + 0 - area) w r → get_or r i 0 ≡ before (storey_axis board) c seen
       under-seen sr =
           row_seen sr (λ q. omega (arith, past q))
-          ∙ ap (λ (k : ℕ). across k (time_of (c - area)) (ghost c (c - area))) (under-row ∙ under_mark gr measured site storey)
+          ∙ ap (λ (k : ℕ). across k (time_of (c - area)) (ghost c (c - area))) (under-row ∙ under_mark gr site storey)
           ∙ ap (λ (u : ℕ). across (seam_back (stack_cut board) c) (time_of (c - u)) (ghost c (c - u))) storey
           ∙ sees_back (storeys_straight gr.good s.across s.down gr.across gr.down) c ghost time_of
         where
@@ -205,7 +205,7 @@ module _ {s : Shape} {slow own cols rows : List ℕ} (gr : Ground s slow own col
       over-seen : {r : List ℕ} → SeenRow (mark_over s.cells area from) own far (from + area - 0) w r → get_or r i 0 ≡ behind (storey_axis board) c seen
       over-seen sr =
           row_seen sr (λ q. omega arith)
-          ∙ ap (λ (k : ℕ). across k (time_of (c + area)) (ghost c (c + area))) (over-row ∙ over_mark gr measured site storey)
+          ∙ ap (λ (k : ℕ). across k (time_of (c + area)) (ghost c (c + area))) (over-row ∙ over_mark gr site storey)
           ∙ ap (λ (u : ℕ). across (seam_on (stack_cut board) c) (time_of (c + u)) (ghost c (c + u))) storey
           ∙ sees-on (storeys_straight gr.good s.across s.down gr.across gr.down) c ghost time_of
 

@@ -1,3 +1,4 @@
 pub mod Row
 pub mod Pass
+pub mod View
 pub mod Clear

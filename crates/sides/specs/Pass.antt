@@ -38,12 +38,6 @@ pub record Legal (s : Shape) (own far off cols rows sides : List ℕ) : Type 0 w
   pub nothing : Off s.width off
   pub long : length sides ≡ s.cells
 
--- the same whatever its seams
-pub record Stacked (s : Shape) (own far off sides : List ℕ) : Type 0 where
-  pub cols : List ℕ
-  pub rows : List ℕ
-  pub legal : Legal s own far off cols rows sides
-
 -- what a cell sees
 abbrev pub seen_at : Shape → (own far : List ℕ) → (c e : ℕ) → ℕ
 seen_at s os fs c e = ghosted (land s []) s.across s.down (λ d a. get_or fs a 0) (λ a. get_or os a 0) c e
@@ -103,10 +97,7 @@ abbrev pub far_part : Shape → (work : List ℕ) → List ℕ
 far_part s v = take (2 * s.cells - s.cells) (drop s.cells v)
 
 -- and never in front
-pub record Laid (s : Shape) (work cols rows sides : List ℕ) : Type 0 where
-  pub slow : List ℕ
-  pub stored : List ℕ
-  pub ground : Ground s slow stored cols rows
+pub record Laid (s : Shape) (work sides : List ℕ) : Type 0 where
   pub narrow : s.across ≤ 256
   pub room : 4 * s.cells ≤ length work
   pub off : (i : ℕ) → i < s.width → get_or work i 0 ≡ never

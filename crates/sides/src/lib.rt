@@ -6,141 +6,103 @@ mod row;
 
 ghost use Rattle.std.specs.Prelude.{◌≡◌, ℕ, ◌+◌, ◌*◌, ◌-◌, ◌≤◌, ◌<◌, length, get_or};
 ghost use Rattle.front.specs.Front.{Among};
-ghost use Rattle.front.specs.Board.{Ground};
-ghost use Rattle.sides.specs.Pass.{Off, Lines, SeenRow, Legal, Stacked, flat_at, stack_at, found_at, Done, SomeLand, FoundWhole};
-ghost use Rattle.sides.specs.Pass.{Ghosts, own_part, far_part, Laid, FoundRound};
+ghost use Rattle.sides.specs.Pass.{Off, Lines, SeenRow, found_at, Done, SomeLand, FoundWhole, Ghosts, own_part, far_part, Laid, FoundRound};
+ghost use Rattle.sides.specs.View.{LegalIn, flat_in, stack_in, found_in};
 
 use eikonal::NEVER;
 use front::Shape;
-use front::seams::{EDGE, INSIDE, seam_over, seam_under};
-use front::sight::ghost_time;
+use front::scene::Scene;
+use front::seams::{EDGE, INSIDE, Seams, seam_over, seam_under};
 
-// What a row of w cells from c on sees of the row that is `more` cells on and `less` back, across a seam: its own tile's times, those beyond a border,
-// or never.
-fn row_at<'a>(
-    seam: u8,
+// What cells see, by cell: the times of their own tile and those beyond borders. Off the board it is never, as often as a row has cells.
+#[derive(Clone, Copy)]
+struct View<'a> {
     own: &'a [u32],
     far: &'a [u32],
     off: &'a [u32],
-    c: usize,
-    less: usize,
-    more: usize,
-    w: usize,
-) -> &'a [u32]
-    requires { Off w off.now × Lines seam own.now far.now c less more w }
-    ensures { SeenRow seam own.now far.now (c + more - less) w result.now }
+    cols: &'a Seams,
+    rows: &'a Seams,
+    shape: Shape,
+}
+
+// What a row of cells from c on sees of the row that is `more` cells on and `less` back, across a seam.
+fn row_at<'a>(view: &View<'a>, seam: u8, c: usize, less: usize, more: usize) -> &'a [u32]
+    requires { let v = view.now in
+        Off v.shape.width v.off.now × Lines seam v.own.now v.far.now c less more v.shape.width }
+    ensures { SeenRow seam view.now.own.now view.now.far.now (c + more - less) view.now.shape.width result.now }
 {
+    let w = view.shape.width;
     if seam == EDGE {
-        return &off[..w];
+        return &view.off[..w];
     }
     let e = c + more - less;
     let end = e + w;
     if seam == INSIDE {
-        return &own[e..end];
+        return &view.own[e..end];
     }
-    &far[e..end]
+    &view.far[e..end]
 }
 
 // The cells of a row, which is numbered through all storeys: their sides on their storey.
-fn flat_row<'a>(
-    own: &'a [u32],
-    far: &'a [u32],
-    off: &'a [u32],
-    cols: &[u8; 2051],
-    rows: &[u8; 2051],
-    shape: Shape,
-    row: usize,
-    bound: u32,
-    sides: &mut [u8],
-)
-    requires { Legal shape own.now far.now off.now cols.now rows.now sides.old × (row < shape.height * shape.storeys) }
-    ensures { Done (flat_at shape own.now far.now bound) (row * shape.width) (row * shape.width + shape.width)
-        sides.old sides.new }
+fn flat_row(view: &View, row: usize, bound: u32, sides: &mut [u8])
+    requires { LegalIn view.now sides.old × (row < view.now.shape.height * view.now.shape.storeys) }
+    ensures { let w = view.now.shape.width in
+        Done (flat_in view.now bound) (row * w) (row * w + w) sides.old sides.new }
 {
-    let w = shape.width;
-    let across = shape.across as usize;
+    let w = view.shape.width;
     let a = row * w;
     let e = a + w;
-    let above = row_at(rows[row], own, far, off, a, w, 0, w);
-    let below = row_at(rows[row + 1], own, far, off, a, 0, w, w);
+    let above = row_at(view, view.rows[row], a, w, 0);
+    let below = row_at(view, view.rows[row + 1], a, 0, w);
     row::find_flat(
         &mut sides[a..e],
-        &own[a..e],
-        &far[a..e],
+        &view.own[a..e],
+        &view.far[a..e],
         above,
         below,
-        cols,
-        across,
+        view.cols,
+        view.shape.across as usize,
         bound,
     );
 }
 
 // And those between storeys: a tile spans all of them.
-fn stack_row<'a>(
-    own: &'a [u32],
-    far: &'a [u32],
-    off: &'a [u32],
-    shape: Shape,
-    row: usize,
-    bound: u32,
-    sides: &mut [u8],
-)
-    requires { Stacked shape own.now far.now off.now sides.old × (row < shape.height * shape.storeys)
-        × ((c : ℕ) → Among (row * shape.width) (row * shape.width + shape.width) c → get_or sides.old c 0 ≤ 10) }
-    ensures { Done (λ c. get_or sides.old c 0 + 16 * stack_at shape own.now far.now bound c)
-        (row * shape.width) (row * shape.width + shape.width) sides.old sides.new }
+fn stack_row(view: &View, row: usize, bound: u32, sides: &mut [u8])
+    requires { let w = view.now.shape.width in
+        LegalIn view.now sides.old × (row < view.now.shape.height * view.now.shape.storeys)
+        × ((c : ℕ) → Among (row * w) (row * w + w) c → get_or sides.old c 0 ≤ 10) }
+    ensures { let w = view.now.shape.width in
+        Done (λ c. get_or sides.old c 0 + 16 * stack_in view.now bound c) (row * w) (row * w + w) sides.old sides.new }
 {
-    let n = shape.cells;
-    let w = shape.width;
-    let area = w * (shape.height as usize);
+    let w = view.shape.width;
+    let area = w * (view.shape.height as usize);
     let a = row * w;
     let e = a + w;
-    let over = row_at(seam_over(n, area, a), own, far, off, a, 0, area, w);
-    let under = row_at(seam_under(area, a), own, far, off, a, area, 0, w);
-    row::add_storeys(&mut sides[a..e], &own[a..e], over, under, bound);
+    let over = row_at(view, seam_over(view.shape.cells, area, a), a, 0, area);
+    let under = row_at(view, seam_under(area, a), a, area, 0);
+    row::add_storeys(&mut sides[a..e], &view.own[a..e], over, under, bound);
 }
 
 // All sides of a row.
-fn find_row<'a>(
-    own: &'a [u32],
-    far: &'a [u32],
-    off: &'a [u32],
-    cols: &[u8; 2051],
-    rows: &[u8; 2051],
-    shape: Shape,
-    row: usize,
-    bound: u32,
-    sides: &mut [u8],
-)
-    requires { Legal shape own.now far.now off.now cols.now rows.now sides.old × (row < shape.height * shape.storeys) }
-    ensures { Done (found_at shape own.now far.now bound) (row * shape.width) (row * shape.width + shape.width)
-        sides.old sides.new }
+fn find_row(view: &View, row: usize, bound: u32, sides: &mut [u8])
+    requires { LegalIn view.now sides.old × (row < view.now.shape.height * view.now.shape.storeys) }
+    ensures { let w = view.now.shape.width in
+        Done (found_in view.now bound) (row * w) (row * w + w) sides.old sides.new }
 {
-    flat_row(own, far, off, cols, rows, shape, row, bound, sides);
-    if shape.storeys > 1 {
-        stack_row(own, far, off, shape, row, bound, sides);
+    flat_row(view, row, bound, sides);
+    if view.shape.storeys > 1 {
+        stack_row(view, row, bound, sides);
     }
 }
 
 // The sides of every cell by its own time, whatever its start: none past the bound.
-fn find<'a>(
-    own: &'a [u32],
-    far: &'a [u32],
-    off: &'a [u32],
-    cols: &[u8; 2051],
-    rows: &[u8; 2051],
-    shape: Shape,
-    bound: u32,
-    sides: &mut [u8],
-)
-    requires { Legal shape own.now far.now off.now cols.now rows.now sides.old }
-    ensures { Done (found_at shape own.now far.now bound) 0 shape.cells sides.old sides.new }
+fn find(view: &View, bound: u32, sides: &mut [u8])
+    requires { LegalIn view.now sides.old }
+    ensures { Done (found_in view.now bound) 0 view.now.shape.cells sides.old sides.new }
 {
-    let lines = (shape.height as usize) * (shape.storeys as usize);
-    let mut row = 0;
-    while row < lines {
-        find_row(own, far, off, cols, rows, shape, row, bound, sides);
-        row += 1;
+    let lines = (view.shape.height as usize) * (view.shape.storeys as usize);
+    for row in 0..lines {
+        find_row(view, row, bound, sides);
     }
 }
 
@@ -152,80 +114,64 @@ pub fn find_whole(times: &[u32], work: &mut [u32], shape: Shape, bound: u32, sid
 {
     let w = shape.width;
     queue::lists::fill(work, 0, w, NEVER);
-    let cols = front::seams::lay(w, 256, 1);
-    let rows = front::seams::lay(shape.height as usize, 256, shape.storeys as usize);
-    let whole = Shape {
-        width: w,
-        height: shape.height,
-        storeys: shape.storeys,
+    let covered = Shape {
         across: 256,
         down: 256,
-        cells: shape.cells,
+        ..shape
     };
-    find(times, times, &work[..w], &cols, &rows, whole, bound, sides);
+    let cols = front::seams::lay_columns(covered);
+    let rows = front::seams::lay_rows(covered);
+    let whole = View {
+        own: times,
+        far: times,
+        off: &work[..w],
+        cols: &cols,
+        rows: &rows,
+        shape: covered,
+    };
+    find(&whole, bound, sides);
 }
 
 // What the stored times count as beyond a border, laid out behind the first N entries of the work list.
-fn lay_ghosts(slow: &[u32], times: &[u32], work: &mut [u32], shape: Shape)
-    requires { (length slow.now ≡ shape.cells) × (length times.now ≡ shape.cells) × (4 * shape.cells ≤ length work.old)
-        × (shape.cells ≤ 65536) }
-    ensures { Ghosts shape slow.now times.now shape.cells work.old work.new }
+fn lay_ghosts(scene: &Scene, work: &mut [u32])
+    requires { 4 * scene.now.shape.cells ≤ length work.old }
+    ensures { let s = scene.now in
+        Ghosts s.shape s.slow.now s.times.now s.shape.cells work.old work.new }
 {
-    let n = shape.cells;
-    let mut e = 0;
-    while e < n {
-        let at = n + e;
-        work[at] = ghost_time(slow, times, shape, e);
-        e += 1;
+    let n = scene.shape.cells;
+    for e in 0..n {
+        work[n + e] = scene.ghost_time(e);
     }
 }
 
 // The same of what the work list has: never in front, what lies beyond borders, then the tentative times.
-fn find_laid(
-    work: &[u32],
-    cols: &[u8; 2051],
-    rows: &[u8; 2051],
-    shape: Shape,
-    bound: u32,
-    sides: &mut [u8],
-)
-    requires { Laid shape work.now cols.now rows.now sides.old }
-    ensures { Done (found_at shape (own_part shape work.now) (far_part shape work.now) bound) 0 shape.cells
-        sides.old sides.new }
+fn find_laid(scene: &Scene, work: &[u32], bound: u32, sides: &mut [u8])
+    requires { Laid scene.now.shape work.now sides.old }
+    ensures { let s = scene.now.shape in
+        Done (found_at s (own_part s work.now) (far_part s work.now) bound) 0 s.cells sides.old sides.new }
 {
-    let n = shape.cells;
-    let w = shape.width;
+    let n = scene.shape.cells;
     let second = 2 * n;
     let third = 3 * n;
-    find(
-        &work[second..third],
-        &work[n..second],
-        &work[..w],
-        cols,
-        rows,
-        shape,
-        bound,
-        sides,
-    );
+    let laid = View {
+        own: &work[second..third],
+        far: &work[n..second],
+        off: &work[..scene.shape.width],
+        cols: scene.cols,
+        rows: scene.rows,
+        shape: scene.shape,
+    };
+    find(&laid, bound, sides);
 }
 
 // The same of a round, by its tentative times, while the stored ones are as they were before it. The tentative times stay.
-pub fn find_round(
-    slow: &[u32],
-    times: &[u32],
-    work: &mut [u32],
-    cols: &[u8; 2051],
-    rows: &[u8; 2051],
-    shape: Shape,
-    bound: u32,
-    sides: &mut [u8],
-)
-    requires { Ground shape slow.now times.now cols.now rows.now × (shape.across ≤ 256) × (4 * shape.cells ≤ length work.old)
-        × (length sides.old ≡ shape.cells) }
-    ensures { FoundRound shape slow.now times.now bound work.old work.new
-        sides.old sides.new }
+pub fn find_round(scene: &Scene, work: &mut [u32], bound: u32, sides: &mut [u8])
+    requires { let s = scene.now.shape in
+        (s.across ≤ 256) × (4 * s.cells ≤ length work.old) × (length sides.old ≡ s.cells) }
+    ensures { let s = scene.now in
+        FoundRound s.shape s.slow.now s.times.now bound work.old work.new sides.old sides.new }
 {
-    queue::lists::fill(work, 0, shape.width, NEVER);
-    lay_ghosts(slow, times, work, shape);
-    find_laid(work, cols, rows, shape, bound, sides);
+    queue::lists::fill(work, 0, scene.shape.width, NEVER);
+    lay_ghosts(scene, work);
+    find_laid(scene, work, bound, sides);
 }

@@ -7,8 +7,7 @@ ghost use Rattle.sides.specs.Row.{Even, Set, SetInner, Part, SetEnds, FoundFlat,
 
 use arrival::{flat_sides, shown, side};
 use eikonal::NEVER;
-use front::seams::EDGE;
-use queue::lists::nearer;
+use front::seams::{EDGE, Seams};
 
 // The leaf: each cell's sides on its storey.
 fn set(
@@ -25,11 +24,9 @@ fn set(
     ensures { Set bound own.now left.now right.now above.now below.now
         sides.old sides.new }
 {
-    let mut i = 0;
-    while i < sides.len() {
+    for (i, there) in sides.iter_mut().enumerate() {
         let t = shown(own[i], bound);
-        sides[i] = flat_sides(left[i], right[i], above[i], below[i], t);
-        i += 1;
+        *there = flat_sides(left[i], right[i], above[i], below[i], t);
     }
 }
 
@@ -56,14 +53,14 @@ fn set_inner(sides: &mut [u8], own: &[u32], above: &[u32], below: &[u32], bound:
 }
 
 // What the cell at column i sees before it and behind it, where that is not its own tile.
-fn beyond_left(far: &[u32], cols: &[u8; 2051], i: usize) -> u32
+fn beyond_left(far: &[u32], cols: &Seams, i: usize) -> u32
     requires { (i < length far.now) × (length far.now ≤ 256) × (get_or cols.now i 0 ≢ edge → 1 ≤ i) }
     ensures { result ≡ cond (eqb (get_or cols.now i 0) edge) never (get_or far.now (i - 1) 0) }
 {
     if cols[i] == EDGE { NEVER } else { far[i - 1] }
 }
 
-fn beyond_right(far: &[u32], cols: &[u8; 2051], i: usize) -> u32
+fn beyond_right(far: &[u32], cols: &Seams, i: usize) -> u32
     requires { (i < length far.now) × (length far.now ≤ 256) × (get_or cols.now (i + 1) 0 ≢ edge → i + 1 < length far.now) }
     ensures { result ≡ cond (eqb (get_or cols.now (i + 1) 0) edge) never (get_or far.now (i + 1) 0) }
 {
@@ -81,7 +78,7 @@ fn set_ends(
     far: &[u32],
     above: &[u32],
     below: &[u32],
-    cols: &[u8; 2051],
+    cols: &Seams,
     across: usize,
     from: usize,
     last: usize,
@@ -111,7 +108,7 @@ pub fn find_flat(
     far: &[u32],
     above: &[u32],
     below: &[u32],
-    cols: &[u8; 2051],
+    cols: &Seams,
     across: usize,
     bound: u32,
 )
@@ -122,9 +119,8 @@ pub fn find_flat(
 {
     set_inner(sides, own, above, below, bound);
     let w = own.len();
-    let mut col = 0;
-    while col < w {
-        let end = nearer(col + across, w);
+    for col in (0..w).step_by(across) {
+        let end = (col + across).min(w);
         set_ends(
             sides,
             own,
@@ -137,7 +133,6 @@ pub fn find_flat(
             end - 1,
             bound,
         );
-        col = end;
     }
 }
 
@@ -146,10 +141,8 @@ pub fn add_storeys(sides: &mut [u8], own: &[u32], over: &[u32], under: &[u32], b
     requires { Even (length sides.old) own.now over.now under.now × ((i : ℕ) → i < length sides.old → get_or sides.old i 0 ≤ 10) }
     ensures { Added bound own.now over.now under.now sides.old sides.new }
 {
-    let mut i = 0;
-    while i < sides.len() {
+    for (i, there) in sides.iter_mut().enumerate() {
         let t = shown(own[i], bound);
-        sides[i] = sides[i] + 16 * side(over[i], under[i], t);
-        i += 1;
+        *there += 16 * side(over[i], under[i], t);
     }
 }

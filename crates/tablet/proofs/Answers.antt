@@ -9,7 +9,7 @@ use borrow.Author.Tests.{eq-eqb, ne_eqb, leb-true, ltb-false, not-false}
 use Rattle.eikonal.specs.Board.{size, largest}
 use Rattle.eikonal.specs.Tiles.{rounds}
 use Rattle.eikonal.specs.Order.{caused}
-use Rattle.eikonal.specs.declared.Refusal.{Refusal}
+use Rattle.eikonal.specs.Order.{Refusal}
 use Rattle.eikonal.proofs.Causes.{NoneMet, none-met, unrefused, met_parts, number_is}
 use Rattle.eikonal.proofs.Good.{and-true}
 use Rattle.scenario.specs.File.{held}

@@ -1,5 +1,4 @@
 pub mod SmallFiles
-pub mod Parts
 mod Orders
 mod Runs
 mod TimesBytes

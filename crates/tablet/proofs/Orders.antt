@@ -1,16 +1,15 @@
 -- The rising order names every tile once.
-use mathlib.Core.Path.{◌≡◌, refl, ◌∙◌}
+use mathlib.Core.Path.{◌≡◌, refl}
 use mathlib.Core.Bool.{true, or-true}
-use mathlib.Core.List.{List, [], ◌∷◌, ◌++◌}
+use mathlib.Core.List.{List, [], ◌∷◌}
 use Prim.Native.Nat.{ℕ, zero, suc, ◌≤◌, ◌<◌}
 use native.Mathlib.Omega.{arith}
 use lib.Dec.{eqb}
-use lib.ListN.{length, get_or, take, drop}
+use lib.ListN.{length, get_or}
 use borrow.Author.Tests.{eq-eqb}
 use Rattle.eikonal.specs.Board.{Board}
 use Rattle.eikonal.specs.Tiles.{tile_count}
 use Rattle.eikonal.specs.Refusals.{member, all_there, order_good}
-use Rattle.tablet.proofs.Parts.{back}
 
 member-at : (xs : List ℕ) (k v : ℕ) → k < length xs → get_or xs k 0 ≡ v → member v xs ≡ true
 unfolding member
@@ -27,9 +26,3 @@ module _ (xs : List ℕ) (rises : (k : ℕ) → k < length xs → get_or xs k 0 
   pub rise-good : (b : Board) (tw th : ℕ) → length xs ≡ tile_count b tw th → order_good b tw th xs ≡ true
   unfolding order_good
   rise-good b tw th e = rw (eq-eqb (length xs) (tile_count b tw th) e, all-rise (tile_count b tw th) (omega arith))
-
--- the part of a longer list that was filled so
-pub part-good : (n : ℕ) (l part : List ℕ) → n ≤ length l → length part ≡ length (take n l)
-    → ((k : ℕ) → k < length (take n l) → get_or part k 0 ≡ k) → (b : Board) (tw th : ℕ) → n ≡ tile_count b tw th
-    → order_good b tw th (take n (part ++ drop n l)) ≡ true
-part-good n l part h e r b tw th q = let p = back n l part h e in rw p.same (rise-good part (λ k i. r k (omega arith)) b tw th (p.long ∙ q))

@@ -13,7 +13,7 @@ use Rattle.eikonal.specs.Refusals.{Handed, order_good, board_causes, handed_refu
 use Rattle.eikonal.specs.Ledger.{call, call_causes, own_refusal, entered, counted, answer, answered, own_answer, own_times}
 use Rattle.eikonal.specs.Entry.{lent, Counts}
 use Rattle.eikonal.specs.declared.Reply.{Reply}
-use Rattle.eikonal.specs.declared.Own.{Own}
+use Rattle.eikonal.specs.Order.{Own}
 use Rattle.eikonal.specs.declared.Job.{Job}
 use Rattle.eikonal.specs.declared.Job.TheVariants.{Run}
 use Rattle.eikonal.proofs.Causes.{NoneMet, none-met, unrefused, met-append, number_is}

@@ -3,7 +3,7 @@ use Rattle.std.specs.Prelude.{◌≡◌, Bool, true, ◌&&◌, not, List, ◌∷
 use Rattle.eikonal.specs.Board.{largest}
 use Rattle.eikonal.specs.Order.{Cause, caused, first_of}
 use Rattle.eikonal.specs.Refusals.{sides_good}
-use Rattle.eikonal.specs.declared.Refusal.{Refusal}
+use Rattle.eikonal.specs.Order.{Refusal}
 use Rattle.scenario.specs.File.{head_in, front_causes, rest_causes}
 use Rattle.scenario.specs.declared.Head.{Head}
 

@@ -4,7 +4,7 @@ use Rattle.eikonal.specs.Board.{size, largest, marched}
 use Rattle.eikonal.specs.Tiles.{rounds}
 use Rattle.eikonal.specs.Order.{Cause, caused, first_of}
 use Rattle.eikonal.specs.Refusals.{within, sides_good}
-use Rattle.eikonal.specs.declared.Refusal.{Refusal}
+use Rattle.eikonal.specs.Order.{Refusal}
 use Rattle.scenario.specs.Bytes.{four_bytes, bytes_of}
 use Rattle.scenario.specs.File.{held}
 use Rattle.scenario.specs.Calls.{filled}

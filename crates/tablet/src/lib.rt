@@ -4,50 +4,48 @@
 pub mod run;
 pub mod small;
 
-ghost use Rattle.std.specs.Prelude.{◌≡◌, [], ◌∷◌, ◌*◌, ltb, length};
-ghost use Rattle.eikonal.specs.Board.{size};
-ghost use Rattle.eikonal.specs.Order.{caused, or_else, first_of};
+ghost use Rattle.std.specs.Prelude.{◌≡◌, ◌*◌, length, IfOk};
+ghost use Rattle.eikonal.specs.Told.{told};
 ghost use Rattle.scenario.specs.Bytes.{four_bytes, bytes_of};
-ghost use Rattle.scenario.specs.File.{held};
-ghost use Rattle.tablet.specs.Small.{small_refusal};
+ghost use Rattle.scenario.specs.Inner.Walk.{Fits};
 ghost use Rattle.tablet.specs.Tablet.{tablet_refusal, TabletSays};
 
-use eikonal::{LARGEST, Refusal, cause};
+use eikonal::LARGEST;
+use eikonal::refused::{Cause, Refusal};
 use refusals::board::sides_good;
-use refusals::causes::{below, or_else, when, within};
+use refusals::causes::{refuse_if, within};
+use scenario::Head;
 use scenario::bytes::put_four;
-use scenario::heads::{board_size, head_of};
+use scenario::heads::board_size;
+use small::check_small;
 
-// 14, where nothing was found before.
-fn room_refusal(so_far: Refusal, file: &[u8], room: usize) -> Refusal
-    requires { so_far.number ≡ 0 → (small_refusal file.now).number ≡ 0 }
-    ensures { result ≡ or_else so_far (first_of (caused 14 (ltb room (4 * size (held file.now))) ∷ [])) }
+// What refuses the call, for an output of so many bytes; or the file's head.
+#[tactic(auto, using(eikonal::proofs::Outcomes::outcomes, crate::proofs::SmallFiles::tablet_by_parts))]
+fn check_tablet(
+    file: &[u8],
+    stride: u32,
+    across: u32,
+    down: u32,
+    room: usize,
+) -> Result<Head, Refusal>
+    ensures told { told result ≡ tablet_refusal file.now stride across down room }
+    ensures head { IfOk result (λ x. Fits x file.now) }
 {
-    if so_far.number != 0 {
-        return so_far;
-    }
-    let short = below(room, 4 * board_size(head_of(file)));
-    when(short, 14, 0, cause(0))
-}
-
-// All that the tablet is refused by, for an output of so many bytes.
-fn tablet_refusal(file: &[u8], stride: u32, across: u32, down: u32, room: usize) -> Refusal
-    ensures { result ≡ tablet_refusal file.now stride across down room }
-{
-    let by_11 = when(!sides_good(across, down), 11, 0, cause(0));
-    let tiling = when(!within(1, LARGEST as usize, stride as usize), 10, 0, by_11);
-    room_refusal(or_else(small::small_refusal(file), tiling), file, room)
+    let head = check_small(file)?;
+    refuse_if(!within(1, LARGEST as usize, stride as usize), Cause::Far)?;
+    refuse_if(!sides_good(across, down), Cause::TileSides)?;
+    refuse_if(room < 4 * board_size(head), Cause::Room)?;
+    Ok(head)
 }
 
 // Each time as 4 bytes, into a list that is just as long.
+#[tactic(auto, using(crate::proofs::TimesBytes::writing))]
 fn put_times(out: &mut [u8], times: &[u32])
     requires { length out.old ≡ 4 * length times.now }
     ensures { out.new ≡ bytes_of four_bytes times.now }
 {
-    let mut i = 0;
-    while i < times.len() {
-        put_four(out, 4 * i, times[i]);
-        i += 1;
+    for (i, time) in times.iter().enumerate() {
+        put_four(out, 4 * i, *time);
     }
 }
 
@@ -56,14 +54,14 @@ fn put_times(out: &mut [u8], times: &[u32])
 pub fn tablet_run(file: &[u8], stride: u32, across: u32, down: u32, out: &mut [u8]) -> u64
     ensures { TabletSays file.now stride across down out.old out.new result }
 {
-    let refusal = tablet_refusal(file, stride, across, down, out.len());
-    if refusal.number != 0 {
-        return refusal.number as u64;
-    }
-    let n = board_size(head_of(file));
+    let head = match check_tablet(file, stride, across, down, out.len()) {
+        Ok(head) => head,
+        Err(refusal) => return refusal.cause.number() as u64,
+    };
+    let n = board_size(head);
     let mut times = run::entries();
-    let rounds = run::run_file(file, stride, across, down, &mut times[..n]);
-    let bytes = 4 * n;
-    put_times(&mut out[..bytes], &times[..n]);
+    let times = &mut times[..n];
+    let rounds = run::run_file(file, stride, across, down, times);
+    put_times(&mut out[..4 * n], times);
     (rounds as u64) * 256
 }

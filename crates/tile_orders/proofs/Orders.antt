@@ -1,16 +1,19 @@
 -- The order of tiles, judged a part of the tile numbers at a time.
 use mathlib.Core.Path.{◌≡◌, refl, sym, ap, ap₂, subst, ◌∙◌}
-use mathlib.Core.Bool.{Bool, true, false, ◌&&◌, ◌||◌, and-false, or-true, or-false, or_assoc}
+use mathlib.Core.Bool.{Bool, true, false, ◌&&◌, ◌||◌, and-false, or-true, or-false, or_assoc, and_comm}
 use mathlib.Core.List.{List, [], ◌∷◌, ◌++◌}
 use mathlib.Core.Logic.{◌≢◌}
 use Prim.Native.Nat.{ℕ, zero, suc, ◌+◌, ◌*◌, ◌-◌, ◌≤◌, ◌<◌}
 use native.Mathlib.Nat.{add-suc, add-zero}
+use native.Mathlib.Numerals.{add-one}
 use native.Mathlib.Omega.{arith}
 use native.Mathlib.Decide.{ℕ_discrete}
 use lib.Dec.{eqb}
 use lib.ListN.{length, get_or, set, take, length-set}
 use lib.Seq.{take-suc, get_or-set_same, get_or-set_other}
 use borrow.Author.Tests.{eq-eqb, ne_eqb}
+use Rattle.std.specs.List.{list_all}
+use Rattle.std.proofs.lemmas.List.Folds.{list_all_more}
 use Rattle.eikonal.specs.Tiles.{up, tile_count}
 use Rattle.eikonal.specs.Refusals.{member, all_there, order_good}
 use Rattle.eikonal.specs.Board.{board_of}
@@ -39,14 +42,15 @@ all_below_fails m n f h e =
     go zero = rw add-zero e
     go (suc k) = rw (add-suc, go k, and-false (f (m + k)))
 
--- one number more: it passes, or it decides
-pub all_below-more : (m : ℕ) (f : ℕ → Bool) → all_below m f ≡ true → f m ≡ true → all_below (suc m) f ≡ true
+-- the first n marks, gone through in order
+pub all_below-marked : (n : ℕ) (ms : List ℕ) → n ≤ length ms → list_all (λ m. eqb m 1) (take n ms) ≡ all_below n (λ j. marked ms j)
 unfolding all_below
-all_below-more m f e t = rw (t, e)
-
-pub all_below_stops : (m n : ℕ) (f : ℕ → Bool) → m < n → f m ≡ false → all_below n f ≡ false
-unfolding all_below
-all_below_stops m n f h e = all_below_fails (suc m) n f h (rw e)
+all_below-marked zero ms h = refl
+all_below-marked (suc n) ms h =
+    ap (λ k. list_all (λ m. eqb m 1) (take k ms)) (sym (add-one n))
+    ∙ list_all_more (λ m. eqb m 1) ms n 0 h
+    ∙ and_comm (list_all (λ m. eqb m 1) (take n ms)) (marked ms n)
+    ∙ ap (λ (t : Bool). marked ms n && t) (all_below-marked n ms (omega arith))
 
 -- ---- every number below n is in the list
 all_there-is : (n : ℕ) (xs : List ℕ) → all_there n xs ≡ all_below n (λ v. member v xs)

@@ -1,7 +1,7 @@
 // Whether an order of tiles names each of a board's tiles once.
 #![tactic(auto)]
 
-ghost use Rattle.std.specs.Prelude.{◌≡◌, [], ◌≤◌, min, length};
+ghost use Rattle.std.specs.Prelude.{◌≡◌, [], ◌≤◌, length};
 ghost use Rattle.eikonal.specs.Board.{board_of};
 ghost use Rattle.eikonal.specs.Tiles.{up};
 ghost use Rattle.eikonal.specs.Refusals.{all_there, order_good};
@@ -31,14 +31,7 @@ fn all_marked(seen: &[u8; 8192], many: usize) -> bool
     requires { many ≤ 8192 }
     ensures { result ≡ all_below many (λ j. marked seen.now j) }
 {
-    let mut j = 0;
-    while j < many {
-        if seen[j] != 1 {
-            return false;
-        }
-        j += 1;
-    }
-    true
+    seen[..many].iter().all(|mark| *mark == 1)
 }
 
 // Whether the order has so many tile numbers, from the given one on.
@@ -47,32 +40,22 @@ fn part_there(order: &[u32], from: usize, many: usize) -> bool
     ensures { result ≡ part_there from many order.now }
 {
     let mut seen = [0u8; 8192];
-    let mut i = 0;
-    while i < order.len() {
-        note(&mut seen, from, order[i]);
-        i += 1;
+    for tile in order {
+        note(&mut seen, from, *tile);
     }
     all_marked(&seen, many)
-}
-
-// How many numbers are looked for next, when so many are left.
-fn next_part(left: usize) -> usize
-    ensures { result ≡ min left 8192 }
-{
-    if left < PART { left } else { PART }
 }
 
 // Whether the order has every number below `count`. The marks take 8 KiB, so more than 8,192 numbers take more than one look at the order.
 fn all_there(order: &[u32], count: usize) -> bool
     ensures { result ≡ all_there count order.now }
 {
-    let mut from = 0;
-    while from < count {
-        let many = next_part(count - from);
+    for part in 0..count.div_ceil(PART) {
+        let from = part * PART;
+        let many = (count - from).min(PART);
         if !part_there(order, from, many) {
             return false;
         }
-        from += many;
     }
     true
 }

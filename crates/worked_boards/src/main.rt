@@ -2,6 +2,7 @@
 // and whether it is what the pages say.
 #![tactic(auto)]
 
+mod board;
 mod houses;
 mod marches;
 mod pairs;
@@ -9,6 +10,7 @@ mod rounds;
 mod tell;
 
 use std::io;
+use std::io::Write;
 
 // 3 by 3, 10 ticks, ground (10, 10), no runs, start cell 0 at 0.
 fn rings(rt: &impl Print) -> io::Result<()> {
@@ -16,9 +18,10 @@ fn rings(rt: &impl Print) -> io::Result<()> {
         b"\x03\x00\x03\x00\x01\x00\x0a\x00\x0a\x00\x0a\x00\x00\x00\x00\x00\x01\x00\x00\x00\x00\x00\x00\x00\x00\x00\x00\x00";
     let mut text = [0u8; 11300];
     let n = rings_lines::rings_lines(file, &mut text);
-    tell::bytes(rt, b"rings:\n")?;
-    tell::bytes(rt, &text[..n])?;
-    tell::judge(rt, text[..n] == b"3 3 10\n0 1 2\n1 2 3\n2 3 4\n"[..])
+    println!(rt; "rings:")?;
+    io::writer(rt).write_all(&text[..n])?;
+    let verdict = tell::verdict(text[..n] == b"3 3 10\n0 1 2\n1 2 3\n2 3 4\n"[..]);
+    println!(rt; "{verdict}")
 }
 
 fn main(rt: HostRuntime) -> io::Result<()> {

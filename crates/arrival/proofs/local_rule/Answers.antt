@@ -1,28 +1,29 @@
 -- The time, and its sides, which never has not.
-use Rattle.std.proofs.Common.{arith, ◌≡◌, sym, ap, ◌∙◌}
+use Rattle.std.proofs.Common.{arith, sym, ap, ◌∙◌}
 use mathlib.Core.Path.{ap₂}
 use Rattle.eikonal.specs.Board.{local}
 use Rattle.eikonal.specs.Sides.{local_sides}
 use Rattle.eikonal.specs.Entry.{seen, local_answer, local_refusal, LocalSays}
-use Rattle.eikonal.specs.declared.Refusal.{Refusal}
+use Rattle.eikonal.specs.Order.{Refusal}
 use Rattle.eikonal.proofs.Answers.{local-answered-zero, local-answered-refused}
+use Rattle.eikonal.proofs.Causes.{number_is}
+use Rattle.eikonal.proofs.Outcomes.{numbered}
 use Rattle.arrival.proofs.Sides.{sides-shown}
 use Rattle.arrival.proofs.local_rule.Goals as goal
 
-pub returns-then-refusal-ne0 : goal.returns-then-refusal-ne0
+pub returns-in-Err : goal.returns-in-Err
 unfolding LocalSays local_answer
-returns-then-refusal-ne0 c =
-    let e = c.local_refusal-refusal.ensures in
-    ap (λ (k : Refusal). local_answer k.number 0 0) e
-    ∙ sym (local-answered-refused _ _ _ (λ z. c.if-refusal-ne0.true (ap (λ (k : Refusal). k.number) e ∙ z)))
+returns-in-Err c =
+    let e = c.in-Err.ensures in
+    rw c.number.ensures
+    (ap (λ (k : Refusal). local_answer k.number 0 0) e
+    ∙ sym (local-answered-refused _ _ _ (λ z. numbered c.in-Err.refusal.cause (number_is e ∙ z))))
 
 pub returns : goal.returns
 unfolding LocalSays local_answer local_sides
 returns c =
     let a = c.args in
-    let unrefused : (local_refusal a.g a.h a.over a.under).number ≡ 0 =
-    sym (ap (λ (k : Refusal). k.number) c.local_refusal-refusal.ensures) ∙ c.if-refusal-ne0.false
-    in
+    let unrefused = sym (number_is c.in_default.ensures) in
     let shown = rw (
       c.shown.ensures,
       c.known-6.ensures,

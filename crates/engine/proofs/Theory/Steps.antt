@@ -1,36 +1,37 @@
 -- From the steps of a call to the ledger: what one step leaves meets what the next one asks, and in the end the call has kept its contract.
 use mathlib.Core.Path.{◌≡◌, refl, sym, ap, subst, ◌∙◌}
-use mathlib.Core.Bool.{true}
 use mathlib.Core.Logic.{◌≢◌}
 use mathlib.Core.List.{List, ◌++◌}
-use native.Mathlib.Decide.{ℕ_discrete}
 use native.Mathlib.Omega.{arith}
-use Prim.Native.Nat.{ℕ, ◌*◌, ◌≤◌}
-use lib.ListN.{length, replicate}
+use Prim.Native.Nat.{ℕ, ◌*◌, ◌≤◌, ◌<◌}
+use lib.ListN.{length, get_or, replicate}
+use Rattle.std.specs.Prelude.{Result, Ok, Err, IsErrAnd}
 use borrow.Author.Tests.{eq-eqb, ne_eqb}
 use Rattle.eikonal.specs.Board.{Board, largest, size}
 use Rattle.eikonal.specs.Tiles.{tile_count}
-use Rattle.eikonal.specs.Order.{none, first_of}
-use Rattle.eikonal.specs.Refusals.{Handed, board_causes, order_good, job_causes}
+use Rattle.eikonal.specs.Order.{none}
+use Rattle.eikonal.specs.Handing.{no_start}
+use Rattle.eikonal.specs.Refusals.{order_good, job_causes}
 use Rattle.eikonal.specs.Ledger.{Sheet, sheet, Call, call_board, own_refusal, entered, answer, own_answer, own_times, own_sides, own_work}
 use Rattle.eikonal.specs.Entry.{lent, Counts}
-use Rattle.eikonal.specs.declared.Refusal.{Refusal}
-use Rattle.eikonal.specs.declared.Own.{Own}
-use Rattle.eikonal.specs.declared.Reply.{Reply}
+use Rattle.eikonal.specs.Order.{Refusal, Own}
+use Rattle.eikonal.specs.Told.{refusal_of, reply_of}
+use Rattle.eikonal.specs.declared.refused.Refusal as found
 use Rattle.eikonal.specs.declared.Job.{Job}
 use Rattle.eikonal.specs.declared.Job.TheVariants.{March, Round, Run}
 use Rattle.eikonal.specs.declared.Start.{Start}
-use Rattle.eikonal.proofs.Causes.{NoneMet, none-met, number_is}
-use Rattle.eikonal.proofs.Good.{size-most, passes}
+use Rattle.eikonal.proofs.Causes.{NoneMet, number_is}
+use Rattle.eikonal.proofs.Outcomes.{numbered}
+use Rattle.eikonal.proofs.Good.{size-most}
 use Rattle.eikonal.proofs.Accepted.{Fits, fits, march_can, round-can, run-can}
 use Rattle.eikonal.proofs.Answers.{answered-zero, answered-refused}
-use Rattle.front.specs.State.{Begun}
+use Rattle.front.specs.State.{Placed, Seeded, Empty, Begun}
 use Rattle.front.specs.declared.Shape.{Shape}
 use Rattle.front.proofs.Theory.Beginning.{begun}
+use Rattle.front.proofs.Theory.Seeding.{starts-on}
 use Rattle.sides.specs.Clear.{Cleared}
 use Rattle.engine.specs.Run.{whole}
-use Rattle.engine.specs.Calls.{Fit, bound_of, Through, Doable, shaped, Opened, Sowable, Sown, Endable, Ended, Clearable, Clear}
-use Rattle.engine.specs.declared.calls.Task.{Task}
+use Rattle.engine.specs.Calls.{Fit, SomeStanding, bound_of, Through, Goes, Doable, shaped}
 use Rattle.engine.proofs.Theory.Clearing.{cleared-sides}
 use Rattle.engine.proofs.Theory.Calls.{drop-same}
 
@@ -67,24 +68,6 @@ in_shape b (March z) s is = rw is (record { wide = refl; high = refl; storeys = 
 in_shape b (Round tw th m) s is = rw is (record { wide = refl; high = refl; storeys = refl; whole = refl; cells = refl })
 in_shape b (Run tw th d z) s is = rw is (record { wide = refl; high = refl; storeys = refl; whole = refl; cells = refl })
 
--- ---- what a call that is not refused gives its beginning: sides that fit, and room
-pub sides_fit : (p : Handed) (u v r : Refusal) → r ≡ first_of (board_causes p p.board.slow u v) → r.number ≡ 0
-    → (p.board.wide ≤ 256) × (p.board.high ≤ 256) × (p.board.wide * p.board.high * p.board.storeys ≤ 65536)
-unfolding size
-sides_fit p u v r e z = let g = (passes p u v (none-met _ (sym (number_is e) ∙ z))).good in (g.wide_high, g.high_high, g.few)
-
-module _ (c : Call) (o : Own) (t : ℕ) (r : Refusal) (e : r ≡ own_refusal c o t) (z : r.number ≡ 0) where
-  fine : Fits c t
-  fine = fits c o t (sym (number_is e) ∙ z)
-
-  pub board-sides : ((call_board c).wide ≤ 256) × ((call_board c).high ≤ 256) × ((call_board c).wide * (call_board c).high * (call_board c).storeys ≤ 65536)
-  unfolding size
-  board-sides = let g = fine.given.good in (g.wide_high, g.high_high, g.few)
-
-  pub board-room : (s : Shape) → s ≡ shaped (call_board c).wide (call_board c).high (call_board c).storeys c.job
-      → (s.cells ≤ 65536) × (4 * s.cells ≤ c.work)
-  board-room s is = rw (in_shape (call_board c) c.job s is).cells (fine.given.good.few, fine.work_fits)
-
 -- what is kept of the work list is kept from before the starts were placed
 through_from : {b : Board} {j : Job} {ts : List ℕ} {n r : ℕ} {xs : List Start} {p : Sheet} {v v' w : List ℕ} → Begun n xs v v' → Through b j ts n r p v' w
     → Through b j ts n r p v w
@@ -97,103 +80,106 @@ through_from {n = n} {v = v} {v' = v'} be th = record {
   wipes = th.wipes ∙ ap (λ (x : List ℕ). replicate (4 * n) 0 ++ x) (drop-same (4 * n) v' v be.long (λ j l. be.rest j (omega arith)));
 }
 
--- ---- the call c, with the task that its beginning leaves
-module _ (c : Call) (o : Own) (t : Task) (ts ss v v0 : List ℕ) (broad : c.sides ≡ length ss) (same : c.work ≡ length v)
-    (op : Opened c o (length ts) t v v0) where
-  abbrev refused : Refusal
-  refused = own_refusal c o (length ts)
+-- ---- A CALL THAT IS NOT REFUSED: what one step leaves meets what the next one asks
+module _ (c : Call) (o : Own) (ts ss v : List ℕ) (broad : c.sides ≡ length ss) (same : c.work ≡ length v) (e : none ≡ own_refusal c o (length ts)) where
+  abbrev b : Board
+  b = call_board c
 
-  not-refused : t.refusal.number ≡ 0 → refused.number ≡ 0
-  not-refused z = sym (number_is op.judged) ∙ z
+  abbrev accepted : (own_refusal c o (length ts)).number ≡ 0
+  accepted = sym (number_is e)
 
-  fit : t.refusal.number ≡ 0 → Fits c (length ts)
-  fit z = fits c o (length ts) (not-refused z)
+  fit : Fits c (length ts)
+  fit = fits c o (length ts) accepted
 
-  cells_are : t.refusal.number ≡ 0 → t.shape.cells ≡ size (call_board c)
-  cells_are z = (in_shape (call_board c) c.job t.shape (op.shape_is z)).cells
+  -- its board has a shape
+  pub shapely : (b.wide ≤ 256) × (b.high ≤ 256) × (b.wide * b.high * b.storeys ≤ 65536)
+  unfolding size
+  shapely = let g = fit.given.good in (g.wide_high, g.high_high, g.few)
 
-  -- plain lists of its starts are of one length
-  pub even : t.refusal.number ≡ 0 → c.handed.paired ≡ true
-  even z = (fit z).given.paired
+  module _ (s : Shape) (is : s ≡ shaped b.wide b.high b.storeys c.job) where
+    cells_are : s.cells ≡ size b
+    cells_are = (in_shape b c.job s is).cells
 
-  -- its starts can be placed
-  pub sowable : Sowable t (call_board c).starts v0
-  sowable z = (rw (cells_are z) (size-most (fit z).given.good), (op.emptied z).placed, rw (cells_are z) (fit z).given.starts.rise)
+    -- the work list has room for it
+    pub roomy : (s.cells ≤ 65536) × (4 * s.cells ≤ length v)
+    roomy = rw cells_are (fit.given.good.few, omega (arith, fit.work_fits, same))
 
-  module _ (v1 : List ℕ) (so : Sown t (call_board c).starts v0 v1) where
-    stands : t.refusal.number ≡ 0 → Begun t.shape.cells (call_board c).starts v v1
-    stands z = begun t.shape.cells (call_board c).starts v v0 v1 (sowable z).2 (fit z).given.starts.early (op.emptied z) (so.sown z)
+    module _ (v0 : List ℕ) (em : Empty s.cells v v0) where
+      -- its starts can be placed
+      pub sowable : (s.cells ≤ 65536) × Placed s.cells v0 × ((i : ℕ) → i < length b.starts → (get_or b.starts i no_start).cell < s.cells)
+      sowable = (roomy.0, em.placed, starts-on s.cells 0 b.starts (rw cells_are fit.given.starts.rise))
 
-    fitting : (z : t.refusal.number ≡ 0) → Fit t.shape (call_board c).slow (call_board c).starts ts ss v1
-    unfolding size
-    fitting z =
-        let b = call_board c in
-        let i = in_shape b c.job t.shape (op.shape_is z) in
-        let g = (fit z).given.good in
-        let d = tiles-sided b c.order g.wide_high g.high_high c.job (fit z).can t.shape (op.shape_is z) in
-        record {
-          good = rw (i.wide, i.high, i.storeys) g;
-          size = i.whole;
-          across_low = d.0;
-          across_high = d.1;
-          down_low = d.2;
-          down_high = d.3;
-          many = (fit z).times_fit ∙ sym i.cells;
-          sided = sym broad ∙ (fit z).sides_fit ∙ sym i.cells;
-          room = omega (arith, (fit z).work_fits, i.cells, (stands z).long, same);
-        }
+      module _ (v1 : List ℕ) (se : Seeded s.cells b.starts v0 v1) where
+        stands : Begun s.cells b.starts v v1
+        stands = begun s.cells b.starts v v0 v1 (rw cells_are fit.given.starts.rise) fit.given.starts.early em se
 
-    -- the job can be done
-    pub endable : Endable t c.job (call_board c).slow c.order ts ss v1
-    endable z =
-        let g = (fit z).given.good in (
-          record { starts = (call_board c).starts; fit = fitting z; stands = (stands z).stands },
-          subst (λ (s : Shape). Doable c.job s c.order) (sym (op.shape_is z))
-              (doable (call_board c) c.order g.wide_high g.high_high c.job (fit z).can),
-        )
-
-    module _ (x : Reply) (us qs u : List ℕ) (en : Ended t c.job (call_board c).slow x (sheet ts ss) (sheet us qs) v1 u) where
-      -- once it is
-      through : (z : t.refusal.number ≡ 0) → Through (call_board c) c.job ts (size (call_board c)) x.count (sheet us qs) v u
-      through z =
-          let b = call_board c in
-          let i = in_shape b c.job t.shape (op.shape_is z) in
-          let is : whole t.shape b.slow b.starts ≡ b = rw (i.wide, i.high, i.storeys) refl in
-          rw (is, i.cells) at (through_from (stands z) ((en.gone_through z).1 b.starts (fitting z) (stands z).stands))
-
-      -- the starts' sides can be cleared
-      pub clearable : Clearable t (call_board c).starts us qs
-      clearable z =
-          let th = through z in
-          let g = (fit z).given in
-          (th.sided ∙ sym th.timed, rw th.timed (size-most g.good), rw th.timed g.starts.rise)
-
-      -- and when they are, the call has kept its contract
-      pub says : (ps : List ℕ) → Clear t (call_board c).starts us qs ps → Counts c o x (lent ts ss v) (lent us ps u)
-      unfolding own_answer own_times own_sides own_work
-      says ps cl = elim (ℕ_discrete t.refusal.number 0) [
-        | yes z ↦
-            let k = not-refused z in
-            let th = through z in
+        fitting : Fit s b.slow b.starts ts ss v1
+        unfolding size
+        fitting =
+            let i = in_shape b c.job s is in
+            let g = fit.given.good in
+            let d = tiles-sided b c.order g.wide_high g.high_high c.job fit.can s is in
             record {
-              answers = (en.gone_through z).0 ∙ ap (answer none) th.counts ∙ sym (answered-zero refused _ k);
-              leaves = entered_now z ps (cl.cleared z) ∙ rw (eq-eqb refused.number 0 k) refl;
-              works = th.wipes ∙ rw (eq-eqb refused.number 0 k);
+              good = rw (i.wide, i.high, i.storeys) g;
+              size = i.whole;
+              across_low = d.0;
+              across_high = d.1;
+              down_low = d.2;
+              down_high = d.3;
+              many = fit.times_fit ∙ sym i.cells;
+              sided = sym broad ∙ fit.sides_fit ∙ sym i.cells;
+              room = omega (arith, fit.work_fits, i.cells, stands.long, same);
             }
-        | no d ↦
-            let k : refused.number ≢ 0 = λ e. d (number_is op.judged ∙ e) in
-            let r = en.turned_down d in
-            record {
-              answers = r.0 ∙ ap (λ (q : Refusal). answer q 0) op.judged ∙ sym (answered-refused refused _ k);
-              leaves = ap (sheet us) (cl.kept d) ∙ r.1 ∙ rw (ne_eqb refused.number 0 k);
-              works = r.2 ∙ so.kept d ∙ op.kept d ∙ rw (ne_eqb refused.number 0 k);
-            }
-      ]
-        where
-          entered_now : t.refusal.number ≡ 0 → (ps : List ℕ) → Cleared (call_board c).starts us qs ps → sheet us ps ≡ entered (call_board c) c.job ts
-          entered_now z ps cl =
-              let th = through z in
-              let g = (fit z).given in
-              let low = bound_low (call_board c) c.order g.good.wide_high g.good.high_high c.job (fit z).can in
+
+        -- the job can be done
+        pub ready : SomeStanding s b.slow ts ss v1 × Doable c.job s c.order
+        ready =
+            let g = fit.given.good in (
+              record { starts = b.starts; fit = fitting; stands = stands.stands },
+              subst (λ (q : Shape). Doable c.job q c.order) (sym is) (doable b c.order g.wide_high g.high_high c.job fit.can),
+            )
+
+        module _ (r : ℕ) (us qs u : List ℕ) (go : Goes c.job s b.slow r ts ss (sheet us qs) v1 u) where
+          -- once it is
+          through : Through b c.job ts (size b) r (sheet us qs) v u
+          through =
+              let i = in_shape b c.job s is in
+              let whole_is : whole s b.slow b.starts ≡ b = rw (i.wide, i.high, i.storeys) refl in
+              rw (whole_is, i.cells) at (through_from stands (go b.starts fitting stands.stands))
+
+          -- the starts' sides can be cleared
+          pub clearable : (length qs ≡ length us) × (length us ≤ 65536)
+              × ((i : ℕ) → i < length b.starts → (get_or b.starts i no_start).cell < length us)
+          clearable =
+              let th = through in
+              let g = fit.given in
+              (th.sided ∙ sym th.timed, rw th.timed (size-most g.good), starts-on (length us) 0 b.starts (rw th.timed g.starts.rise))
+
+          -- and when they are, the call has kept its contract
+          pub says : (ps : List ℕ) → Cleared b.starts us qs ps → Counts c o (answer none r) (lent ts ss v) (lent us ps u)
+          unfolding own_answer own_times own_sides own_work
+          says ps cl =
+              let th = through in
+              let g = fit.given in
+              let low = bound_low b c.order g.good.wide_high g.good.high_high c.job fit.can in
               let now = cleared-sides g.good ts c.job low g.starts.rise th.enters th.timed th.sided th.sides cl in
-              λ i. sheet (th.enters i) (now i)
+              let sheets : sheet us ps ≡ entered b c.job ts = λ i. sheet (th.enters i) (now i) in
+              record {
+                answers = ap (answer none) th.counts ∙ sym (answered-zero (own_refusal c o (length ts)) _ accepted);
+                leaves = sheets ∙ rw (eq-eqb (own_refusal c o (length ts)).number 0 accepted) refl;
+                works = th.wipes ∙ rw (eq-eqb (own_refusal c o (length ts)).number 0 accepted);
+              }
+
+-- ---- A REFUSED CALL leaves all as it was
+pub turned_down : (c : Call) (o : Own) (ts ss v : List ℕ) (r : found.Refusal) (x : Result ℕ found.Refusal)
+    → refusal_of r ≡ own_refusal c o (length ts) → IsErrAnd x (λ q. q ≡ r) → Counts c o (reply_of x) (lent ts ss v) (lent ts ss v)
+unfolding own_answer own_times own_sides own_work
+turned_down c o ts ss v r (Ok n) e h = absurd h
+turned_down c o ts ss v r (Err q) e h =
+    let k : (own_refusal c o (length ts)).number ≢ 0 = λ z. numbered r.cause (number_is e ∙ z) in
+    record {
+      answers = ap (λ (w : found.Refusal). answer (refusal_of w) 0) h ∙ ap (λ (w : Refusal). answer w 0) e
+          ∙ sym (answered-refused (own_refusal c o (length ts)) _ k);
+      leaves = rw (ne_eqb (own_refusal c o (length ts)).number 0 k) refl;
+      works = rw (ne_eqb (own_refusal c o (length ts)).number 0 k) refl;
+    }

@@ -1,19 +1,19 @@
 -- What code reads of a cell's neighbours is what the rule sees of them.
-use Rattle.std.proofs.Common.{◌≡◌, ℕ, zero, suc, ◌+◌, ◌-◌, ◌*◌, ◌/◌, ◌%◌, ◌<◌, ◌≤◌, min, Bool, true, false, eqb, ltb, ◌≢◌, ◌⊎◌, List, [], ◌∷◌, length}
-use Rattle.std.proofs.Common.{get_or, sym, refl, ap, ◌∙◌, ap₂, inl, inr, mul-le-mul_right, mod-lt, mod-eq_of_lt, mul_comm, mul-le-mul}
-use Rattle.std.proofs.Common.{mul-le-mul_left, div-add-mod', div-one, add-one, arith, ltb-false, ltb-true, le-ltb, lt-ltb, eq-eqb, ne_eqb, eqb-true}
+use Rattle.std.proofs.Common.{◌≡◌, ℕ, zero, suc, ◌+◌, ◌-◌, ◌*◌, ◌/◌, ◌%◌, ◌<◌, ◌≤◌, min, Bool, true, eqb, ◌≢◌, ◌⊎◌, List, [], ◌∷◌, length}
+use Rattle.std.proofs.Common.{get_or, sym, refl, ap, ◌∙◌, inl, inr, mul-le-mul_right, mod-lt, mod-eq_of_lt, mul_comm, mul-le-mul}
+use Rattle.std.proofs.Common.{mul-le-mul_left, div-add-mod', div-one, add-one, arith, le-ltb, lt-ltb, eq-eqb, ne_eqb, eqb-true}
 use native.Mathlib.Decide.{ℕ_discrete}
 use native.Mathlib.Nat.{mul-mod_right, mod-mod, div-eq_of_lt-le, mod_self, mod-one, zero-mod}
 use Rattle.eikonal.specs.Axes.{place, sight}
-use Rattle.eikonal.specs.Board.{Board, never, largest, size, column_axis, row_axis, storey_axis, slowness, along_row, down_column, time, local_of, arrival}
+use Rattle.eikonal.specs.Board.{Board, never, size, column_axis, row_axis, storey_axis, slowness, along_row, down_column, time, local_of, arrival}
 use Rattle.eikonal.specs.Tiles.{counts_as}
 use Rattle.eikonal.proofs.Levels.{order}
 use Rattle.eikonal.proofs.Local.{earlier-min}
 use Rattle.eikonal.proofs.Grid.{quotient_low, place-low, unit-most, on-cell}
 use Rattle.eikonal.proofs.Rule.{storeys-span}
 use Rattle.front.specs.Front.{ghosted}
-use Rattle.front.specs.Seams.{Cut, cut, seam, seam_back, seam_on, edge, inside, across, mark_under, mark_over}
-use Rattle.front.specs.Board.{land, rule_at, both_seen, Marked, Ground, Measures, Site, Step, Sees}
+use Rattle.front.specs.Seams.{Cut, cut, seam, seam_back, seam_on, edge, across, mark_under, mark_over}
+use Rattle.front.specs.Board.{land, rule_at, both_seen, Marked, Ground, Site, Step, Sees}
 use Rattle.front.specs.declared.Shape.{Shape}
 use Rattle.front.proofs.Theory.Seams.{seam-edge, seam-inside, seam-round, seam-next, Straight, columns_straight, rows_straight, storeys_straight, sees}
 
@@ -26,20 +26,6 @@ get_d_any (x ∷ xs) (suc i) d e h = get_d_any xs i d e (omega arith)
 pub time-at : (ts : List ℕ) (e : ℕ) → e < length ts → time ts e ≡ get_or ts e 0
 unfolding time
 time-at ts e h = get_d_any ts e never 0 h
-
--- ---- a stored time as a ghost
-module _ (b : Board) (ts : List ℕ) (e : ℕ) where
-  pub ghost_wall : slowness b e ≡ 0 → counts_as b ts e ≡ never
-  unfolding counts_as
-  ghost_wall w = rw (eq-eqb (slowness b e) 0 w)
-
-  pub ghost-late : slowness b e ≢ 0 → largest < time ts e → counts_as b ts e ≡ never
-  unfolding counts_as
-  ghost-late w l = rw (ne_eqb (slowness b e) 0 w, lt-ltb largest (time ts e) l)
-
-  pub ghost-kept : slowness b e ≢ 0 → time ts e ≤ largest → counts_as b ts e ≡ time ts e
-  unfolding counts_as
-  ghost-kept w l = rw (ne_eqb (slowness b e) 0 w, le-ltb largest (time ts e) l)
 
 -- ---- what is seen across a seam
 module _ (s f g : ℕ) where
@@ -81,12 +67,6 @@ module _ (x : Cut) (c : ℕ) {many i : ℕ} {js : List ℕ} (la : Marked x.axis.
       ∙ ap (λ (u : ℕ). seam x.axis.count x.side (suc u)) (sym at)
 
 -- ---- a cell's site, and those of its neighbours
-pub site : {n w c row : ℕ} → 1 ≤ w → c < n → row ≡ c / w → Site n w c row (c - row * w)
-site {n} {w} {c} {row} l on q =
-    let whole = div-add-mod' c w in
-    let same : row * w ≡ c / w * w = ap (λ (u : ℕ). u * w) q in
-    record { on = on; cell = omega (arith, whole, same); column = omega (arith, whole, same, mod-lt c l) }
-
 module _ {n w c row col : ℕ} (si : Site n w c row col) where
   pub row_is : c / w ≡ row
   row_is = div-eq_of_lt-le w (omega (arith, si.cell)) (omega (arith, si.cell, si.column))
@@ -115,18 +95,6 @@ module _ {n w c row col step down right : ℕ} {before behind : Bool} (st : Step
   pub behind-site : behind ≡ true → Site n w (c + step) (row + down) (col + right)
   behind-site b = record { on = (st.on b).0; cell = omega (arith, st.site.cell, st.span); column = (st.on b).1 }
 
-  pub step_small : n ≤ 65536 → (c + step ≤ 131072) × (row + down ≤ 131072) × (col + right ≤ 131072)
-  step_small l =
-      let si = st.site in
-      let wide : 1 ≤ w = omega (arith, si.column) in
-      let rows : row ≤ row * w = omega (arith, mul-le-mul_left row wide) in
-      let less : down ≤ down * w = omega (arith, mul-le-mul_left down wide) in
-      (omega (arith, si.on, st.short), omega (arith, si.on, si.cell, st.span, st.short), omega (arith, si.on, si.cell, st.span, st.short))
-
--- a shape's own numbers are its measures
-pub measured : {s : Shape} → Measures s s.cells s.width
-measured = record { cells = refl; width = refl }
-
 module _ {s : Shape} {slow ts cols rows : List ℕ} (gr : Ground s slow ts cols rows) where
   pub cells-size : s.cells ≡ size (land s slow)
   unfolding size
@@ -148,246 +116,221 @@ module _ {s : Shape} {slow ts cols rows : List ℕ} (gr : Ground s slow ts cols 
       turned : s.height * s.storeys * s.width ≡ s.width * s.height * s.storeys
       turned = omega arith
 
-  -- what stands behind the rows' seams: a house has two storeys or more, and a storey has so many cells
-  pub house : ltb 1 (get_or rows 2050 0) ≡ true → 2 ≤ s.storeys
-  house e = omega (arith, ltb-true 1 (get_or rows 2050 0) e, gr.lines.over)
+  whole : s.cells ≡ s.height * s.storeys * s.width
+  whole = sym rows_whole
 
-  pub flat : ltb 1 (get_or rows 2050 0) ≡ false → s.storeys ≡ 1
-  flat e = omega (arith, ltb-false 1 (get_or rows 2050 0) e, gr.lines.over, gr.good.storeys_low)
+  pub storey_most : s.width * s.height ≤ s.cells
+  storey_most = omega (arith, gr.cells, mul-le-mul_left (s.width * s.height) gr.good.storeys_low)
 
-  module _ {n w : ℕ} (me : Measures s n w) where
-    pub width_low : 1 ≤ w
-    width_low = omega (arith, me.width, gr.good.wide_low)
+  module _ {c row col : ℕ} (si : Site s.cells s.width c row col) where
+    on : c < size (land s slow)
+    on = omega (arith, cells-size, si.on)
 
-    pub width-high : w ≤ 256
-    width-high = omega (arith, me.width, gr.good.wide_high)
+    pub line : row < s.height * s.storeys
+    line = omega (arith, row_is si, quotient_low c s.width (s.height * s.storeys) (omega (arith, si.on, whole)))
 
-    whole : n ≡ s.height * s.storeys * w
-    whole = me.cells ∙ sym rows_whole ∙ ap (λ (u : ℕ). s.height * s.storeys * u) (sym me.width)
+    pub column : col < s.width * 1
+    column = omega (arith, si.column)
 
-    pub storey_is : {h : ℕ} → h ≡ get_or rows 2049 0 + 1 → w * h ≡ s.width * s.height
-    storey_is e = ap₂ ◌*◌ me.width (e ∙ gr.lines.last)
+    -- ---- the neighbours are on the board where the seams are not the edge
+    pub left-some : get_or cols col 0 ≢ edge → 1 ≤ c
+    left-some q = omega (arith, si.cell, place-behind gr.columns column q)
 
-    pub storey_most : s.width * s.height ≤ n
-    storey_most = omega (arith, me.cells, gr.cells, mul-le-mul_left (s.width * s.height) gr.good.storeys_low)
+    pub right-some : get_or cols (col + 1) 0 ≢ edge → c + 1 < s.cells
+    right-some q = omega (arith, si.cell, place_ahead gr.columns column q, whole, mul-le-mul_right s.width line)
 
-    module _ {c row col : ℕ} (si : Site n w c row col) where
-      on : c < size (land s slow)
-      on = omega (arith, me.cells, cells-size, si.on)
+    pub above-some : get_or rows row 0 ≢ edge → s.width ≤ c
+    above-some q = omega (arith, si.cell, mul-le-mul_right s.width (place-behind gr.lines line q))
 
-      pub line : row < s.height * s.storeys
-      line = omega (arith, row_is si, quotient_low c w (s.height * s.storeys) (omega (arith, si.on, whole)))
+    pub below-some : get_or rows (row + 1) 0 ≢ edge → c + s.width < s.cells
+    below-some q = omega (arith, si.cell, si.column, whole, mul-le-mul_right s.width (place_ahead gr.lines line q))
 
-      pub column : col < s.width * 1
-      column = omega (arith, me.width, si.column)
-
-      -- ---- the neighbours are on the board where the seams are not the edge
-      pub left-some : get_or cols col 0 ≢ edge → 1 ≤ c
-      left-some q = omega (arith, si.cell, place-behind gr.columns column q)
-
-      pub right-some : get_or cols (col + 1) 0 ≢ edge → c + 1 < n
-      right-some q = omega (arith, si.cell, me.width, place_ahead gr.columns column q, whole, mul-le-mul_right w line)
-
-      pub above-some : get_or rows row 0 ≢ edge → w ≤ c
-      above-some q = omega (arith, si.cell, mul-le-mul_right w (place-behind gr.lines line q))
-
-      pub below-some : get_or rows (row + 1) 0 ≢ edge → c + w < n
-      below-some q = omega (arith, si.cell, si.column, whole, mul-le-mul_right w (place_ahead gr.lines line q))
-
-      module _ {work : List ℕ} (room : 4 * n ≤ length work) (u : ℕ) {mark : ℕ} where
-        fits : (less more : ℕ) → (mark ≢ edge → (more ≤ n) × (less ≤ c + more) × (c + more - less < n)) → Sees n slow ts work c less more mark
-        fits less more h = record {
-          slows = omega (arith, slow-long, me.cells);
-          times = omega (arith, gr.many, me.cells);
-          room = room;
-          cell = si.on;
-          far = λ q. (h q).0;
-          low = λ q. (h q).1;
-          high = λ q. (h q).2;
-        }
-
-        pub fits-back : (mark ≢ edge → u ≤ c) → Sees n slow ts work c u 0 mark
-        fits-back h = fits u 0 (λ q. (omega arith, omega (arith, h q), omega (arith, si.on)))
-
-        pub fits_on : (mark ≢ edge → c + u < n) → Sees n slow ts work c 0 u mark
-        fits_on h = fits 0 u (λ q. (omega (arith, h q), omega arith, omega (arith, h q)))
-
-      -- it lies within the seams as laid
-      pub within : (col < 256) × (row < 2048)
-      within = (omega (arith, column, gr.good.wide_high), omega (arith, line, lines-most))
-
-      -- so its neighbours on its storey can be seen
-      module _ {work : List ℕ} (room : 4 * n ≤ length work) where
-        pub sees-columns : Sees n slow ts work c 1 0 (get_or cols col 0) × Sees n slow ts work c 0 1 (get_or cols (col + 1) 0)
-        sees-columns = (fits-back room 1 left-some, fits_on room 1 right-some)
-
-        pub sees-rows : Sees n slow ts work c w 0 (get_or rows row 0) × Sees n slow ts work c 0 w (get_or rows (row + 1) 0)
-        sees-rows = (fits-back room w above-some, fits_on room w below-some)
-
-      -- ---- the places of the cell: its column, its row in the storey, its storey
-      abbrev board : Board
-      board = land s slow
-
-      pub column-at : place (column_axis board) c ≡ col % s.width
-      unfolding place
-      column-at = ap (λ (u : ℕ). u % s.width) (div-one c) ∙ ap (λ (k : ℕ). c % k) (sym me.width) ∙ col_is si
-          ∙ sym (mod-eq_of_lt (omega (arith, column)))
-
-      pub line_at : place (row_axis board) c ≡ row % s.height
-      unfolding place
-      line_at = ap (λ (k : ℕ). c / k % s.height) (sym me.width) ∙ ap (λ (u : ℕ). u % s.height) (row_is si)
-
-      abbrev stack : Cut
-      stack = cut (storey_axis board) s.storeys
-
-      stack-whole : n ≡ s.storeys * (s.width * s.height)
-      stack-whole = me.cells ∙ gr.cells ∙ mul_comm (s.width * s.height) s.storeys
-
-      module _ {area : ℕ} (storey : area ≡ s.width * s.height) where
-        -- a cell has one under it just if it is past the first storey, and one over it just if it is before the last
-        lowest : c < area → place (storey_axis board) c ≡ 0
-        lowest l = elim (ℕ_discrete (place (storey_axis board) c) 0) [
-          | yes q ↦ q
-          | no q ↦ absurd (omega (arith, storey, unit-most (storeys-span gr.good) c q))
-        ]
-
-        not_lowest : area ≤ c → place (storey_axis board) c ≢ 0
-        unfolding place
-        not_lowest l z =
-            let k = s.width * s.height in
-            let low : c / k < s.storeys = quotient_low c k s.storeys (omega (arith, si.on, stack-whole)) in
-            let none : c / k ≡ 0 = sym (mod-eq_of_lt low) ∙ z in
-            omega (arith, storey, div-add-mod' c k, mod-lt c (mul-le-mul gr.good.wide_low gr.good.high_low), ap (λ (u : ℕ). u * k) none)
-
-        highest : n ≤ c + area → suc (place (storey_axis board) c) ≡ s.storeys
-        highest l = elim (ℕ_discrete (suc (place (storey_axis board) c)) s.storeys) [
-          | yes q ↦ q
-          | no q ↦ absurd (omega (arith, storey, me.cells, cells-size, on-cell (storeys-span gr.good) c on q))
-        ]
-
-        not_highest : c + area < n → suc (place (storey_axis board) c) ≢ s.storeys
-        unfolding place
-        not_highest l z =
-            let k = s.width * s.height in
-            let low : c / k < s.storeys = quotient_low c k s.storeys (omega (arith, si.on, stack-whole)) in
-            let last : suc (c / k) ≡ s.storeys = ap suc (sym (mod-eq_of_lt low)) ∙ z in
-            omega (arith, storey, stack-whole, div-add-mod' c k, ap (λ (u : ℕ). u * k) last)
-
-        pub under_mark : mark_under area c ≡ seam_back stack c
-        under_mark = go (order c area)
-          where
-            go : (c < area) ⊎ (area ≤ c) → mark_under area c ≡ seam_back stack c
-            go (inl l) = rw (lt-ltb c area l) (sym (seam-edge s.storeys s.storeys _ (ap (λ (u : ℕ). u % s.storeys) (lowest l) ∙ zero-mod s.storeys)))
-            go (inr l) =
-                let p = mod-eq_of_lt (place-low (storeys-span gr.good) c) in
-                rw (le-ltb c area l)
-                (sym (seam-inside s.storeys s.storeys _ (λ z. not_lowest l (sym p ∙ z))
-                (λ z. not_lowest l (sym p ∙ sym (mod-mod (place (storey_axis board) c) s.storeys) ∙ z))))
-
-        pub over_mark : mark_over n area c ≡ seam_on stack c
-        over_mark = go (order (c + area) n)
-          where
-            go : (c + area < n) ⊎ (n ≤ c + area) → mark_over n area c ≡ seam_on stack c
-            go (inl l) =
-                let i = suc (place (storey_axis board) c) in
-                let p : i % s.storeys ≡ i = mod-eq_of_lt (omega (arith, place-low (storeys-span gr.good) c, not_highest l)) in
-                rw (lt-ltb (c + area) n l)
-                (sym (seam-inside s.storeys s.storeys i (λ z. omega (arith, p)) (λ z. omega (arith, p, mod-mod i s.storeys))))
-            go (inr l) =
-                rw (le-ltb (c + area) n l)
-                (sym (seam-edge s.storeys s.storeys _ (ap (λ (u : ℕ). u % s.storeys) (highest l) ∙ mod_self s.storeys)))
-
-        pub under_some : mark_under area c ≢ edge → area ≤ c
-        under_some q = go (order c area)
-          where
-            go : (c < area) ⊎ (area ≤ c) → area ≤ c
-            go (inl l) = absurd (q (rw (lt-ltb c area l)))
-            go (inr l) = l
-
-        pub over-some : mark_over n area c ≢ edge → c + area < n
-        over-some q = go (order (c + area) n)
-          where
-            go : (c + area < n) ⊎ (n ≤ c + area) → c + area < n
-            go (inl l) = l
-            go (inr l) = absurd (q (rw (le-ltb (c + area) n l)))
-
-      -- ---- a step along each axis, where it leads across seams of a kind that is not the edge
-      module _ (k : ℕ) (ne : k ≢ edge) where
-        not-edge : (m : ℕ) → eqb m k ≡ true → m ≢ edge
-        not-edge m b z = ne (sym (eqb-true m k b) ∙ z)
-
-        pub columns-step : Step n w c row col 1 0 1 (eqb (get_or cols col 0) k) (eqb (get_or cols (col + 1) 0) k)
-        columns-step = record {
-          site = si;
-          span = omega arith;
-          short = omega arith;
-          back = λ b. (omega arith, place-behind gr.columns column (not-edge _ b));
-          on = λ b. (right-some (not-edge _ b), omega (arith, me.width, place_ahead gr.columns column (not-edge _ b)));
-        }
-
-        pub rows_step : Step n w c row col w 1 0 (eqb (get_or rows row 0) k) (eqb (get_or rows (row + 1) 0) k)
-        rows_step = record {
-          site = si;
-          span = omega arith;
-          short = omega (arith, width-high);
-          back = λ b. (place-behind gr.lines line (not-edge _ b), omega arith);
-          on = λ b. (below-some (not-edge _ b), omega (arith, si.column));
-        }
-
-      pub stack-step : {h area : ℕ} → area ≡ w * h → area ≡ s.width * s.height
-          → Step n w c row col area h 0 (eqb (mark_under area c) inside) (eqb (mark_over n area c) inside)
-      stack-step {h} {area} q storey = record {
-        site = si;
-        span = omega (arith, q, mul_comm w h);
-        short = omega (arith, storey, storey_most, me.cells, cells-most);
-        back = λ b. (past_storey si h (omega (arith, q, mul_comm w h, under_some storey (not-edge inside (λ z. omega arith) _ b))), omega arith);
-        on = λ b. (over-some storey (not-edge inside (λ z. omega arith) _ b), omega (arith, si.column));
+    module _ {work : List ℕ} (room : 4 * s.cells ≤ length work) (u : ℕ) {mark : ℕ} where
+      fits : (less more : ℕ) → (mark ≢ edge → (more ≤ s.cells) × (less ≤ c + more) × (c + more - less < s.cells)) → Sees s.cells slow ts work c less more mark
+      fits less more h = record {
+        slows = omega (arith, slow-long);
+        times = omega (arith, gr.many);
+        room = room;
+        cell = si.on;
+        far = λ q. (h q).0;
+        low = λ q. (h q).1;
+        high = λ q. (h q).2;
       }
 
-      -- ---- what code reads across the seams of an axis is what the rule sees there
-      abbrev ghost : (d e : ℕ) → ℕ
-      ghost d e = counts_as board ts e
+      pub fits-back : (mark ≢ edge → u ≤ c) → Sees s.cells slow ts work c u 0 mark
+      fits-back h = fits u 0 (λ q. (omega arith, omega (arith, h q), omega (arith, si.on)))
 
-      abbrev seen : (f : ℕ → ℕ) → (e : ℕ) → ℕ
-      seen f e = ghosted board s.across s.down ghost f c e
+      pub fits_on : (mark ≢ edge → c + u < s.cells) → Sees s.cells slow ts work c 0 u mark
+      fits_on h = fits 0 u (λ q. (omega (arith, h q), omega arith, omega (arith, h q)))
 
-      read : {x : Cut} → Straight board s.across s.down x → {m k z : ℕ} → m ≡ seam_back x c → k ≡ seam_on x c → (f : ℕ → ℕ)
-          → z ≡ both_seen board ts f c x.axis.unit m k → z ≡ sight x.axis c (seen f)
-      read {x} st mb mo f e =
-          let here : c + 0 ≡ c = omega arith in
-          let there : c + x.axis.unit - 0 ≡ c + x.axis.unit = omega arith in
-          e ∙ sees st c ghost f (rw (here, mb)) (rw (there, mo))
+    -- it lies within the seams as laid
+    pub within : (col < 256) × (row < 2048)
+    within = (omega (arith, column, gr.good.wide_high), omega (arith, line, lines-most))
 
-      pub columns_read : (f : ℕ → ℕ) {z : ℕ} → z ≡ both_seen board ts f c 1 (get_or cols col 0) (get_or cols (col + 1) 0)
-          → z ≡ sight (column_axis board) c (seen f)
-      columns_read f =
-          read (columns_straight gr.good s.across s.down gr.across gr.down)
-          (marked-back (cut (column_axis board) s.across) c gr.columns column-at column)
-          (marked-on (cut (column_axis board) s.across) c gr.columns column-at column) f
+    -- so its neighbours on its storey can be seen
+    module _ {work : List ℕ} (room : 4 * s.cells ≤ length work) where
+      pub sees-columns : Sees s.cells slow ts work c 1 0 (get_or cols col 0) × Sees s.cells slow ts work c 0 1 (get_or cols (col + 1) 0)
+      sees-columns = (fits-back room 1 left-some, fits_on room 1 right-some)
 
-      pub rows_read : (f : ℕ → ℕ) {z : ℕ} → z ≡ both_seen board ts f c w (get_or rows row 0) (get_or rows (row + 1) 0)
-          → z ≡ sight (row_axis board) c (seen f)
-      rows_read f e =
-          read (rows_straight gr.good s.across s.down gr.across gr.down)
-          (marked-back (cut (row_axis board) s.down) c gr.lines line_at line) (marked-on (cut (row_axis board) s.down) c gr.lines line_at line) f
-          (e ∙ ap (λ (k : ℕ). both_seen board ts f c k (get_or rows row 0) (get_or rows (row + 1) 0)) me.width)
+      pub sees-rows : Sees s.cells slow ts work c s.width 0 (get_or rows row 0) × Sees s.cells slow ts work c 0 s.width (get_or rows (row + 1) 0)
+      sees-rows = (fits-back room s.width above-some, fits_on room s.width below-some)
 
-      pub stack_read : (f : ℕ → ℕ) {area z : ℕ} → area ≡ s.width * s.height → z ≡ both_seen board ts f c area (mark_under area c) (mark_over n area c)
-          → z ≡ sight (storey_axis board) c (seen f)
-      stack_read f {area} q e =
-          read (storeys_straight gr.good s.across s.down gr.across gr.down) (under_mark q) (over_mark q) f
-          (e ∙ ap (λ (k : ℕ). both_seen board ts f c k (mark_under area c) (mark_over n area c)) q)
+    -- ---- the places of the cell: its column, its row in the storey, its storey
+    abbrev board : Board
+    board = land s slow
 
-      -- on a flat board nothing
-      pub flat_read : (f : ℕ → ℕ) → s.storeys ≡ 1 → never ≡ sight (storey_axis board) c (seen f)
-      unfolding sight place
-      flat_read f e =
-          let first : c / (s.width * s.height) % s.storeys ≡ 0 = ap (λ (u : ℕ). c / (s.width * s.height) % u) e ∙ mod-one (c / (s.width * s.height)) in
-          sym (rw (eq-eqb _ 0 first, eq-eqb _ _ (ap suc first ∙ sym e)) (earlier-min never never))
+    pub column-at : place (column_axis board) c ≡ col % s.width
+    unfolding place
+    column-at = ap (λ (u : ℕ). u % s.width) (div-one c) ∙ col_is si
+        ∙ sym (mod-eq_of_lt (omega (arith, column)))
 
-      -- THE RULE from what code reads along the axes
-      pub rule_read : (f : ℕ → ℕ) {x y z : ℕ} → x ≡ sight (column_axis board) c (seen f) → y ≡ sight (row_axis board) c (seen f)
-          → z ≡ sight (storey_axis board) c (seen f)
-          → min never (local_of (along_row (get_or slow c 0)) (down_column (get_or slow c 0)) x y z) ≡ rule_at s slow ts c f
-      unfolding arrival slowness
-      rule_read f ex ey ez = rw (ex, ey, ez) refl
+    pub line_at : place (row_axis board) c ≡ row % s.height
+    unfolding place
+    line_at = ap (λ (u : ℕ). u % s.height) (row_is si)
+
+    abbrev stack : Cut
+    stack = cut (storey_axis board) s.storeys
+
+    stack-whole : s.cells ≡ s.storeys * (s.width * s.height)
+    stack-whole = gr.cells ∙ mul_comm (s.width * s.height) s.storeys
+
+    module _ {area : ℕ} (storey : area ≡ s.width * s.height) where
+      -- a cell has one under it just if it is past the first storey, and one over it just if it is before the last
+      lowest : c < area → place (storey_axis board) c ≡ 0
+      lowest l = elim (ℕ_discrete (place (storey_axis board) c) 0) [
+        | yes q ↦ q
+        | no q ↦ absurd (omega (arith, storey, unit-most (storeys-span gr.good) c q))
+      ]
+
+      not_lowest : area ≤ c → place (storey_axis board) c ≢ 0
+      unfolding place
+      not_lowest l z =
+          let k = s.width * s.height in
+          let low : c / k < s.storeys = quotient_low c k s.storeys (omega (arith, si.on, stack-whole)) in
+          let none : c / k ≡ 0 = sym (mod-eq_of_lt low) ∙ z in
+          omega (arith, storey, div-add-mod' c k, mod-lt c (mul-le-mul gr.good.wide_low gr.good.high_low), ap (λ (u : ℕ). u * k) none)
+
+      highest : s.cells ≤ c + area → suc (place (storey_axis board) c) ≡ s.storeys
+      highest l = elim (ℕ_discrete (suc (place (storey_axis board) c)) s.storeys) [
+        | yes q ↦ q
+        | no q ↦ absurd (omega (arith, storey, cells-size, on-cell (storeys-span gr.good) c on q))
+      ]
+
+      not_highest : c + area < s.cells → suc (place (storey_axis board) c) ≢ s.storeys
+      unfolding place
+      not_highest l z =
+          let k = s.width * s.height in
+          let low : c / k < s.storeys = quotient_low c k s.storeys (omega (arith, si.on, stack-whole)) in
+          let last : suc (c / k) ≡ s.storeys = ap suc (sym (mod-eq_of_lt low)) ∙ z in
+          omega (arith, storey, stack-whole, div-add-mod' c k, ap (λ (u : ℕ). u * k) last)
+
+      pub under_mark : mark_under area c ≡ seam_back stack c
+      under_mark = go (order c area)
+        where
+          go : (c < area) ⊎ (area ≤ c) → mark_under area c ≡ seam_back stack c
+          go (inl l) = rw (lt-ltb c area l) (sym (seam-edge s.storeys s.storeys _ (ap (λ (u : ℕ). u % s.storeys) (lowest l) ∙ zero-mod s.storeys)))
+          go (inr l) =
+              let p = mod-eq_of_lt (place-low (storeys-span gr.good) c) in
+              rw (le-ltb c area l)
+              (sym (seam-inside s.storeys s.storeys _ (λ z. not_lowest l (sym p ∙ z))
+              (λ z. not_lowest l (sym p ∙ sym (mod-mod (place (storey_axis board) c) s.storeys) ∙ z))))
+
+      pub over_mark : mark_over s.cells area c ≡ seam_on stack c
+      over_mark = go (order (c + area) s.cells)
+        where
+          go : (c + area < s.cells) ⊎ (s.cells ≤ c + area) → mark_over s.cells area c ≡ seam_on stack c
+          go (inl l) =
+              let i = suc (place (storey_axis board) c) in
+              let p : i % s.storeys ≡ i = mod-eq_of_lt (omega (arith, place-low (storeys-span gr.good) c, not_highest l)) in
+              rw (lt-ltb (c + area) s.cells l)
+              (sym (seam-inside s.storeys s.storeys i (λ z. omega (arith, p)) (λ z. omega (arith, p, mod-mod i s.storeys))))
+          go (inr l) =
+              rw (le-ltb (c + area) s.cells l)
+              (sym (seam-edge s.storeys s.storeys _ (ap (λ (u : ℕ). u % s.storeys) (highest l) ∙ mod_self s.storeys)))
+
+      pub under_some : mark_under area c ≢ edge → area ≤ c
+      under_some q = go (order c area)
+        where
+          go : (c < area) ⊎ (area ≤ c) → area ≤ c
+          go (inl l) = absurd (q (rw (lt-ltb c area l)))
+          go (inr l) = l
+
+      pub over-some : mark_over s.cells area c ≢ edge → c + area < s.cells
+      over-some q = go (order (c + area) s.cells)
+        where
+          go : (c + area < s.cells) ⊎ (s.cells ≤ c + area) → c + area < s.cells
+          go (inl l) = l
+          go (inr l) = absurd (q (rw (le-ltb (c + area) s.cells l)))
+
+    -- ---- a step along each axis, where it leads across seams of a kind that is not the edge
+    module _ (k : ℕ) (ne : k ≢ edge) where
+      not-edge : (m : ℕ) → eqb m k ≡ true → m ≢ edge
+      not-edge m b z = ne (sym (eqb-true m k b) ∙ z)
+
+      pub columns-step : Step s.cells s.width c row col 1 0 1 (eqb (get_or cols col 0) k) (eqb (get_or cols (col + 1) 0) k)
+      columns-step = record {
+        site = si;
+        span = omega arith;
+        short = omega arith;
+        back = λ b. (omega arith, place-behind gr.columns column (not-edge _ b));
+        on = λ b. (right-some (not-edge _ b), omega (arith, place_ahead gr.columns column (not-edge _ b)));
+      }
+
+      pub rows_step : Step s.cells s.width c row col s.width 1 0 (eqb (get_or rows row 0) k) (eqb (get_or rows (row + 1) 0) k)
+      rows_step = record {
+        site = si;
+        span = omega arith;
+        short = omega (arith, gr.good.wide_high);
+        back = λ b. (place-behind gr.lines line (not-edge _ b), omega arith);
+        on = λ b. (below-some (not-edge _ b), omega (arith, si.column));
+      }
+
+    -- ---- what code reads across the seams of an axis is what the rule sees there
+    abbrev ghost : (d e : ℕ) → ℕ
+    ghost d e = counts_as board ts e
+
+    abbrev seen : (f : ℕ → ℕ) → (e : ℕ) → ℕ
+    seen f e = ghosted board s.across s.down ghost f c e
+
+    read : {x : Cut} → Straight board s.across s.down x → {m k z : ℕ} → m ≡ seam_back x c → k ≡ seam_on x c → (f : ℕ → ℕ)
+        → z ≡ both_seen board ts f c x.axis.unit m k → z ≡ sight x.axis c (seen f)
+    read {x} st mb mo f e =
+        let here : c + 0 ≡ c = omega arith in
+        let there : c + x.axis.unit - 0 ≡ c + x.axis.unit = omega arith in
+        e ∙ sees st c ghost f (rw (here, mb)) (rw (there, mo))
+
+    pub columns_read : (f : ℕ → ℕ) {z : ℕ} → z ≡ both_seen board ts f c 1 (get_or cols col 0) (get_or cols (col + 1) 0)
+        → z ≡ sight (column_axis board) c (seen f)
+    columns_read f =
+        read (columns_straight gr.good s.across s.down gr.across gr.down)
+        (marked-back (cut (column_axis board) s.across) c gr.columns column-at column)
+        (marked-on (cut (column_axis board) s.across) c gr.columns column-at column) f
+
+    pub rows_read : (f : ℕ → ℕ) {z : ℕ} → z ≡ both_seen board ts f c s.width (get_or rows row 0) (get_or rows (row + 1) 0)
+        → z ≡ sight (row_axis board) c (seen f)
+    rows_read f e =
+        read (rows_straight gr.good s.across s.down gr.across gr.down)
+        (marked-back (cut (row_axis board) s.down) c gr.lines line_at line) (marked-on (cut (row_axis board) s.down) c gr.lines line_at line) f e
+
+    pub stack_read : (f : ℕ → ℕ) {area z : ℕ} → area ≡ s.width * s.height → z ≡ both_seen board ts f c area (mark_under area c) (mark_over s.cells area c)
+        → z ≡ sight (storey_axis board) c (seen f)
+    stack_read f {area} q e =
+        read (storeys_straight gr.good s.across s.down gr.across gr.down) (under_mark q) (over_mark q) f
+        (e ∙ ap (λ (k : ℕ). both_seen board ts f c k (mark_under area c) (mark_over s.cells area c)) q)
+
+    -- on a flat board nothing
+    pub flat_read : (f : ℕ → ℕ) → s.storeys ≡ 1 → never ≡ sight (storey_axis board) c (seen f)
+    unfolding sight place
+    flat_read f e =
+        let first : c / (s.width * s.height) % s.storeys ≡ 0 = ap (λ (u : ℕ). c / (s.width * s.height) % u) e ∙ mod-one (c / (s.width * s.height)) in
+        sym (rw (eq-eqb _ 0 first, eq-eqb _ _ (ap suc first ∙ sym e)) (earlier-min never never))
+
+    -- THE RULE from what code reads along the axes
+    pub rule_read : (f : ℕ → ℕ) {x y z : ℕ} → x ≡ sight (column_axis board) c (seen f) → y ≡ sight (row_axis board) c (seen f)
+        → z ≡ sight (storey_axis board) c (seen f)
+        → min never (local_of (along_row (get_or slow c 0)) (down_column (get_or slow c 0)) x y z) ≡ rule_at s slow ts c f
+    unfolding arrival slowness
+    rule_read f ex ey ez = rw (ex, ey, ez) refl
+
+-- ---- what the rule's code reads of a cell and of the seams around it is within the lists
+pub ruleset on_ground = (within, slow-long)

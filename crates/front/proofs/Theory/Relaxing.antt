@@ -27,7 +27,7 @@ use Rattle.front.specs.Seams.{
   hearer,
   near,
 }
-use Rattle.front.specs.Board.{land, rule_at, tentative, Work, at, keys, Ground, Measures, Site}
+use Rattle.front.specs.Board.{land, rule_at, tentative, Work, at, keys, Ground, Site}
 use Rattle.front.specs.State.{Held, Touched, stays, drops, Told, all, next}
 use Rattle.front.specs.declared.Shape.{Shape}
 use Rattle.front.proofs.Theory.Sight.{gives_wall}
@@ -124,8 +124,10 @@ pub told_both : {n t : ℕ} {L : ℕ → (ℕ → ℕ) → ℕ} {es fs : List �
 told_both (all v) ts = ts
 told_both {w = w} (next e es v u v' k ks) ts = next e _ v u w k (told_both ks ts)
 
-module _ {s : Shape} {slow ts cols rows : List ℕ} (gr : Ground s slow ts cols rows) {n w : ℕ} (me : Measures s n w)
-    {c row col : ℕ} (si : Site n w c row col) where
+module _ {s : Shape} {slow ts cols rows : List ℕ} (gr : Ground s slow ts cols rows) {c row col : ℕ} (si : Site s.cells s.width c row col) where
+  abbrev n : ℕ
+  n = s.cells
+
   abbrev board : Board
   board = land s slow
 
@@ -137,16 +139,16 @@ module _ {s : Shape} {slow ts cols rows : List ℕ} (gr : Ground s slow ts cols 
 
   -- the seams around the cell, as laid
   left_mark : get_or cols col 0 ≡ seam_back columns c
-  left_mark = marked-back columns c gr.columns (column-at gr me si) (column gr me si)
+  left_mark = marked-back columns c gr.columns (column-at gr si) (column gr si)
 
   right_mark : get_or cols (col + 1) 0 ≡ seam_on columns c
-  right_mark = marked-on columns c gr.columns (column-at gr me si) (column gr me si)
+  right_mark = marked-on columns c gr.columns (column-at gr si) (column gr si)
 
   above_mark : get_or rows row 0 ≡ seam_back lines c
-  above_mark = marked-back lines c gr.lines (line_at gr me si) (line gr me si)
+  above_mark = marked-back lines c gr.lines (line_at gr si) (line gr si)
 
   below_mark : get_or rows (row + 1) 0 ≡ seam_on lines c
-  below_mark = marked-on lines c gr.lines (line_at gr me si) (line gr me si)
+  below_mark = marked-on lines c gr.lines (line_at gr si) (line gr si)
 
   -- along each axis
   module _ {L : ℕ → (ℕ → ℕ) → ℕ} {t : ℕ} (k : ℕ) {v u : Work} where
@@ -154,14 +156,14 @@ module _ {s : Shape} {slow ts cols rows : List ℕ} (gr : Ground s slow ts cols 
         → Told n L t (near_on (columns ∷ []) n k c) v u
     columns-told = along_told columns k c left_mark right_mark refl
 
-    pub rows_told : Told n L t (hearer n (eqb (get_or rows row 0) k) (c - w) ∷ hearer n (eqb (get_or rows (row + 1) 0) k) (c + w) ∷ []) v u
+    pub rows_told : Told n L t (hearer n (eqb (get_or rows row 0) k) (c - s.width) ∷ hearer n (eqb (get_or rows (row + 1) 0) k) (c + s.width) ∷ []) v u
         → Told n L t (near_on (lines ∷ []) n k c) v u
-    rows_told = along_told lines k c above_mark below_mark me.width
+    rows_told = along_told lines k c above_mark below_mark refl
 
     pub stack-told : {area : ℕ} → area ≡ s.width * s.height
         → Told n L t (hearer n (eqb (mark_under area c) k) (c - area) ∷ hearer n (eqb (mark_over n area c) k) (c + area) ∷ []) v u
         → Told n L t (near_on (stack_cut board ∷ []) n k c) v u
-    stack-told q = along_told (stack_cut board) k c (under_mark gr me si q) (over_mark gr me si q) q
+    stack-told q = along_told (stack_cut board) k c (under_mark gr si q) (over_mark gr si q) q
 
   -- all of them
   pub near-told : {L : ℕ → (ℕ → ℕ) → ℕ} {t : ℕ} (k : ℕ) {v u w z : Work} → Told n L t (near_on (columns ∷ []) n k c) v u
@@ -169,7 +171,7 @@ module _ {s : Shape} {slow ts cols rows : List ℕ} (gr : Ground s slow ts cols 
       → Told n L t (near board s.across s.down k c) v z
   unfolding near
   near-told {L} {t} k {v} {z = z} p q r =
-      subst (λ m. Told n L t (near_on (cuts board s.across s.down) m k c) v z) (me.cells ∙ cells-size gr) (told_both p (told_both q r))
+      subst (λ m. Told n L t (near_on (cuts board s.across s.down) m k c) v z) (cells-size gr) (told_both p (told_both q r))
 
   -- on a flat board nobody is under or over it: both seams are the edge
   pub flat-told : {L : ℕ → (ℕ → ℕ) → ℕ} {t : ℕ} (v : Work) → s.storeys ≡ 1 → Told n L t (near_on (stack_cut board ∷ []) n inside c) v v

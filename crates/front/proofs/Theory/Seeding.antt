@@ -1,14 +1,15 @@
--- The beginning of a round: the work list emptied, starts placed in it one after the other or part by part, and then gathered in the queue.
+-- The beginning of a round: the work list emptied, starts placed in it one after the other, and then gathered in the queue.
 use Rattle.std.proofs.Common.{◌≡◌, ℕ, zero, suc, ◌+◌, ◌*◌, ◌<◌, ◌≤◌, min, Bool, true, false, cond, ◌&&◌, eqb, ltb, leb, ◌≢◌, List, [], ◌∷◌, ◌++◌}
-use Rattle.std.proofs.Common.{length, get_or, take, set, sym, refl, ◌∙◌, subst, inr, arith, length-set, length-take, get_or-set_other, take-suc}
+use Rattle.std.proofs.Common.{length, get_or, take, set, sym, refl, ◌∙◌, subst, inr, arith, length-set, get_or-set_other, take-suc}
 use Rattle.std.proofs.Common.{get_or-set_same, ltb-false, ltb-true, eq-eqb, ne_eqb, eqb-true, leb-true}
 use native.Mathlib.Decide.{ℕ_discrete}
+use lib.Seq.{take_all}
 use Rattle.eikonal.specs.Board.{never, start_time}
 use Rattle.eikonal.specs.declared.Start.{Start}
-use Rattle.eikonal.specs.Refusals.{late, starts_of}
+use Rattle.eikonal.specs.Refusals.{late}
+use Rattle.eikonal.specs.Handing.{no_start}
 use Rattle.eikonal.specs.Inner.Good.{starts_rise}
 use Rattle.eikonal.proofs.Good.{and-true, or-false}
-use Rattle.eikonal.proofs.StartLists.{starts_of-append, starts_of-take}
 use Rattle.queue.specs.Lists.{Filled}
 use Rattle.queue.specs.Heap.{Put}
 use Rattle.queue.proofs.Heap.{heap_empty, keys_empty}
@@ -50,16 +51,15 @@ soonest-is n l (x ∷ xs) e f c =
     go false q h a k = rw k (omega (arith, k, soonest-small c xs))
 
 -- the cells of accepted starts are on the board
-pub starts-on : (n l : ℕ) (cs ts : List ℕ) → length cs ≡ length ts → starts_rise n l (starts_of cs ts) ≡ true → (i : ℕ) → i < length cs → get_or cs i 0 < n
-unfolding starts_of starts_rise
-starts-on n l [] ts q e i h = absurd (omega arith)
-starts-on n l (c ∷ cs) [] q e i h = absurd (omega arith)
-starts-on n l (c ∷ cs) (t ∷ ts) q e zero h =
-    let r = and-true (leb l c && ltb c n) (starts_rise n (suc c) (starts_of cs ts)) e in
-    ltb-true c n (and-true (leb l c) (ltb c n) r.0).1
-starts-on n l (c ∷ cs) (t ∷ ts) q e (suc i) h =
-    let r = and-true (leb l c && ltb c n) (starts_rise n (suc c) (starts_of cs ts)) e in
-    starts-on n (suc c) cs ts (omega arith) r.1 i (omega arith)
+pub starts-on : (n l : ℕ) (xs : List Start) → starts_rise n l xs ≡ true → (i : ℕ) → i < length xs → (get_or xs i no_start).cell < n
+unfolding starts_rise
+starts-on n l [] e i h = absurd (omega arith)
+starts-on n l (x ∷ xs) e zero h =
+    let r = and-true (leb l x.cell && ltb x.cell n) (starts_rise n (suc x.cell) xs) e in
+    ltb-true x.cell n (and-true (leb l x.cell) (ltb x.cell n) r.0).1
+starts-on n l (x ∷ xs) e (suc i) h =
+    let r = and-true (leb l x.cell && ltb x.cell n) (starts_rise n (suc x.cell) xs) e in
+    starts-on n (suc x.cell) xs r.1 i (omega arith)
 
 -- ---- the work list emptied
 pub emptied : {n : ℕ} {v v' : List ℕ} → 4 * n ≤ length v → Filled (2 * n) (3 * n) never v v' → Empty n v v'
@@ -73,47 +73,38 @@ emptied {n} {v} {v'} h b = record {
     never_now : (c : ℕ) → c < n → tentative v' n c ≡ never
     never_now c l = b.inside (2 * n + c) (omega arith) (omega arith)
 
--- ---- one start placed
-module _ {n : ℕ} {v : List ℕ} (pl : Placed n v) {e x : ℕ} (l : e < n) where
-  -- an earlier start is placed
-  pub placed-earlier : x < tentative v n e → Seeded n (starts_of (e ∷ []) (x ∷ [])) v (set v (2 * n + e) x)
-  unfolding soonest starts_of
-  placed-earlier low = record {
-    placed = record { room = rw length-set pl.room; small = λ d m. omega (arith, now d m, pl.small d m) };
-    long = length-set v (2 * n + e) x;
-    rest = λ j m. get_or-set_other v (2 * n + e) j x 0 (omega arith);
-    times = now;
-  }
-    where
-      here : tentative (set v (2 * n + e) x) n e ≡ x
-      here = get_or-set_same v (2 * n + e) x 0 (omega (arith, pl.room))
+-- ---- ONE START PLACED: its cell's time is the earlier of both
+pub placed_one : {n : ℕ} {v : List ℕ} → Placed n v → (s : Start) → s.cell < n
+    → Seeded n (s ∷ []) v (set v (2 * n + s.cell) (min (tentative v n s.cell) s.time))
+unfolding soonest
+placed_one {n} {v} pl s l = record {
+  placed = record { room = rw length-set pl.room; small = λ d m. omega (arith, now d m, pl.small d m) };
+  long = length-set v (2 * n + s.cell) (min (tentative v n s.cell) s.time);
+  rest = λ j m. get_or-set_other v (2 * n + s.cell) j (min (tentative v n s.cell) s.time) 0 (omega arith);
+  times = now;
+}
+  where
+    x : ℕ
+    x = min (tentative v n s.cell) s.time
 
-      there : (d : ℕ) → d < n → d ≢ e → tentative (set v (2 * n + e) x) n d ≡ tentative v n d
-      there d m q = get_or-set_other v (2 * n + e) (2 * n + d) x 0 (omega arith)
+    here : tentative (set v (2 * n + s.cell) x) n s.cell ≡ x
+    here = get_or-set_same v (2 * n + s.cell) x 0 (omega (arith, pl.room))
 
-      now : (d : ℕ) → d < n → tentative (set v (2 * n + e) x) n d ≡ min (tentative v n d) (min (cond (eqb e d) x never) never)
-      now d m = elim (ℕ_discrete d e) [
-        | yes q ↦ rw (q, here, eq-eqb e e refl) (omega (arith, pl.small e l))
-        | no q ↦ rw (there d m q, ne_eqb e d (omega arith)) (omega (arith, pl.small d m))
-      ]
+    there : (d : ℕ) → d < n → d ≢ s.cell → tentative (set v (2 * n + s.cell) x) n d ≡ tentative v n d
+    there d m q = get_or-set_other v (2 * n + s.cell) (2 * n + d) x 0 (omega arith)
 
-  -- one that is no earlier leaves all as it is
-  pub placed_later : tentative v n e ≤ x → Seeded n (starts_of (e ∷ []) (x ∷ [])) v v
-  unfolding soonest starts_of
-  placed_later high = record { placed = pl; long = refl; rest = λ j m. refl; times = now }
-    where
-      now : (d : ℕ) → d < n → tentative v n d ≡ min (tentative v n d) (min (cond (eqb e d) x never) never)
-      now d m = elim (ℕ_discrete d e) [
-        | yes q ↦ rw (q, eq-eqb e e refl) (omega (arith, pl.small e l))
-        | no q ↦ rw (ne_eqb e d (omega arith)) (omega (arith, pl.small d m))
-      ]
+    now : (d : ℕ) → d < n → tentative (set v (2 * n + s.cell) x) n d ≡ min (tentative v n d) (min (cond (eqb s.cell d) s.time never) never)
+    now d m = elim (ℕ_discrete d s.cell) [
+      | yes q ↦ rw (q, here, eq-eqb s.cell s.cell refl) (omega (arith, pl.small s.cell l))
+      | no q ↦ rw (there d m q, ne_eqb s.cell d (omega arith)) (omega (arith, pl.small d m))
+    ]
 
 -- ---- several starts placed
 pub seeded_none : {n : ℕ} {v : List ℕ} → Placed n v → Seeded n [] v v
 unfolding soonest
 seeded_none pl = record { placed = pl; long = refl; rest = λ j l. refl; times = λ c l. omega (arith, pl.small c l) }
 
--- a part after a part
+-- starts after starts
 pub seeded_parts : {n : ℕ} {xs ys : List Start} {v u v' : List ℕ} → Seeded n xs v u → Seeded n ys u v' → Seeded n (xs ++ ys) v v'
 seeded_parts {n} {xs} {ys} {v} {u} {v'} a b = record {
   placed = b.placed;
@@ -122,18 +113,14 @@ seeded_parts {n} {xs} {ys} {v} {u} {v'} a b = record {
   times = λ c l. rw (soonest-append c xs ys) (omega (arith, b.times c l, a.times c l));
 }
 
--- the next entry of both lists, after the first i
-pub seeded_next : {n : ℕ} {v u v' : List ℕ} (cs ts : List ℕ) (i : ℕ) → i < length cs → i < length ts
-    → Seeded n (starts_of (take i cs) (take i ts)) v u → Seeded n (starts_of (get_or cs i 0 ∷ []) (get_or ts i 0 ∷ [])) u v'
-    → Seeded n (starts_of (take (suc i) cs) (take (suc i) ts)) v v'
-seeded_next {n} {v} {u} {v'} cs ts i h k a b =
-    let level : length (take i cs) ≡ length (take i ts) = simp length-take (omega arith) in
-    rw (take-suc cs i 0, take-suc ts i 0, starts_of-append (take i cs) (take i ts) (get_or cs i 0 ∷ []) (get_or ts i 0 ∷ []) level) (seeded_parts a b)
+-- the next start, after the first i
+pub seeded_next : {n : ℕ} {v u v' : List ℕ} (xs : List Start) (i : ℕ) (x : Start) → i < length xs → x ≡ get_or xs i no_start
+    → Seeded n (take i xs) v u → Seeded n (x ∷ []) u v' → Seeded n (take (suc i) xs) v v'
+seeded_next {n} {v} {u} {v'} xs i x h e a b = rw (take-suc xs i no_start) (seeded_parts a (subst (λ y. Seeded n (y ∷ []) u v') e b))
 
 -- and in the end all of them
-pub seeded_all : {n : ℕ} {v v' : List ℕ} (cs ts : List ℕ) (i : ℕ) → length cs ≤ i → Seeded n (starts_of (take i cs) (take i ts)) v v'
-    → Seeded n (starts_of cs ts) v v'
-seeded_all {n} {v} {v'} cs ts i h a = subst (λ xs. Seeded n xs v v') (starts_of-take i cs ts (omega arith)) a
+pub seeded_all : {n : ℕ} {v v' : List ℕ} (xs : List Start) (i : ℕ) → length xs ≤ i → Seeded n (take i xs) v v' → Seeded n xs v v'
+seeded_all {n} {v} {v'} xs i h a = subst (λ ys. Seeded n ys v v') (take_all i xs h) a
 
 -- FROM NOTHING a cell's tentative time is its soonest start
 pub seeded_soonest : {n : ℕ} {xs : List Start} {w v v' : List ℕ} → Empty n w v → Seeded n xs v v' → (c : ℕ) → c < n → tentative v' n c ≡ soonest c xs

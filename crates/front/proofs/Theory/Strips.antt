@@ -1,6 +1,6 @@
 -- A round of some rows, with no inside seam before or behind them: what it leaves of their cells, and what one strip after the other leaves.
 use Rattle.std.proofs.Common.{◌≡◌, ℕ, suc, ◌+◌, ◌*◌, ◌/◌, ◌%◌, ◌<◌, ◌≤◌, min, eqb, ◌≢◌, ◌⊎◌, List, [], sym, refl, ap, ◌∙◌, inl, inr, ⊎_elim}
-use Rattle.std.proofs.Common.{mul-le-mul_right, mod-lt, mod-eq_of_lt, div-add-mod', mul-one, div-one, arith, eq-eqb, ne_eqb}
+use Rattle.std.proofs.Common.{subst, mul-le-mul_right, mod-lt, mod-eq_of_lt, div-add-mod', mul-one, div-one, arith, eq-eqb, ne_eqb}
 use native.Mathlib.Decide.{ℕ_discrete}
 use native.Mathlib.Nat.{mod_self, mod-one, zero-mod, add-mod_right}
 use Rattle.eikonal.specs.Axes.{place}
@@ -322,6 +322,21 @@ module _ {s : Shape} {slow ts cols rows : List ℕ} (gr : Ground s slow ts cols 
     -- and the rows before it
     pub first_parted : Parted s 0 row
     first_parted = record { flat = flat; up = omega arith; fits = omega arith; before = top_parted; behind = first }
+
+    -- which are worked out, and then the next of them: all up to there are
+    pub strips_on : {bound e : ℕ} {v u w : List ℕ} → e ≡ end → Worked n L bound 0 (row * s.width) v u
+        → Worked n L bound (row * s.width) (e * s.width) u w
+        → Worked n L bound 0 (e * s.width) v w
+    strips_on {e = e} q a b =
+        let next : Parted s row e = rw q next_parted in
+        let fits = strip_fits (parted_strip next) in
+        let none : 0 * s.width ≡ 0 = omega arith in
+        strips_more (rw none at (parted_apart first_parted)) fits.0 fits.1 a b
+
+  -- up to the last of them: the board is worked out
+  pub whole_worked : {bound row : ℕ} {v w : List ℕ} → s.storeys ≡ 1 → row ≡ s.height → Worked n L bound 0 (row * s.width) v w → Worked n L bound 0 n v w
+  whole_worked {bound} {v = v} {w} flat last a =
+      subst (λ k. Worked n L bound 0 k v w) (ap (λ (h : ℕ). h * s.width) (last ∙ sym (flat-lines flat)) ∙ rows_whole gr) a
 
   -- ---- one tile covers the board: all cells are inner, and need not hear
   pub unwoken : s.width ≤ s.across → s.height ≤ s.down → (g : Work) → Woken s slow ts 0 n g g

@@ -5,7 +5,7 @@ use Rattle.eikonal.specs.Board.{Board}
 use Rattle.eikonal.specs.Promise.{Neighbour}
 use Rattle.front.specs.Front.{Out}
 use Rattle.front.specs.Seams.{inside, least_seam}
-use Rattle.front.specs.Board.{land, rule_at, Work, Ground, Measures, Site}
+use Rattle.front.specs.Board.{land, rule_at, Work, Ground, Site}
 use Rattle.front.specs.State.{Touched, Told, all, next, Inner, Woken}
 use Rattle.front.specs.declared.Shape.{Shape}
 use Rattle.front.proofs.Theory.Seams.{untold_border}
@@ -36,12 +36,12 @@ swapped b c e (inr p) = inl p
 
 module _ {s : Shape} {slow ts cols rows : List ℕ} (gr : Ground s slow ts cols rows) where
   -- where all seams are inside, all neighbours are of the same tile
-  pub seams_inside : {n w : ℕ} (me : Measures s n w) {c row col : ℕ} (si : Site n w c row col)
+  pub seams_inside : {c row col : ℕ} (si : Site s.cells s.width c row col)
       → least_seam cols rows row col ≡ inside
       → Inner (land s slow) s.across s.down c
-  seams_inside me {c} si q e l nb =
+  seams_inside {c} si q e l nb =
       sym (untold_border gr.good s.across s.down gr.across gr.down c e
-      (swapped (land s slow) c e nb) (near-out gr me si q e l))
+      (swapped (land s slow) c e nb) (near-out gr si q e l))
 
   -- ---- all but inner cells from lo on and below k have heard, and then the cell k is seen to
   module _ {lo k m : ℕ} {v u : Work} (q : m ≡ suc k) (low : lo ≤ k) (wo : Woken s slow ts lo k v u) where

@@ -14,7 +14,6 @@ loop-i-preserved c =
     let field = put_is p.ensures.put (ap (λ u. text ++ (u ∷ [])) c.behind.ensures) in
     let more = sym (rows_more a.width a.ticks l.i a.times.now c.loop-i-test.true) in
     record {
-      within = omega arith;
       same = omega (arith, p.auto.out, l.invariant.same);
       room = omega (arith, p.ensures.most, l.invariant.room, c.loop-i-test.true);
       rest = λ now next q. l.invariant.rest now next (put_is (put_more field q) more);

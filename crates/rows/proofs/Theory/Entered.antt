@@ -1,6 +1,6 @@
 -- Entries that become final one part after another, and how many differ from before.
 use mathlib.Core.Path.{◌≡◌, refl, sym, ap, ◌∙◌}
-use mathlib.Core.Bool.{cond}
+use mathlib.Core.Bool.{true, false, cond, not}
 use mathlib.Core.Logic.{◌⊎◌, inl, inr}
 use mathlib.Core.List.{List, [], ◌∷◌, ◌++◌}
 use Prim.Native.Nat.{ℕ, zero, suc, ◌+◌, ◌-◌, ◌≤◌, ◌<◌}
@@ -10,6 +10,7 @@ use lib.Dec.{eqb}
 use lib.ListN.{length, get_or, set, take, length-set}
 use borrow.Author.Tests.{eq-eqb, ne_eqb}
 use borrow.Rule.Slice.PartMut.{mid_of, post_of, put_mid, mid_len, put_same, same_len_mid}
+use Rattle.std.specs.Int.{from_bool}
 use Rattle.eikonal.specs.Tiles.{altered}
 use Rattle.eikonal.proofs.Altered.{altered-none}
 use Rattle.eikonal.proofs.Levels.{order}
@@ -20,6 +21,10 @@ use Rattle.queue.proofs.Parts.{put_before, put_within, put_after}
 -- ---- two entries, as bare numbers
 abbrev pub differ : (x y : ℕ) → ℕ
 differ x y = cond (eqb x y) 0 1
+
+-- as the test's number
+pub differ_is : (x y : ℕ) → from_bool (not (eqb x y)) ≡ differ x y
+differ_is x y = elim (eqb x y) as (λ b. from_bool (not b) ≡ cond b 0 1) [ true ↦ refl | false ↦ refl ]
 
 differ-none : (x : ℕ) → differ x x ≡ 0
 differ-none x = rw (eq-eqb x x refl)

@@ -1,6 +1,6 @@
 -- Lists filled from the front, and times written and counted.
 use mathlib.Core.Path.{◌≡◌, refl, sym, ap, ◌∙◌}
-use mathlib.Core.Bool.{cond}
+use mathlib.Core.Bool.{true, false, cond}
 use mathlib.Core.Logic.{◌⊎◌, inl, inr}
 use mathlib.Core.List.{List, [], ◌∷◌, ◌++◌}
 use Prim.Native.Nat.{ℕ, ◌+◌, ◌*◌, ◌≤◌, ◌<◌}
@@ -11,6 +11,7 @@ use lib.ListN.{length, get_or, set, take, drop, replicate, length-set, length-ap
 use lib.ListN.{get_or-append}
 use lib.Seq.{drop_at, take-suc-set, take-length, ext_get_or}
 use borrow.Author.Tests.{le-leb, lt-leb}
+use Rattle.std.specs.Int.{from_bool}
 use Rattle.eikonal.specs.Board.{never, reached}
 use Rattle.eikonal.specs.Inner.Clip.{clip}
 use Rattle.eikonal.proofs.Levels.{order}
@@ -39,6 +40,10 @@ filled-front {end} {x} {old} {new} l f = ext_get_or 0 new (replicate end x ++ dr
 -- ---- cells reached
 abbrev pub tick : (t bound : ℕ) → ℕ
 tick t h = cond (leb t h) 1 0
+
+-- as the test's number
+pub tick_is : (t h : ℕ) → from_bool (leb t h) ≡ tick t h
+tick_is t h = elim (leb t h) as (λ b. from_bool b ≡ cond b 1 0) [ true ↦ refl | false ↦ refl ]
 
 pub tick-most : (t h : ℕ) → tick t h ≤ 1
 tick-most t h = go (order h t)

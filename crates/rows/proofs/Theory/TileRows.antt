@@ -6,8 +6,8 @@ use mathlib.Core.List.{List, [], ◌∷◌}
 use Prim.Native.Nat.{ℕ, zero, suc, ◌+◌, ◌*◌, ◌-◌, ◌/◌, ◌%◌, ◌≤◌, ◌<◌, min}
 use native.Mathlib.Omega.{arith}
 use native.Mathlib.Decide.{ℕ_discrete}
-use native.Mathlib.Nat.{mod-lt, div-add-mod', div-one, div-le_self, mul_comm, mul-le-mul, mul-le-mul_right}
-use native.Mathlib.Nat.{div-eq_of_lt-le, mul-add-mod_self_right, add-mod_right, mod-eq_of_lt}
+use native.Mathlib.Nat.{mod-lt, div-add-mod', div-one, div-le_self, mul-le-mul, mul-le-mul_right}
+use native.Mathlib.Nat.{div-eq_of_lt-le, mul-add-mod_self_right, mod-eq_of_lt}
 use native.Mathlib.Numerals.{add-one}
 use lib.Dec.{eqb}
 use lib.ListN.{length, get_or, take, drop}
@@ -22,7 +22,6 @@ use Rattle.eikonal.specs.Inner.Clip.{clip}
 use Rattle.eikonal.proofs.Levels.{order}
 use Rattle.eikonal.proofs.Up.{up-short, up-past, up-some}
 use Rattle.eikonal.proofs.Good.{and-true}
-use Rattle.eikonal.proofs.Grid.{quotient_low}
 use Rattle.front.specs.Board.{land}
 use Rattle.rows.specs.Lists.{due}
 use Rattle.rows.specs.Rows.{Entered, Block, Pillar, PillarBefore, tile_in, Fitting, Wrote}
@@ -82,11 +81,11 @@ module _ {w h top bottom left right : ℕ} where
   no_storeys p = omega (arith, p.before)
 
   -- a storey more
-  pub one_storey_more : (h1 : 1 ≤ h) {first c : ℕ} → first % h ≡ 0 → PillarBefore w h top bottom left right (first + h) c
-      → PillarBefore w h top bottom left right first c ⊎ Block w (first + top) (first + bottom) left right c
-  one_storey_more h1 {first} {c} e p = go (order (c / w) first)
+  pub one_storey_more : (h1 : 1 ≤ h) (k : ℕ) {c : ℕ} → PillarBefore w h top bottom left right (k * h + h) c
+      → PillarBefore w h top bottom left right (k * h) c ⊎ Block w (k * h + top) (k * h + bottom) left right c
+  one_storey_more h1 k {c} p = go (order (c / w) (k * h))
     where
-      go : (c / w < first) ⊎ (first ≤ c / w) → PillarBefore w h top bottom left right first c ⊎ Block w (first + top) (first + bottom) left right c
+      go : (c / w < k * h) ⊎ (k * h ≤ c / w) → PillarBefore w h top bottom left right (k * h) c ⊎ Block w (k * h + top) (k * h + bottom) left right c
       go (inl l) = inl record { is = p.is; before = l }
       go (inr l) = inr record {
         top_most = omega (arith, row, p.is.top_most);
@@ -95,22 +94,13 @@ module _ {w h top bottom left right : ℕ} where
         right_most = p.is.right_most;
       }
         where
-          row : first + c / w % h ≡ c / w
+          row : k * h + c / w % h ≡ c / w
           row =
-              let r = c / w - first in
-              let whole : c / w ≡ first / h * h + r = omega (arith, div-add-mod' first h, e) in
+              let r = c / w - k * h in
+              let whole : c / w ≡ k * h + r = omega arith in
               let rest : c / w % h ≡ r =
-              ap (λ (u : ℕ). u % h) whole ∙ mul-add-mod_self_right (first / h) h r ∙ mod-eq_of_lt (omega (arith, p.before)) in
+              ap (λ (u : ℕ). u % h) whole ∙ mul-add-mod_self_right k h r ∙ mod-eq_of_lt (omega (arith, p.before)) in
               omega (arith, rest)
-
--- the first row of a storey is followed by that of the next, and the rows of a storey are on the board
-pub next_storey : (first h : ℕ) → first % h ≡ 0 → (first + h) % h ≡ 0
-next_storey first h e = add-mod_right first h ∙ e
-
-pub storey_fits : (first h k : ℕ) → first % h ≡ 0 → first < h * k → first + h ≤ h * k
-storey_fits first h k e l =
-    let low : first / h < k = quotient_low first h k (omega (arith, mul_comm h k)) in
-    omega (arith, div-add-mod' first h, mul-le-mul_right h low, mul_comm h k)
 
 -- ---- a part of the times and the same part of the tentative times: as long, and what the latter holds
 abbrev tentatives : (n a e : ℕ) → (work : List ℕ) → List ℕ

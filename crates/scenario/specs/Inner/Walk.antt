@@ -1,5 +1,5 @@
 -- The runs and starts behind a file's head, and starts looked up among sorted runs, both in one walk. No public promise rests on these.
-use Rattle.std.specs.Prelude.{◌≡◌, Bool, false, ◌||◌, cond, List, [], ◌∷◌, ℕ, ◌+◌, ◌-◌, ◌*◌, ◌≤◌, leb, eqb, length, drop}
+use Rattle.std.specs.Prelude.{◌≡◌, Bool, false, ◌||◌, cond, List, [], ◌∷◌, ℕ, ◌+◌, ◌-◌, ◌*◌, ◌/◌, ◌≤◌, leb, eqb, length, drop}
 use Rattle.eikonal.specs.declared.Start.{Start}
 use Rattle.scenario.specs.declared.Head.{Head}
 use Rattle.scenario.specs.declared.Run.{Run}
@@ -20,6 +20,10 @@ runs_by x f = records run_size run_in x.runs (drop head_size f)
 
 abbrev pub starts_by : Head → List ℕ → List Start
 starts_by x f = records start_size start_in x.starts (drop (runs_end x.runs) f)
+
+-- the starts that bytes hold from end to end
+abbrev pub starts_whole : List ℕ → List Start
+starts_whole bs = records start_size start_in (length bs / start_size) bs
 
 -- the runs of a file from the i-th on, of n
 abbrev pub runs_onward : List ℕ → (n i : ℕ) → List Run

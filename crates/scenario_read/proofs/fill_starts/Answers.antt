@@ -1,49 +1,60 @@
--- `scenario_read::fill_starts` meets its contract.
-use mathlib.Core.Path.{◌≡◌, sym, ap, ◌∙◌}
-use native.Mathlib.Omega.{arith}
-use lib.ListN.{length, take, drop}
-use lib.Seq.{length-take-le}
+use Rattle.std.proofs.Common.{◌≡◌, ◌<◌, length, ap, ◌∙◌, arith}
 use Rattle.eikonal.specs.Refusals.{cells_of, begins_of}
-use Rattle.scenario.specs.Bytes.{records}
-use Rattle.scenario.specs.File.{start_size, start_in, start_count, starts_in}
-use Rattle.scenario.proofs.Causes.{accepted}
-use Rattle.scenario.proofs.Answers.{part-entered}
-use Rattle.scenario.proofs.Reading.{count-cells, count-begins, file_long, starts_read}
-use Rattle.scenario_read.proofs.fill_starts.Goals.{After-wide-q}
+use Rattle.scenario.specs.Calls.{filled}
+use Rattle.scenario.specs.File.{start_count}
+use Rattle.scenario.specs.Inner.Walk.{starts_whole}
+use Rattle.scenario_read.proofs.Copied.{whole, many, field_more, field_all}
+use Rattle.scenario_read.proofs.fill_starts.Goals.{After-starts_in-starts, After-at-start}
 use Rattle.scenario_read.proofs.fill_starts.Goals as goal
 
-pub head_of-head-requires : goal.head_of-head-requires
-head_of-head-requires c = (accepted _ c.requires.file).front.head
+count : (c : After-starts_in-starts) → length (starts_whole c.starts_in-starts.result.bytes.now) ≡ start_count c.args.file.now
+count c = many c.args.head c.args.file.now _ c.requires.file c.starts_in-starts.ensures
 
--- as many starts as the file has
-many : (c : After-wide-q) → c.wide-q.result ≡ start_count c.args.file.now
-many c = c.wide-q.ensures ∙ ap (λ u. u.starts) c.head_of-head.ensures
+-- a start for each entry
+entry : (c : After-at-start) → (c.loop-i.i < length c.args.cells.now) × (c.loop-i.i < length c.args.begins.now)
+entry c =
+    let n = count (goal.at.After-at-start c).After-starts_in-starts in
+    let i : c.loop-i.i < start_count c.args.file.now = omega (arith, c.loop-i-test.true, c.many-i-end.ensures, n) in
+    (omega (arith, i, c.requires.room.0), omega (arith, i, c.requires.room.1))
 
--- each part is so long
-parts : (c : After-wide-q) → let q = c.wide-q.result in (length (take q c.args.cells.now) ≡ q) × (length (take q c.args.begins.now) ≡ q)
-parts c =
-    let q = c.wide-q.result in (
-      length-take-le q c.args.cells.now (omega (arith, c.requires.room.0, many c)),
-      length-take-le q c.args.begins.now (omega (arith, c.requires.room.1, many c)),
+pub offset_bounds-cells-i : goal.offset_bounds-cells-i
+offset_bounds-cells-i c = let e = (entry (goal.at.offset_bounds-cells-i c).After-at-start).0 in record { fits = omega (arith, e) }
+
+pub bounds-cells-i : goal.bounds-cells-i
+bounds-cells-i c = omega (arith, (entry (goal.at.bounds-cells-i c).After-at-start).0, c.loop-i.auto.cells)
+
+pub offset_bounds-begins-i : goal.offset_bounds-begins-i
+offset_bounds-begins-i c = let e = (entry (goal.at.offset_bounds-begins-i c).After-at-start).1 in record { fits = omega (arith, e) }
+
+pub bounds-begins-i : goal.bounds-begins-i
+bounds-begins-i c = omega (arith, (entry (goal.at.bounds-begins-i c).After-at-start).1, c.loop-i.auto.begins)
+
+pub loop-i-preserved : goal.loop-i-preserved
+unfolding cells_of begins_of
+loop-i-preserved c =
+    let n = count (goal.at.loop-i-preserved c).After-starts_in-starts in
+    let xs = starts_whole c.starts_in-starts.result.bytes.now in
+    let inside : c.loop-i.i < length xs = omega (arith, c.loop-i-test.true, c.many-i-end.ensures) in (
+      field_more (λ x. x.cell) xs c.args.cells.now (omega (arith, n, c.requires.room.0)) _ inside c.loop-i.invariant.0 c.at-start.ensures,
+      field_more (λ x. x.time) xs c.args.begins.now (omega (arith, n, c.requires.room.1)) _ inside c.loop-i.invariant.1 c.at-start.ensures,
     )
 
-pub read_starts-requires : goal.read_starts-requires
-read_starts-requires c =
-    let long = file_long _ _ c.head_of-head.ensures (accepted _ c.requires.file).front in
-    let p = parts (goal.at.read_starts-requires c).After-wide-q in
-    (omega (arith, long, c.starts_base-base.ensures, c.wide-q.ensures, p.0), p.0 ∙ sym p.1)
-
--- the starts that were read
-all : (c : After-wide-q) → let a = c.args in let n = length (take c.wide-q.result a.cells.now) in
-    records start_size start_in n (drop c.starts_base-base.result a.file.now) ≡ starts_in a.file.now
-all c = starts_read _ _ c.head_of-head.ensures _ _ ((parts c).0 ∙ c.wide-q.ensures) c.starts_base-base.ensures
-
 pub returns-clause-cells : goal.returns-clause-cells
+unfolding cells_of
 returns-clause-cells c =
-    let w = (goal.at.returns-clause-cells c).After-wide-q in
-    part-entered c.wide-q.result _ _ c.args.cells.now (c.read_starts.ensures.cells ∙ ap cells_of (all w)) (count-cells c.args.file.now ∙ sym (many w))
+    let s = (goal.at.returns-clause-cells c).After-starts_in-starts in
+    c.loop-i.invariant.0
+    ∙ field_all (λ x. x.cell) (starts_whole c.starts_in-starts.result.bytes.now) c.args.cells.now
+    (omega (arith, count s, c.requires.room.0)) c.loop-i.i
+    (omega (arith, c.loop-i-test.false, c.many-i-end.ensures))
+    ∙ ap (λ u. filled 0 (cells_of u) c.args.cells.now) (whole c.args.head c.args.file.now _ c.requires.file c.starts_in-starts.ensures)
 
 pub returns-clause-begins : goal.returns-clause-begins
+unfolding begins_of
 returns-clause-begins c =
-    let w = (goal.at.returns-clause-begins c).After-wide-q in
-    part-entered c.wide-q.result _ _ c.args.begins.now (c.read_starts.ensures.begins ∙ ap begins_of (all w)) (count-begins c.args.file.now ∙ sym (many w))
+    let s = (goal.at.returns-clause-begins c).After-starts_in-starts in
+    c.loop-i.invariant.1
+    ∙ field_all (λ x. x.time) (starts_whole c.starts_in-starts.result.bytes.now) c.args.begins.now
+    (omega (arith, count s, c.requires.room.1)) c.loop-i.i
+    (omega (arith, c.loop-i-test.false, c.many-i-end.ensures))
+    ∙ ap (λ u. filled 0 (begins_of u) c.args.begins.now) (whole c.args.head c.args.file.now _ c.requires.file c.starts_in-starts.ensures)

@@ -1,16 +1,16 @@
--- `scenario_read::read_ground` meets its contract.
-use native.Mathlib.Omega.{arith}
-use lib.ListN.{length}
+use Rattle.std.proofs.Common.{sym, ◌∙◌}
+use Rattle.eikonal.proofs.Causes.{number_is}
+use Rattle.eikonal.proofs.Outcomes.{numbered, handed_on}
 use Rattle.scenario.proofs.Answers.{kept}
 use Rattle.scenario.proofs.Reading.{room}
 use Rattle.scenario_read.proofs.read_ground.Goals as goal
 
-pub returns-then-judged-ne0 : goal.returns-then-judged-ne0
-returns-then-judged-ne0 c =
-    (c.judge_scenario-judged.ensures, kept c.judge_scenario-judged.result.number _ c.args.slow.now (λ e. omega arith))
+-- what is handed on is a refusal
+pub returns-in_err-head-clause-slow : goal.returns-in_err-head-clause-slow
+returns-in_err-head-clause-slow c =
+    kept _ _ c.args.slow.now (λ z. numbered _ (sym (number_is (handed_on _ _ c.from_residual.ensures.1)) ∙ z))
 
 pub fill_slow-requires : goal.fill_slow-requires
 fill_slow-requires c =
-    let j = c.judge_scenario-judged in
-    let r = room c.args.file.now (length c.args.slow.now) c.args.starts j.result j.ensures (omega arith) in
+    let r = room _ _ _ (sym (number_is c.in_ok-head.ensures.told)) in
     (r.accepted, r.slows)

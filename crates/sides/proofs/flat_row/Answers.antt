@@ -1,8 +1,7 @@
-use Rattle.std.proofs.Common.{◌+◌, ◌*◌, ◌<◌, sym, subst, ◌∙◌, arith}
+use Rattle.std.proofs.Common.{◌+◌, ◌*◌, ◌<◌, ◌∙◌, arith}
 use Rattle.queue.proofs.Parts.{part-long}
-use Rattle.front.specs.Board.{Marked}
 use Rattle.sides.proofs.Seen.{flat-is}
-use Rattle.sides.proofs.Pass.{ends, above-lines, below-lines, even, done-part}
+use Rattle.sides.proofs.Pass.{ends, above-lines, below-lines, done-part}
 use Rattle.sides.proofs.flat_row.Goals as goal
 
 pub row_at-above-requires : goal.row_at-above-requires
@@ -14,31 +13,11 @@ row_at-below-requires c = (c.requires.0.nothing, below-lines c.requires.0 c.requ
 pub slice_bounds-find_flat-end : goal.slice_bounds-find_flat-end
 slice_bounds-find_flat-end c = omega (arith, ends c.requires.0 c.requires.1)
 
-pub slice_bounds-find_flat-end-2 : goal.slice_bounds-find_flat-end-2
-slice_bounds-find_flat-end-2 c = omega (arith, ends c.requires.0 c.requires.1)
-
-pub slice_bounds-find_flat-end-3 : goal.slice_bounds-find_flat-end-3
-slice_bounds-find_flat-end-3 c = omega (arith, ends c.requires.0 c.requires.1)
-
-pub find_flat-requires : goal.find_flat-requires
-find_flat-requires c =
-    let a = c.args in
-    let lg = c.requires.0 in
-    let w = a.shape.width in
-    let fits = ends lg c.requires.1 in
-    let wide = part-long a.sides.now (a.row * w) w (omega (arith, fits)) in (
-      even lg c.requires.1 c.row_at-above.ensures c.row_at-below.ensures,
-      part-long a.far.now (a.row * w) w (omega (arith, fits)) ∙ sym wide,
-      subst (λ n. Marked n a.shape.across 1 a.cols.now) (sym wide) lg.ground.columns,
-      lg.ground.across,
-      omega (arith, lg.narrow),
-    )
-
 pub returns : goal.returns
 returns c =
     let a = c.args in
     let lg = c.requires.0 in
-    let w = a.shape.width in
+    let w = a.view.now.shape.width in
     let fits = ends lg c.requires.1 in
     let wide = part-long a.sides.now (a.row * w) w (omega (arith, fits)) in
     let f = c.find_flat in
@@ -46,4 +25,4 @@ returns c =
     (λ i l.
     let in_row : i < w = omega (arith, l) in
     f.ensures.each i (omega (arith, wide, in_row))
-    ∙ flat-is lg.ground a.far.now lg.beyond a.bound c.requires.1 in_row c.row_at-above.ensures c.row_at-below.ensures)
+    ∙ flat-is lg.ground a.view.now.far.now lg.beyond a.bound c.requires.1 in_row c.row_at-above.ensures c.row_at-below.ensures)

@@ -1,107 +1,71 @@
-use Rattle.std.proofs.Common.{◌≡◌, ℕ, ◌*◌, ◌≤◌, List, length, sym, ap, ◌∙◌, arith}
+use Rattle.std.proofs.Common.{◌≡◌, ◌*◌, ◌≤◌, length, refl, sym, ap, subst, ◌∙◌, arith}
 use lib.Seq.{length-take-le}
 use Rattle.eikonal.specs.Board.{size}
-use Rattle.eikonal.specs.declared.Refusal.{Refusal}
+use Rattle.eikonal.specs.Told.{refusal_of}
+use Rattle.eikonal.proofs.Causes.{number_is}
+use Rattle.eikonal.proofs.Outcomes.{numbered}
 use Rattle.scenario.specs.Bytes.{four_bytes, bytes_of}
 use Rattle.scenario.specs.File.{held}
-use Rattle.scenario.proofs.Reading.{cells_read, sides_read}
-use Rattle.tablet.specs.Tablet.{tablet_refusal, times_bytes}
-use Rattle.tablet.proofs.Parts.{back}
+use Rattle.scenario.proofs.Reading.{cells_read}
+use Rattle.tablet.specs.Tablet.{times_bytes, TabletSays}
 use Rattle.tablet.proofs.SmallFiles.{small, cells-few}
 use Rattle.tablet.proofs.Answers.{Taken, taken, says_refused, says-done}
+use Rattle.tablet.proofs.tablet_run.Goals.{After-entries-times}
 use Rattle.tablet.proofs.tablet_run.Goals as goal
 
--- nothing refuses the call
-good : (f : List ℕ) (s tw th n : ℕ) (k : Refusal) → k ≡ tablet_refusal f s tw th n → k.number ≡ 0 → Taken f s tw th n
-good f s tw th n k e z = taken f s tw th n (ap (λ u. u.number) (sym e) ∙ z)
-
--- there is an entry for each cell, and 4 bytes of output
-fits : {f : List ℕ} {s tw th n x : ℕ} (l : List ℕ) → Taken f s tw th n → x ≡ size (held f) → length l ≡ 1024 → x ≤ length l
-fits {f} l g e r = omega (arith, cells-few f (small f g.accepted), e, r)
-
-pub returns-then-refusal-ne0 : goal.returns-then-refusal-ne0
-returns-then-refusal-ne0 c =
-    let k = c.tablet_refusal-refusal in
+pub returns-in-Err : goal.returns-in-Err
+returns-in-Err c =
     let a = c.args in
-    says_refused a.file.now a.stride a.across a.down a.out.now k.result k.ensures c.if-refusal-ne0.true
+    let r = c.in-Err.refusal in
+    subst (λ x. TabletSays a.file.now a.stride a.across a.down a.out.now a.out.now x) (sym c.number.ensures)
+    (says_refused a.file.now a.stride a.across a.down a.out.now (refusal_of r) c.in-Err.ensures.told (numbered r.cause))
 
-pub head_of-requires : goal.head_of-requires
-head_of-requires c =
-    let g = good _ _ _ _ _ _ c.tablet_refusal-refusal.ensures c.if-refusal-ne0.false in (small _ g.accepted).taken.front.head
+-- nothing refuses the call: there is an entry for each cell, and 4 bytes of output
+good : (c : After-entries-times) → Taken c.args.file.now c.args.stride c.args.across c.args.down (length c.args.out.now)
+good c = taken _ _ _ _ _ (sym (number_is c.in-Ok.ensures.told))
 
-pub board_size-n-requires : goal.board_size-n-requires
-board_size-n-requires c =
-    let g = good _ _ _ _ _ _ c.tablet_refusal-refusal.ensures c.if-refusal-ne0.false in
-    sides_read _ _ c.head_of.ensures (small _ g.accepted).taken.front
+cells : (c : After-entries-times) → c.board_size-n.result ≡ size (held c.args.file.now)
+cells c = cells_read c.args.file.now c.in-Ok.head c.in-Ok.ensures.head.head _ c.board_size-n.ensures
+
+fits : (c : After-entries-times) → c.board_size-n.result ≤ length c.entries-times.result
+fits c = omega (arith, cells-few _ (small _ (good c).accepted), cells c, c.entries-times.ensures)
+
+room : (c : After-entries-times) → 4 * c.board_size-n.result ≤ length c.args.out.now
+room c = omega (arith, (good c).room, cells c)
 
 pub slice_bounds-times-end : goal.slice_bounds-times-end
-slice_bounds-times-end c =
-    let g = good _ _ _ _ _ _ c.tablet_refusal-refusal.ensures c.if-refusal-ne0.false in
-    fits _ g (cells_read _ _ c.head_of.ensures _ c.board_size-n.ensures) c.entries-times.ensures
+slice_bounds-times-end c = fits (goal.at.slice_bounds-times-end c).After-entries-times
 
--- the times that are lent on
-pub slice_bounds-run_file-end : goal.slice_bounds-run_file-end
-slice_bounds-run_file-end c =
-    let g = good _ _ _ _ _ _ c.tablet_refusal-refusal.ensures c.if-refusal-ne0.false in
-    sym (length-take-le _ c.entries-times.result (fits _ g (cells_read _ _ c.head_of.ensures _ c.board_size-n.ensures) c.entries-times.ensures))
+pub slice_bounds-times-end-2 : goal.slice_bounds-times-end-2
+slice_bounds-times-end-2 c = sym (length-take-le _ c.entries-times.result (fits (goal.at.slice_bounds-times-end-2 c).After-entries-times))
 
 pub run_file-rounds-requires-clause-board : goal.run_file-rounds-requires-clause-board
 run_file-rounds-requires-clause-board c =
-    let g = good _ _ _ _ _ _ c.tablet_refusal-refusal.ensures c.if-refusal-ne0.false in
-    let cells = cells_read c.args.file.now _ c.head_of.ensures _ c.board_size-n.ensures in
-    (g.accepted, length-take-le _ c.entries-times.result (fits _ g cells c.entries-times.ensures) ∙ cells)
+    let t = (goal.at.run_file-rounds-requires-clause-board c).After-entries-times in
+    ((good t).accepted, length-take-le _ c.entries-times.result (fits t) ∙ cells t)
 
 pub run_file-rounds-requires-clause-tiles : goal.run_file-rounds-requires-clause-tiles
-run_file-rounds-requires-clause-tiles c = (good _ _ _ _ _ _ c.tablet_refusal-refusal.ensures c.if-refusal-ne0.false).tiles
-
--- 4 bytes of output for each cell
-room : {f : List ℕ} {s tw th n x : ℕ} → Taken f s tw th n → x ≡ size (held f) → 4 * x ≤ n
-room g e = omega (arith, g.room, e)
-
-pub overflow_mul-bytes : goal.overflow_mul-bytes
-overflow_mul-bytes c =
-    let g = good _ _ _ _ _ _ c.tablet_refusal-refusal.ensures c.if-refusal-ne0.false in
-    let r = fits _ g (cells_read _ _ c.head_of.ensures _ c.board_size-n.ensures) c.entries-times.ensures in
-    record { fits = omega (arith, r, c.entries-times.ensures) }
+run_file-rounds-requires-clause-tiles c = (good (goal.at.run_file-rounds-requires-clause-tiles c).After-entries-times).tiles
 
 pub slice_bounds-put_times-end : goal.slice_bounds-put_times-end
-slice_bounds-put_times-end c =
-    room (good _ _ _ _ _ _ c.tablet_refusal-refusal.ensures c.if-refusal-ne0.false) (cells_read _ _ c.head_of.ensures _ c.board_size-n.ensures)
+slice_bounds-put_times-end c = room (goal.at.slice_bounds-put_times-end c).After-entries-times
 
 pub slice_bounds-put_times-end-2 : goal.slice_bounds-put_times-end-2
-slice_bounds-put_times-end-2 c =
-    let g = good _ _ _ _ _ _ c.tablet_refusal-refusal.ensures c.if-refusal-ne0.false in
-    sym (length-take-le _ c.args.out.now (room g (cells_read _ _ c.head_of.ensures _ c.board_size-n.ensures)))
+slice_bounds-put_times-end-2 c = sym (length-take-le _ c.args.out.now (room (goal.at.slice_bounds-put_times-end-2 c).After-entries-times))
 
--- and the times that came back
-pub slice_bounds-times-end-2 : goal.slice_bounds-times-end-2
-slice_bounds-times-end-2 c =
-    let g = good _ _ _ _ _ _ c.tablet_refusal-refusal.ensures c.if-refusal-ne0.false in
-    let f = fits _ g (cells_read _ _ c.head_of.ensures _ c.board_size-n.ensures) c.entries-times.ensures in
-    (back _ c.entries-times.result _ f c.run_file-rounds.auto.times).fits
-
-pub slice_bounds-put_times-end-3 : goal.slice_bounds-put_times-end-3
-slice_bounds-put_times-end-3 c =
-    let g = good _ _ _ _ _ _ c.tablet_refusal-refusal.ensures c.if-refusal-ne0.false in
-    let f = fits _ g (cells_read _ _ c.head_of.ensures _ c.board_size-n.ensures) c.entries-times.ensures in
-    (back _ c.entries-times.result _ f c.run_file-rounds.auto.times).count
-
+-- the times that came back are as many
 pub put_times-requires : goal.put_times-requires
 put_times-requires c =
-    let g = good _ _ _ _ _ _ c.tablet_refusal-refusal.ensures c.if-refusal-ne0.false in
-    let cells = cells_read c.args.file.now _ c.head_of.ensures _ c.board_size-n.ensures in
-    let b = back _ c.entries-times.result _ (fits _ g cells c.entries-times.ensures) c.run_file-rounds.auto.times in
-    length-take-le _ c.args.out.now (room g cells) ∙ ap (λ u. 4 * u) b.count
+    let w = (goal.at.put_times-requires c).After-entries-times in
+    let times = c.run_file-rounds.auto.times ∙ length-take-le _ c.entries-times.result (fits w) in
+    length-take-le _ c.args.out.now (room w) ∙ ap (λ u. 4 * u) (sym times)
 
 pub returns : goal.returns
 unfolding times_bytes
 returns c =
-    let k = c.tablet_refusal-refusal in
     let a = c.args in
-    let g = good _ _ _ _ _ _ k.ensures c.if-refusal-ne0.false in
-    let cells = cells_read a.file.now _ c.head_of.ensures _ c.board_size-n.ensures in
-    let b = back _ c.entries-times.result _ (fits _ g cells c.entries-times.ensures) c.run_file-rounds.auto.times in
-    let now = c.put_times.ensures ∙ ap (bytes_of four_bytes) (b.same ∙ c.run_file-rounds.ensures.times) in
-    let long = sym (ap length now) ∙ c.put_times.auto.out ∙ length-take-le _ a.out.now (room g cells) in
-    says-done a.file.now a.stride a.across a.down a.out.now k.result k.ensures c.run_file-rounds.result _ _
-    c.if-refusal-ne0.false c.run_file-rounds.ensures.rounds now long
+    let w = (goal.at.returns c).After-entries-times in
+    let now = c.put_times.ensures ∙ ap (bytes_of four_bytes) c.run_file-rounds.ensures.times in
+    let long = sym (ap length now) ∙ c.put_times.auto.out ∙ length-take-le _ a.out.now (room w) in
+    says-done a.file.now a.stride a.across a.down a.out.now _ c.in-Ok.ensures.told c.run_file-rounds.result _ _
+    refl c.run_file-rounds.ensures.rounds now long

@@ -1,22 +1,14 @@
--- `tile_orders::all_marked` meets its contract: those before j are marked.
-use mathlib.Core.Path.{refl, sym}
-use native.Mathlib.Numerals.{add-one}
-use native.Mathlib.Omega.{arith}
-use borrow.Author.Tests.{eq-eqb, ne_eqb}
-use Rattle.tile_orders.specs.Orders.{all_below, marked}
-use Rattle.tile_orders.proofs.Orders.{all_below-more, all_below_stops}
+-- `tile_orders::all_marked` meets its contract.
+use Rattle.std.proofs.Common.{◌∙◌, eqb, take, arith, rules, tests}
+use Rattle.std.proofs.lemmas.Iterator.{YieldsList-from_slice}
+use Rattle.std.proofs.lemmas.Iterator.Search.{all_from_yields_List}
+use Rattle.tile_orders.proofs.Orders.{all_below-marked}
 use Rattle.tile_orders.proofs.all_marked.Goals as goal
 
-pub loop-j-init : goal.loop-j-init
-unfolding all_below
-loop-j-init c = (omega arith, refl)
-
-pub returns-then-seen-j-ne1 : goal.returns-then-seen-j-ne1
-returns-then-seen-j-ne1 c =
-    sym (all_below_stops c.loop-j.j c.args.many (λ k. marked c.args.seen.now k) c.loop-j-test.true (ne_eqb _ 1 c.if-seen-j-ne1.true))
-
-pub loop-j-preserved : goal.loop-j-preserved
-loop-j-preserved c = (
-  omega arith,
-  rw add-one (all_below-more c.loop-j.j (λ k. marked c.args.seen.now k) c.loop-j.invariant.1 (eq-eqb _ 1 c.if-seen-j-ne1.false)),
-)
+pub returns : goal.returns
+returns c =
+    let many = c.args.many in
+    let seen = c.args.seen.now in
+    let marks = YieldsList-from_slice {s = c.iter.result} (take many seen) (search rules) in
+    all_from_yields_List (λ m. eqb m 1) _ _ c.all.result c.all.ensures.ran marks (λ x b q k. search (rules, tests))
+    ∙ all_below-marked many seen (omega (arith, c.told-seen))

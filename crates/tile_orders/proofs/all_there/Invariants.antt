@@ -1,10 +1,7 @@
--- The numbers below `from` are there.
-use Rattle.std.proofs.Common.{◌≡◌, true, ◌≤◌, ◌-◌}
+-- The numbers in the parts before this one are there.
+use Rattle.std.proofs.Common.{◌≡◌, true, ◌*◌, min}
 use Rattle.eikonal.specs.Refusals.{all_there}
 use Rattle.tile_orders.proofs.all_there.Given as goal
 
-abbrev pub invariant-loop-from : goal.invariant-loop-from
-invariant-loop-from l = (l.from ≤ l.count) × (all_there l.from l.order ≡ true)
-
-abbrev pub decreases-loop-from : goal.decreases-loop-from
-decreases-loop-from l = l.count - l.from
+abbrev pub invariant-loop-part : goal.invariant-loop-part
+invariant-loop-part l = all_there (min (l.part * 8192) l.count) l.order ≡ true

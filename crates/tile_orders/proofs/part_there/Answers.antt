@@ -12,20 +12,19 @@ use Rattle.eikonal.specs.Refusals.{member}
 use Rattle.tile_orders.proofs.Orders.{all_below-same, member-more}
 use Rattle.tile_orders.proofs.part_there.Goals as goal
 
-pub loop-i-init : goal.loop-i-init
+pub loop-tile-init : goal.loop-tile-init
 unfolding member
-loop-i-init c = (omega arith, refl, λ j h. rw (get_or-replicate {A = ℕ} 8192 j 0 0 h))
+loop-tile-init c = (refl, λ j h. rw (get_or-replicate {A = ℕ} 8192 j 0 0 h))
 
-pub loop-i-preserved : goal.loop-i-preserved
-loop-i-preserved c =
-    let i = c.loop-i.i in
+pub loop-tile-preserved : goal.loop-tile-preserved
+loop-tile-preserved c =
+    let i = c.loop-tile.tile-index in
     let order = c.args.order.now in
     let from = c.args.from in (
-      omega arith,
-      c.note.ensures.many ∙ c.loop-i.invariant.1,
+      c.note.ensures.many ∙ c.loop-tile.invariant.0,
       λ j h. c.note.ensures.marks j h
-          ∙ ap (λ (t : Bool). t || eqb (get_or order i 0) (from + j)) (c.loop-i.invariant.2 j h)
-          ∙ rw add-one (sym (member-more (from + j) order i c.loop-i-test.true)),
+          ∙ ap (λ (t : Bool). t || eqb (get_or order i 0) (from + j)) (c.loop-tile.invariant.1 j h)
+          ∙ rw add-one (sym (member-more (from + j) order i c.loop-tile-test.true)),
     )
 
 pub returns : goal.returns
@@ -33,5 +32,5 @@ returns c =
     let order = c.args.order.now in
     let from = c.args.from in
     c.all_marked.ensures
-    ∙ all_below-same c.args.many _ (λ j. member (from + j) order) (λ j h. c.loop-i.invariant.2 j (omega arith)
-    ∙ ap (λ (xs : List ℕ). member (from + j) xs) (take_all c.loop-i.i order (omega arith)))
+    ∙ all_below-same c.args.many _ (λ j. member (from + j) order) (λ j h. c.loop-tile.invariant.1 j (omega arith)
+    ∙ ap (λ (xs : List ℕ). member (from + j) xs) (take_all c.loop-tile.tile-index order (omega arith)))

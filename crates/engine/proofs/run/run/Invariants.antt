@@ -10,9 +10,11 @@ use Rattle.engine.proofs.run.run.Given as goal
 
 abbrev pub invariant-loop-done : goal.invariant-loop-done
 invariant-loop-done l =
+    let t = l.tiling in
     (l.done ≤ l.limit)
-    × ((xs : List Start) → Good (whole l.shape l.slow xs) → AtRound l.shape l.slow xs l.stride l.horizon 0 l.initial.times (at l.initial.work l.size)
-    → MidRun l.shape l.slow xs l.stride l.horizon l.done l.initial.times l.times (at l.initial.work l.size) (at l.work l.pending))
+    × ((xs : List Start) → Good (whole t.shape t.slow.now xs)
+    → AtRound t.shape t.slow.now xs t.stride t.horizon 0 l.initial.times (at l.initial.work l.size)
+    → MidRun t.shape t.slow.now xs t.stride t.horizon l.done l.initial.times l.times (at l.initial.work l.size) (at l.work l.pending))
 
 abbrev pub decreases-loop-done : goal.decreases-loop-done
 decreases-loop-done l = l.limit - l.done

@@ -3,11 +3,15 @@ use native.Mathlib.Omega.{arith}
 use Rattle.engine.proofs.Theory.Calls.{ground, cells-few, land-fits, march_through}
 use Rattle.engine.proofs.seeded.march.Goals as goal
 
+pub invariant_of-scene : goal.invariant_of-scene
+invariant_of-scene c =
+    let f = c.requires.0.fit in
+    record { ground = ground f c.args.times.now _ _ f.many c.lay_columns-cols.ensures c.lay_rows-rows.ensures }
+
 pub drain_tile-requires : goal.drain_tile-requires
 drain_tile-requires c =
     let p = c.requires in
     let o = p.0 in (
-      ground o.fit c.args.times.now _ _ o.fit.many c.lay-cols.ensures c.lay-rows.ensures,
       o.stands.placed,
       p.1,
       p.2,

@@ -3,16 +3,21 @@ use native.Mathlib.Omega.{arith}
 use Rattle.engine.proofs.Theory.Calls.{ground, cells-few, round_through, rows_whole}
 use Rattle.engine.proofs.seeded.one_round.Goals as goal
 
+pub invariant_of-scene : goal.invariant_of-scene
+invariant_of-scene c =
+    let f = c.requires.0.fit in
+    record { ground = ground f c.args.times.now _ _ f.many c.lay_columns-cols.ensures c.lay_rows-rows.ensures }
+
 pub drain_strips-requires : goal.drain_strips-requires
 drain_strips-requires c =
     let p = c.requires in
     let o = p.0 in
-    (ground o.fit c.args.times.now _ _ o.fit.many c.lay-cols.ensures c.lay-rows.ensures, o.stands.placed, o.fit.down_high, omega (arith, p.1))
+    (o.stands.placed, o.fit.down_high, omega (arith, p.1))
 
 pub find_round-requires : goal.find_round-requires
 find_round-requires c =
     let f = c.requires.0.fit in
-    (ground f c.args.times.now _ _ f.many c.lay-cols.ensures c.lay-rows.ensures, f.across_high, c.drain_strips.ensures.placed.room, f.sided)
+    (f.across_high, c.drain_strips.ensures.placed.room, f.sided)
 
 pub write_tiles-count-requires : goal.write_tiles-count-requires
 write_tiles-count-requires c =

@@ -12,11 +12,8 @@ run-count-requires c =
     let p = c.requires in
     let o = p.0 in
     let e = c.fill.ensures in (
-      ground o.fit _ _ _ (e.long ∙ o.fit.many) c.lay-cols.ensures c.lay-rows.ensures,
+      ground o.fit _ _ _ (e.long ∙ o.fit.many) c.lay_columns-cols.ensures c.lay_rows-rows.ensures,
       record { starts = o.starts; good = o.fit.good; at = run-start o.fit o.stands c.gather-size.ensures _ (never-times o.fit _ e) _ _ },
-      p.1,
-      p.2,
-      p.3,
     )
 
 pub find_whole-requires : goal.find_whole-requires

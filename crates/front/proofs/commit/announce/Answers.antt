@@ -1,10 +1,9 @@
 -- `front::commit::announce` meets its contract: the first i noted cells are announced.
-use Rattle.std.proofs.Common.{◌≡◌, ◌+◌, ◌*◌, ◌<◌, ℕ, List, sym, ◌∙◌, arith}
+use Rattle.std.proofs.Common.{◌≡◌, ◌+◌, ◌*◌, ◌<◌, ℕ, List, refl, sym, ◌∙◌, arith}
 use Rattle.front.specs.Board.{noted, Work, at}
 use Rattle.front.specs.State.{Announced, nobody}
-use Rattle.front.proofs.Theory.Reading.{time-at, measured}
-use Rattle.front.proofs.Theory.Telling.{told-held}
-use Rattle.front.proofs.Theory.Announcing.{announced_rest, announced_more}
+use Rattle.front.proofs.Theory.Reading.{time-at}
+use Rattle.front.proofs.Theory.Announcing.{announced_held, announced_rest, announced_more}
 use Rattle.front.proofs.commit.announce.Goals as goal
 
 -- what is read is still the note of the entry, a cell
@@ -15,26 +14,26 @@ note {n} {i = i} an on l e =
     (at, omega (arith, at, on i l))
 
 pub loop-i-init : goal.loop-i-init
-loop-i-init c = (omega arith, c.requires.1, nobody (at c.args.work.now c.args.size))
+loop-i-init c = nobody (at c.args.work.now c.args.size)
 
-pub bounds-times-c : goal.bounds-times-c
-bounds-times-c c =
-    omega (arith, c.requires.0.many, note c.loop-i.invariant.2 c.requires.3 c.loop-i-test.true c.wide-c.ensures)
+pub bounds-scene-c : goal.bounds-scene-c
+bounds-scene-c c =
+    omega (arith, c.args.scene.now.ground.many, note c.loop-i.invariant c.requires.2 c.loop-i-test.true refl)
 
 pub tell_others-pending-requires : goal.tell_others-pending-requires
 tell_others-pending-requires c =
-    (c.requires.0, measured, c.loop-i.invariant.1, (note c.loop-i.invariant.2 c.requires.3 c.loop-i-test.true c.wide-c.ensures).1)
+    let an = c.loop-i.invariant in
+    (announced_held c.requires.0 an, (note an c.requires.2 c.loop-i-test.true refl).1)
 
 pub loop-i-preserved : goal.loop-i-preserved
 loop-i-preserved c =
-    let l = c.loop-i in
-    let told = c.tell_others-pending.ensures in
-    let at = note l.invariant.2 c.requires.3 c.loop-i-test.true c.wide-c.ensures in
-    let is = time-at c.args.times.now c.wide-c.result (omega (arith, at, c.requires.0.many)) in
-    (omega arith, told-held l.invariant.1 told, announced_more l.invariant.2 at.0 (sym is) told)
+    let an = c.loop-i.invariant in
+    let s = c.args.scene.now in
+    let at = note an c.requires.2 c.loop-i-test.true refl in
+    let is = time-at s.times.now (noted c.loop-i.work s.shape.cells c.loop-i.i) (omega (arith, at, s.ground.many)) in
+    announced_more an at.0 (sym is) c.tell_others-pending.ensures
 
 pub returns : goal.returns
 returns c =
-    let l = c.loop-i in
-    let all : l.i ≡ c.args.m = omega (arith, c.loop-i-test.false, l.invariant.0) in
-    rw (← all) l.invariant.2
+    let all : c.loop-i.i ≡ c.args.m = omega (arith, c.loop-i-test.false) in
+    rw (← all) c.loop-i.invariant

@@ -1,13 +1,8 @@
--- The first i noted times are stored.
-use Rattle.std.proofs.Common.{◌≡◌, ◌-◌, ◌≤◌, length}
+-- The first noted times are stored.
 use Rattle.eikonal.specs.Board.{time}
 use Rattle.front.specs.Front.{Written}
 use Rattle.front.specs.Board.{tentative, noted}
 use Rattle.front.proofs.commit.store.Given as goal
 
-abbrev pub invariant-loop-i : goal.invariant-loop-i
-invariant-loop-i l =
-    (l.i ≤ l.m) × (length l.times ≡ l.n) × Written l.n (time l.initial.times) (tentative l.work l.n) (time l.times) l.i (noted l.work l.n)
-
-abbrev pub decreases-loop-i : goal.decreases-loop-i
-decreases-loop-i l = l.m - l.i
+abbrev pub invariant-loop-note : goal.invariant-loop-note
+invariant-loop-note l = Written l.n (time l.initial.times) (tentative l.work l.n) (time l.times) l.note-index (noted l.work l.n)

@@ -7,19 +7,18 @@ use Rattle.front.proofs.spread.tell_along.Goals as goal
 
 pub touch-told-requires : goal.touch-told-requires
 touch-told-requires c =
-    let st = c.requires.3 in (
+    let st = c.requires.1 in (
       c.requires.0,
-      c.requires.1,
-      c.requires.2,
       λ b. before-site st (c.back.ensures (step-low st b)) (c.back-2.ensures (st.back b).0) (c.back-3.ensures (st.back b).1),
     )
 
 pub touch-requires : goal.touch-requires
-touch-requires c = (c.requires.0, c.requires.1, touched_held c.requires.2 c.touch-told.ensures, λ b. behind-site c.requires.3 b)
+touch-requires c = (touched_held c.requires.0 c.touch-told.ensures, λ b. behind-site c.requires.1 b)
 
 pub returns : goal.returns
 returns c =
     let a = c.args in
-    let same : (b : a.before ≡ true) → c.back.result ≡ a.c - a.step = λ b. omega (arith, c.back.ensures (step-low c.requires.3 b)) in
-    next _ _ _ _ _ (rw (hearer-same a.n a.before same) at c.touch-told.ensures)
+    let same : (b : a.before ≡ true) → c.back.result ≡ a.site.cell - a.step.cells =
+    λ b. omega (arith, c.back.ensures (step-low c.requires.1 b)) in
+    next _ _ _ _ _ (rw (hearer-same a.scene.now.shape.cells a.before same) at c.touch-told.ensures)
     (next _ _ _ _ _ c.touch.ensures (all _))

@@ -1,5 +1,4 @@
 -- `rows::tiles::write_rows` keeps, while it loops: the rows before `row` are final.
-use Rattle.std.proofs.Common.{◌-◌}
 use Rattle.rows.specs.Lists.{due}
 use Rattle.rows.specs.Rows.{Entered, Block}
 use Rattle.rows.proofs.tiles.write_rows.Given as goal
@@ -7,6 +6,3 @@ use Rattle.rows.proofs.tiles.write_rows.Given as goal
 abbrev pub invariant-loop-row : goal.invariant-loop-row
 invariant-loop-row l =
     Entered (Block l.shape.width l.top l.row l.left l.right) (due l.bound l.work l.shape.cells) l.initial.times l.times l.count
-
-abbrev pub decreases-loop-row : goal.decreases-loop-row
-decreases-loop-row l = l.bottom - l.row

@@ -11,8 +11,8 @@ pub write_storeys-requires : goal.write_storeys-requires
 unfolding up
 write_storeys-requires c =
     let k = corner c.requires c.args.tile in
-    let e = c.shorter-right.ensures in
-    (c.requires, omega (arith, k), omega (arith, c.shorter-bottom.ensures), omega (arith, e), omega (arith, e))
+    let e = c.min-right.ensures in
+    (c.requires, omega (arith, k), omega (arith, c.min-bottom.ensures), omega (arith, e), omega (arith, e))
 
 pub returns : goal.returns
 unfolding up
@@ -21,5 +21,5 @@ returns c =
     let r = c.requires in
     entered_of (λ d. tile_in x.shape d ≡ x.tile)
     (λ d l e. in_tile (land x.shape []) x.shape.across x.shape.down r.wide_low r.high_low r.across_low r.down_low d
-    c.shorter-bottom.ensures c.shorter-right.ensures e)
+    c.min-bottom.ensures c.min-right.ensures e)
     c.write_storeys.ensures

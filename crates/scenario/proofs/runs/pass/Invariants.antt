@@ -1,13 +1,7 @@
 -- `scenario::runs::pass` meets its contract.
-use Rattle.std.proofs.Common.{◌≡◌, ◌-◌, ◌≤◌}
+use Rattle.std.proofs.Common.{◌≡◌}
 use Rattle.scenario.specs.Inner.Walk.{runs_onward, past}
 use Rattle.scenario.proofs.runs.pass.Given as goal
 
 abbrev pub invariant-loop-k : goal.invariant-loop-k
-invariant-loop-k l = record {
-  within : l.k ≤ l.count;
-  passed : past l.cell (runs_onward l.file l.count l.i) ≡ past l.cell (runs_onward l.file l.count l.k);
-}
-
-abbrev pub decreases-loop-k : goal.decreases-loop-k
-decreases-loop-k l = l.count - l.k
+invariant-loop-k l = past l.cell (runs_onward l.file l.count l.i) ≡ past l.cell (runs_onward l.file l.count l.k)

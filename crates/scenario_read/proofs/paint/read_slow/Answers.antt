@@ -1,9 +1,10 @@
 -- `scenario_read::paint::read_slow` meets its contract.
-use mathlib.Core.Path.{◌≡◌, refl, sym, ap, ◌∙◌, subst}
-use mathlib.Core.List.{List, ◌++◌}
-use Prim.Native.Nat.{ℕ, ◌-◌}
+use mathlib.Core.Path.{◌≡◌, refl, sym, ap, ◌∙◌}
+use mathlib.Core.List.{List}
+use Prim.Native.Nat.{ℕ}
 use native.Mathlib.Omega.{arith}
-use lib.ListN.{length, take, replicate}
+use lib.ListN.{length}
+use Rattle.std.proofs.lemmas.Grind.{common_steps}
 use Rattle.scenario.specs.declared.Head.{Head}
 use Rattle.scenario.specs.Runs.{painted, runs_good}
 use Rattle.scenario.specs.File.{head_in, runs_in}
@@ -14,16 +15,15 @@ use Rattle.scenario_read.proofs.Painting.{painting_none, painting_fits, painting
 use Rattle.scenario_read.proofs.paint.read_slow.Goals as goal
 
 -- all runs of the file
-all : (f : List ℕ) (x : Head) (n : ℕ) → x ≡ head_in f → n ≡ x.runs → runs_in f ≡ runs_onward f n 0
-all f x n e w = sym (runs_read f x e n w) ∙ runs-all f n
+all : (f : List ℕ) (x : Head) → x ≡ head_in f → runs_in f ≡ runs_onward f x.runs 0
+all f x e = sym (runs_read f x e x.runs refl) ∙ runs-all f x.runs
 
 pub loop-i-init : goal.loop-i-init
 loop-i-init c =
     let a = c.args in
     let g = a.head.ground in
     let n = length a.slow.now in
-    let runs = all a.file.now a.head c.wide-count.result c.requires.head.0 c.wide-count.ensures in
-    painting_none _ _ g n a.slow.now refl (ap (runs_good n g 0 g) (sym runs) ∙ c.requires.runs)
+    painting_none _ _ g n a.slow.now refl (ap (runs_good n g 0 g) (sym (all a.file.now a.head c.requires.head.0)) ∙ c.requires.runs)
 
 pub paint-requires : goal.paint-requires
 paint-requires c =
@@ -41,7 +41,5 @@ pub returns : goal.returns
 returns c =
     let l = c.loop-i in
     let a = c.args in
-    let runs = all a.file.now a.head c.wide-count.result c.requires.head.0 c.wide-count.ensures in
-    painting_end l.invariant c.loop-i-test.false c.fill.new.slow (omega (arith, c.fill.auto.slow, l.invariant.long))
-    (subst (λ u. take u c.fill.new.slow ≡ take l.free l.slow ++ replicate (u - l.free) a.head.ground) l.invariant.long c.fill.ensures)
-    ∙ ap (painted a.head.ground 0 (length a.slow.now)) (sym runs)
+    painting_end l.invariant c.loop-i-test.false _ (grind (arith, common_steps, c.fill.ensures.after (λ y e. e)))
+    ∙ ap (painted a.head.ground 0 (length a.slow.now)) (sym (all a.file.now a.head c.requires.head.0))

@@ -1,11 +1,7 @@
 -- `scenario_read::paint::read_slow` meets its contract.
-use Prim.Native.Nat.{◌-◌}
 use lib.ListN.{length}
 use Rattle.scenario_read.proofs.Painting.{Painting}
 use Rattle.scenario_read.proofs.paint.read_slow.Given as goal
 
 abbrev pub invariant-loop-i : goal.invariant-loop-i
-invariant-loop-i l = Painting l.file l.count l.ground (length l.initial.slow) l.slow l.free l.i
-
-abbrev pub decreases-loop-i : goal.decreases-loop-i
-decreases-loop-i l = l.count - l.i
+invariant-loop-i l = Painting l.file l.i-end l.head.ground (length l.initial.slow) l.slow l.free l.i

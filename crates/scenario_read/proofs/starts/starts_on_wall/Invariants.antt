@@ -1,7 +1,7 @@
 -- `scenario_read::starts::starts_on_wall` meets its contract.
 use mathlib.Core.Path.{◌≡◌}
 use mathlib.Core.Bool.{true}
-use Prim.Native.Nat.{◌-◌, ◌≤◌}
+use Prim.Native.Nat.{◌≤◌}
 use lib.ListN.{drop}
 use Rattle.eikonal.specs.Board.{size}
 use Rattle.eikonal.specs.Inner.Good.{starts_rise}
@@ -12,9 +12,6 @@ use Rattle.scenario_read.proofs.starts.starts_on_wall.Given as goal
 
 abbrev pub invariant-loop-i : goal.invariant-loop-i
 invariant-loop-i l =
-    (l.i ≤ l.count) × (l.run ≤ l.runs) × (starts_rise (size (held l.file)) 0 (starts_onward l.file l.base l.count l.i) ≡ true)
+    (l.run ≤ l.runs) × (starts_rise (size (held l.file)) 0 (starts_onward l.file l.base l.count l.i) ≡ true)
     × (wall_among l.ground (records run_size run_in l.runs (drop head_size l.file)) (records start_size start_in l.count (drop l.base l.file))
     ≡ wall_among l.ground (runs_onward l.file l.runs l.run) (starts_onward l.file l.base l.count l.i))
-
-abbrev pub decreases-loop-i : goal.decreases-loop-i
-decreases-loop-i l = l.count - l.i

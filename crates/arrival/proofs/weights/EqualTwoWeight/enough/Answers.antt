@@ -1,0 +1,7 @@
+-- The answer lies past the lesser of two lines, each of which clears the disc.
+use Rattle.std.proofs.Common.{arith, rules}
+use Rattle.arrival.proofs.Root.{past-lines}
+use Rattle.arrival.proofs.weights.EqualTwoWeight.enough.Goals as goal
+
+pub returns : goal.returns
+returns c = (search rules, past-lines _ _ _ (omega arith))
