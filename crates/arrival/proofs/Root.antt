@@ -11,6 +11,14 @@ use Rattle.eikonal.specs.Inner.Weighed.{weighed, three_squares}
 use Rattle.eikonal.proofs.FirstPass.{held_back, let_through, equal_passes, gaps_past}
 use Rattle.arrival.specs.Weight.{at, over, slope, Least, Capped}
 
+-- e ticks past the later axis are enough for what is due
+abbrev pub Enough : (due v w d e : ℕ) → Type 0
+Enough due v w d e = due ≤ weighed v w d e
+
+-- so many that the later axis alone is enough
+pub as_many : (due v w d e : ℕ) → due ≤ w * (e * e) → Enough due v w d e
+as_many due v w d e h = omega arith
+
 -- the squares of numbers below 8192 fit, and so does their sum
 small : (x : ℕ) → x < 8192 → x * x ≤ 67092481
 small x h = let k : x ≤ 8191 = omega arith in mul-le-mul k k
@@ -159,10 +167,10 @@ pub none_left : {o s o' s' : ℕ} → o ≡ o' → s ≡ s' → o < s → 0 ≡ 
 none_left p q l = rw (← p, ← q) (sym (div-eq_of_lt l))
 
 -- no fewer than the least are enough
-pub no_fewer : (due f h k e n : ℕ) → Least due (at f h k) e → due ≤ at f h k n → e ≤ n
+pub no_fewer : (due f h k e n : ℕ) → at f h k (e - 1) < due → due ≤ at f h k n → e ≤ n
 no_fewer due f h k e n l g = elim (dec_le e n) [
   | yes i ↦ i
-  | no i ↦ (let up : n ≤ e - 1 = omega arith in absurd (omega (arith, l.fewer, mul-le-mul_left h up, mul-le-mul_left k (mul-le-mul up up))))
+  | no i ↦ (let up : n ≤ e - 1 = omega arith in absurd (omega (arith, l, mul-le-mul_left h up, mul-le-mul_left k (mul-le-mul up up))))
 ]
 
 -- ---- THE LAST AXIS at n: the ticks past it, at most a limit, give the local rule's time

@@ -29,7 +29,11 @@ pub fn least_past(slowness: u32, apart: u32) -> u32
     requires { (apart < slowness) × (slowness ≤ 4095) }
     ensures { (1 ≤ result) × (slowness * slowness ≤ weighed 1 1 apart result) × (weighed 1 1 apart (result - 1) < slowness * slowness) }
 {
-    least(EqualTwo { slowness, apart })
+    least(EqualTwo {
+        slowness,
+        apart,
+        square: slowness * slowness,
+    })
 }
 
 // The local rule of equal numbers and two axes, at most the limit, where an axis's time is the earlier of its two.
@@ -46,7 +50,12 @@ pub fn of_equal(limit: u32, slowness: u32, across: u32, down: u32) -> u32
     if apart >= slowness {
         return limit.min(after(first, slowness));
     }
-    past_the_last(limit, second, EqualTwo { slowness, apart })
+    let last = EqualTwo {
+        slowness,
+        apart,
+        square: slowness * slowness,
+    };
+    past_the_last(limit, second, last)
 }
 
 // Whether 0 ticks past the last of three axes are too few: as many as the slowness are enough, from whichever axis.

@@ -64,16 +64,18 @@ pub fn past_the_last<W: Weight>(limit: u32, last: u32, w: W) -> u32
     last + least(w)
 }
 
-// Two axes of equal numbers.
+// Two axes of equal numbers. The slowness's square is kept beside it: LLVM would turn the difference of two squares, were it worked out in a step, into
+// a product of a sum and a difference, for which each step waits longer.
 #[derive(Clone, Copy)]
 pub struct EqualTwo {
     pub slowness: u32,
     pub apart: u32,
-    pub ghost valid: { (apart < slowness) × (slowness ≤ 4095) },
+    pub square: u32,
+    pub ghost valid: { (apart < slowness) × (slowness ≤ 4095) × (square ≡ slowness * slowness) },
 }
 
 impl Weight for EqualTwo {
-    ghost due = { λ w. w.slowness * w.slowness };
+    ghost due = { λ w. w.square };
 
     ghost flat = { λ w. w.apart * w.apart };
 
@@ -92,7 +94,7 @@ impl Weight for EqualTwo {
     // Nearly always one division or none.
     fn step(self, past: u32) -> u32 {
         let whole = self.apart + past;
-        let over = whole * whole + past * past - self.slowness * self.slowness + 2;
+        let over = whole * whole + past * past - self.square + 2;
         let slope = 2 * (whole + past);
         if over < slope { 0 } else { over / slope }
     }
@@ -103,12 +105,12 @@ impl Weight for EqualTwo {
             return false;
         }
         let whole = self.apart + past;
-        whole * whole + past * past < self.slowness * self.slowness
+        whole * whole + past * past < self.square
     }
 
     ghost curved = { λ _. Prim.omega arith };
 
-    ghost short = { λ w. Prim.omega (arith, mul-le-mul w.valid.0 w.valid.0) };
+    ghost short = { λ w. Prim.omega (arith, mul-le-mul w.valid.0 w.valid.0, w.valid.2) };
 }
 
 // Three axes, where 0 ticks past the last are too few.

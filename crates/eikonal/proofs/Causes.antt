@@ -33,6 +33,13 @@ pub next : (a b x : Refusal) → a.number ≡ 0 → x ≡ b → x ≡ or_else a 
 unfolding or_else
 next a b x z e = rw (eq-eqb a.number 0 z) e
 
+pub or_else_assoc : (a b c : Refusal) → or_else (or_else a b) c ≡ or_else a (or_else b c)
+unfolding or_else
+or_else_assoc a b c = elim (ℕ_discrete a.number 0) [
+  | yes z ↦ rw (eq-eqb a.number 0 z) refl
+  | no d ↦ rw (ne_eqb a.number 0 d) (rw (ne_eqb a.number 0 d) refl)
+]
+
 -- what is looked for behind a refusal matters where it is none
 pub alike_behind : (a b c : Refusal) → (a.number ≡ 0 → b ≡ c) → or_else a b ≡ or_else a c
 unfolding or_else

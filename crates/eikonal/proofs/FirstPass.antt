@@ -100,6 +100,12 @@ scaled s x h = mul-le-mul_right (s * s) h
 scaled_short : (s x : ℕ) → 1 ≤ s → x < s * s → x * (s * s) < s * s * (s * s)
 scaled_short s x i h = omega (arith, mul-le-mul_right (s * s) h, mul-le-mul i i)
 
+pub weighed_scaled : (s d e : ℕ) → s * s ≤ weighed 1 1 d e → s * s * (s * s) ≤ weighed (s * s) (s * s) d e
+weighed_scaled s d e h = omega (arith, scaled s (weighed 1 1 d e) h)
+
+pub weighed-short : (s d e : ℕ) → 1 ≤ s → weighed 1 1 d e < s * s → weighed (s * s) (s * s) d e < s * s * (s * s)
+weighed-short s d e i h = omega (arith, scaled_short s (weighed 1 1 d e) i h)
+
 pub equal_passes : (s a b z t : ℕ) → 1 ≤ s → passes s s a b z t ≡ leb (s * s) ((t - a) * (t - a) + (t - b) * (t - b) + (t - z) * (t - z))
 unfolding passes square
 equal_passes s a b z t i = go ((t - a) * (t - a)) ((t - b) * (t - b)) ((t - z) * (t - z))

@@ -11,7 +11,7 @@ use Rattle.eikonal.specs.Told.{number_of, refusal_of, told}
 use Rattle.eikonal.specs.declared.refused.Cause as causes
 use Rattle.eikonal.specs.declared.refused.Cause.TheVariants.{FileLength, Sides, Ticks, Lengths, Steep, Runs, OffBoard, Late, OnWall}
 use Rattle.eikonal.specs.declared.refused.Cause.TheVariants.{Far, TileSides, Order, Times, Room, Large, CellOffBoard, NoChain, NotRising}
-use Rattle.eikonal.specs.declared.refused.Cause.TheVariants.{Unjoined, Change, HalfWall, FewCounts, Stacked, Kind}
+use Rattle.eikonal.specs.declared.refused.Cause.TheVariants.{Unjoined, Change, HalfWall, FewCounts, Stacked, Kind, Other}
 use Rattle.eikonal.specs.declared.refused.Refusal as code
 use Rattle.eikonal.proofs.Causes.{first, next, first-append, first_found, NoneMet, none-met, number_is}
 use borrow.Author.Tests.{lt-ltb}
@@ -42,11 +42,17 @@ numbered HalfWall e = absurd (omega (arith, e))
 numbered FewCounts e = absurd (omega (arith, e))
 numbered Stacked e = absurd (omega (arith, e))
 numbered Kind e = absurd (omega (arith, e))
+numbered (Other k) e = absurd (omega (arith, e, k.some))
 
 -- a refusal that a `?` hands on
 pub handed_on : {A : Type 0} (r : code.Refusal) (x : Result A code.Refusal) → IsErrAnd x (λ e. e ≡ r) → told x ≡ refusal_of r
 handed_on r (Ok v) h = absurd h
 handed_on r (Err e) h = ap refusal_of h
+
+-- .. has a number
+pub refuses_still : {A : Type 0} (r : code.Refusal) (x : Result A code.Refusal) → IsErrAnd x (λ e. e ≡ r) → (told x).number ≢ 0
+refuses_still r (Ok v) h e = absurd h
+refuses_still r (Err y) h e = numbered y.cause e
 
 -- what is found refuses, whatever stands behind it
 stays : (r : code.Refusal) (js ks : List Cause) → refusal_of r ≡ first_of js → refusal_of r ≡ first_of (js ++ ks)

@@ -6,7 +6,7 @@ use Rattle.eikonal.specs.declared.Reply.{Reply}
 use Rattle.eikonal.specs.declared.refused.Cause.{Cause}
 use Rattle.eikonal.specs.declared.refused.Cause.TheVariants.{FileLength, Sides, Ticks, Lengths, Steep, Runs, OffBoard, Late, OnWall}
 use Rattle.eikonal.specs.declared.refused.Cause.TheVariants.{Far, TileSides, Order, Times, Room, Large, CellOffBoard, NoChain, NotRising}
-use Rattle.eikonal.specs.declared.refused.Cause.TheVariants.{Unjoined, Change, HalfWall, FewCounts, Stacked, Kind}
+use Rattle.eikonal.specs.declared.refused.Cause.TheVariants.{Unjoined, Change, HalfWall, FewCounts, Stacked, Kind, Other}
 use Rattle.eikonal.specs.declared.refused.Refusal as found
 use Rattle.eikonal.specs.declared.refused.Own as looked
 
@@ -35,6 +35,7 @@ number_of HalfWall = 21
 number_of FewCounts = 22
 number_of Stacked = 23
 number_of Kind = 24
+number_of (Other k) = k.number
 
 abbrev pub refusal_of : found.Refusal → Refusal
 refusal_of r = cause_at (number_of r.cause) r.place

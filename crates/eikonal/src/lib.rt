@@ -1,6 +1,7 @@
 // The ground under the engine: the values that calls share.
 #![tactic(auto)]
 
+pub mod number;
 pub mod refused;
 pub mod starts;
 

@@ -3,65 +3,100 @@ ghost use Rattle.std.specs.Prelude.{◌≡◌};
 ghost use Rattle.eikonal.specs.Told.{number_of, reply_of};
 
 use super::Reply;
+use super::number::Number;
 
-// The causes of the one order, by their numbers. Some belong to calls to come.
+// The causes, most of them in the one order. Some belong to calls to come.
 #[derive(Clone, Copy)]
 pub enum Cause {
     // the file is too short for a head, or not as long as its head says
-    FileLength = 1,
+    FileLength,
     // a side is not 1 to 256
-    Sides = 2,
+    Sides,
     // the ticks of a turn are not 1 to 65,535
-    Ticks = 3,
+    Ticks,
     // slownesses are not as many as cells, or the two lists of starts not of one length
-    Lengths = 4,
+    Lengths,
     // a slowness has a number above 4,095
-    Steep = 5,
+    Steep,
     // a file's runs break their rules
-    Runs = 6,
+    Runs,
     // a start is off the board
-    OffBoard = 7,
+    OffBoard,
     // a start begins after 1,000,000
-    Late = 8,
+    Late,
     // a start is on a wall
-    OnWall = 9,
+    OnWall,
     // a bound, a horizon or a stride is out of its range
-    Far = 10,
+    Far,
     // a tile's side is not 1 to 256
-    TileSides = 11,
+    TileSides,
     // the order does not name each tile once
-    Order = 12,
+    Order,
     // times are not as many as cells
-    Times = 13,
+    Times,
     // a list that is lent has no room
-    Room = 14,
+    Room,
     // the board is too large for the tablet
-    Large = 15,
+    Large,
     // a cell that is asked for is off the board
-    CellOffBoard = 16,
+    CellOffBoard,
     // no chain of open cells joins the cell that is asked for to a start
-    NoChain = 17,
+    NoChain,
     // the starts' cells do not rise
-    NotRising = 18,
+    NotRising,
     // two boards do not join
-    Unjoined = 19,
+    Unjoined,
     // a start that is added is there, or one that is removed is not
-    Change = 20,
+    Change,
     // one number of a slowness is 0 and the other is not
-    HalfWall = 21,
+    HalfWall,
     // a list of counts has no room for two
-    FewCounts = 22,
+    FewCounts,
     // the storeys make no house
-    Stacked = 23,
+    Stacked,
     // a kind is above 15
-    Kind = 24,
+    Kind,
+    // any other that a call finds of its own, by its number
+    Other(Number),
 }
 
 impl Cause {
     pub fn number(self) -> u32
         ensures { result ≡ number_of self }
     {
-        self as u32
+        // Two matches: a choice and a table. As one they are 25 places to jump to, in each caller.
+        let other = match self {
+            Cause::Other(other) => other.number,
+            _ => 0,
+        };
+        let named = match self {
+            Cause::FileLength => 1,
+            Cause::Sides => 2,
+            Cause::Ticks => 3,
+            Cause::Lengths => 4,
+            Cause::Steep => 5,
+            Cause::Runs => 6,
+            Cause::OffBoard => 7,
+            Cause::Late => 8,
+            Cause::OnWall => 9,
+            Cause::Far => 10,
+            Cause::TileSides => 11,
+            Cause::Order => 12,
+            Cause::Times => 13,
+            Cause::Room => 14,
+            Cause::Large => 15,
+            Cause::CellOffBoard => 16,
+            Cause::NoChain => 17,
+            Cause::NotRising => 18,
+            Cause::Unjoined => 19,
+            Cause::Change => 20,
+            Cause::HalfWall => 21,
+            Cause::FewCounts => 22,
+            Cause::Stacked => 23,
+            Cause::Kind => 24,
+            Cause::Other(_) => 0,
+        };
+        other + named
     }
 }
 

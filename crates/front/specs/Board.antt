@@ -1,5 +1,5 @@
 -- A board as internal functions are lent it, and what its cells see. Only internal contracts cite these: they are definitions.
-use Rattle.std.specs.Prelude.{◌≡◌, ℕ, ◌+◌, ◌-◌, ◌*◌, ◌<◌, ◌≤◌, min, Bool, true, ◌≢◌, List, [], length, slice_index}
+use Rattle.std.specs.Prelude.{◌≡◌, ℕ, ◌+◌, ◌-◌, ◌*◌, ◌<◌, ◌≤◌, min, Bool, true, ◌≢◌, List, [], length, slice_index, slice_index_or}
 use Rattle.eikonal.specs.Board.{Board, board_of}
 use Rattle.eikonal.specs.Tiles.{counts_as}
 use Rattle.eikonal.specs.Inner.Good.{Good}
@@ -34,6 +34,8 @@ both_seen b ts f c k m o =
 -- seams between so many columns or rows, as laid so many times over
 pub record Marked (count side many : ℕ) (marks : List ℕ) : Type 0 where
   pub at : (i : ℕ) → i ≤ count * many → slice_index marks i ≡ seam count side i
+  pub last : slice_index_or marks 2049 0 + 1 ≡ count
+  pub over : slice_index_or marks 2050 0 ≡ many
 
 -- THE WORK LIST, with how many cells are pending
 pub record Work : Type 0 where

@@ -47,6 +47,8 @@ Good-prop b x y = λ i. record {
 Marked-prop : (count side many : ℕ) (marks : List ℕ) → IsProp (Marked count side many marks)
 Marked-prop count side many marks x y = λ i. record {
   at = λ j h. ℕ_set _ _ (x.at j h) (y.at j h) i;
+  last = ℕ_set _ _ x.last y.last i;
+  over = ℕ_set _ _ x.over y.over i;
 }
 
 pub Ground-prop : (s : Shape) (slow stored cols rows : List ℕ) → IsProp (Ground s slow stored cols rows)

@@ -6,7 +6,7 @@ pub mod drain;
 pub mod scene;
 pub mod seams;
 pub mod seed;
-mod sight;
+pub mod sight;
 mod spread;
 pub mod strip;
 mod wake;

@@ -12,8 +12,13 @@ pub const BORDER: u8 = 1;
 
 pub const INSIDE: u8 = 2;
 
-// Of up to 2,048 columns or rows, as they are numbered.
-pub type Seams = [u8; 2049];
+const LAST: usize = 2049;
+
+const MANY: usize = 2050;
+
+// Of up to 2,048 columns or rows, as they are numbered. Behind them stand the number of columns or rows, less 1, and how many times over they are laid:
+// so whoever is lent seams alone can tell a house.
+pub type Seams = [u8; 2051];
 
 #[tactic(auto, unfolding(crate::specs::Seams::seam))]
 fn seam(count: usize, side: usize, i: usize) -> u8
@@ -31,15 +36,17 @@ fn seam(count: usize, side: usize, i: usize) -> u8
 }
 
 // The seams of so many columns or rows, with tiles of the given side, so many times over: as many as storeys for rows.
-fn lay(count: usize, side: usize, many: usize) -> Seams
+pub fn lay(count: usize, side: usize, many: usize) -> Seams
     requires { (1 ≤ side) × (1 ≤ count) × (count ≤ 256) × (many ≤ 8) × (1 ≤ many) }
     ensures { Marked count side many result }
 {
-    let mut laid = [EDGE; 2049];
+    let mut laid = [EDGE; 2051];
     let last = count * many;
     for (i, mark) in laid[..=last].iter_mut().enumerate() {
         *mark = seam(count, side, i);
     }
+    laid[LAST] = (count - 1) as u8;
+    laid[MANY] = many as u8;
     laid
 }
 

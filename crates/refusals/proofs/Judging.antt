@@ -32,6 +32,12 @@ unfolding judge_by
 judge_more ss xs j i h =
     rw (take-suc xs i no_start h) (sym (judge-append (length ss) (λ c. get_or ss c 0) (take i xs) (get_or xs i no_start ∷ []) j))
 
+-- a good start leaves the first at fault what it was
+pub onward-good : (o : Option ℕ) (k : ℕ) → onward o k true ≡ o
+unfolding onward
+onward-good (Some i) k = refl
+onward-good None k = refl
+
 -- ---- the judgement of a whole list
 -- a first fault, kept along the list
 kept_along : (p : (least cell : ℕ) → Bool) → List Start → (least seen : ℕ) → (first : Option ℕ) → Option ℕ
@@ -92,8 +98,8 @@ module _ (n : ℕ) (f : ℕ → ℕ) where
   judged-low (x ∷ xs) j = judged-low xs (judge_start n (f x.cell) x.cell x.time j)
 
 -- as many were judged as starts were passed
-pub judge_passed : (ss : List ℕ) (xs : List Start) (i : ℕ) → (judge ss (take i xs) nothing_judged).seen ≤ i
-judge_passed ss xs i = omega (arith, judged-seen (length ss) (λ c. get_or ss c 0) (take i xs) nothing_judged, length-take i xs)
+pub judge_passed : (ss : List ℕ) (xs : List Start) (j : Judged) (i : ℕ) → (judge ss (take i xs) j).seen ≤ j.seen + i
+judge_passed ss xs j i = omega (arith, judged-seen (length ss) (λ c. get_or ss c 0) (take i xs) j, length-take i xs)
 
 -- two lists alike behind one cause
 alike_after : (k : Cause) (js ks : List Cause) → first_of js ≡ first_of ks → first_of (k ∷ js) ≡ first_of (k ∷ ks)

@@ -1,5 +1,5 @@
 // Whether a board is refused, and why: 2, 4, 5, 21, 23, 7, 18, 8 or 9.
-ghost use Rattle.std.specs.Prelude.{◌≡◌, List, ◌++◌, ℕ, suc, ◌*◌, ◌≤◌, ◌<◌, get_or};
+ghost use Rattle.std.specs.Prelude.{◌≡◌, List, ◌++◌, ℕ, ◌*◌, ◌≤◌, ◌<◌, length, get_or};
 ghost use Rattle.eikonal.specs.Order.{first_of};
 ghost use Rattle.eikonal.specs.Refusals.{sides_good, steep, half_wall, uneven, ill_stacked, board_causes};
 ghost use Rattle.eikonal.specs.Told.{told};
@@ -164,11 +164,23 @@ fn slowness_at(slow: &[u32], cell: u32) -> u32
     0
 }
 
-// All starts, on a board with these slownesses.
-pub fn judge_starts<S: Starts>(slow: &[u32], starts: S) -> Judged
-    ensures { result ≡ judge slow.now (S.all starts) nothing_judged }
+// The same judgement. So LLVM sees what tags the two places have, and looks at them no more for each start.
+fn as_handed(judged: Judged) -> Judged
+    ensures { result ≡ judged }
 {
-    let mut judged = nothing_judged();
+    Judged {
+        off: onward(judged.off, judged.seen, true),
+        low: onward(judged.low, judged.seen, true),
+        ..judged
+    }
+}
+
+// The starts, on a board with these slownesses, after those judged so far.
+pub fn judge_starts<S: Starts>(slow: &[u32], starts: S, so_far: Judged) -> Judged
+    requires { length (S.all starts) < 18446744073709551616 → Countable (length (S.all starts)) so_far }
+    ensures { result ≡ judge slow.now (S.all starts) so_far }
+{
+    let mut judged = as_handed(so_far);
     for i in 0..starts.many() {
         let Start { cell, time } = starts.at(i);
         judged = judge_start(slow.len(), slowness_at(slow, cell), cell, time, judged);
@@ -213,5 +225,5 @@ pub fn check_board<S: Starts>(
     refuse_if(!whole, Cause::Lengths)?;
     check_flaws(width, height, storeys, with_pairs(slow, others))?;
     kinds?;
-    check_judged(judge_starts(slow, starts))
+    check_judged(judge_starts(slow, starts, nothing_judged()))
 }

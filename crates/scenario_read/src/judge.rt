@@ -1,5 +1,5 @@
 // A file judged whole, before any list is written: its refusal, or its head.
-ghost use Rattle.std.specs.Prelude.{◌≡◌, true, not, [], ◌∷◌, map, ◌*◌, IfOk};
+ghost use Rattle.std.specs.Prelude.{◌≡◌, true, [], ◌∷◌, map, ◌*◌, IfOk};
 ghost use Rattle.eikonal.specs.Board.{size};
 ghost use Rattle.eikonal.specs.Order.{caused, first_of};
 ghost use Rattle.eikonal.specs.Refusals.{pair_causes, record_causes};
@@ -10,6 +10,7 @@ ghost use Rattle.scenario.specs.File.{held, front_causes, rest_causes, file_refu
 ghost use Rattle.scenario.specs.Calls.{reader_refusal};
 ghost use Rattle.scenario.specs.Inner.Walk.{Fits, runs_by, starts_by, wall_among};
 
+use super::read_again;
 use super::starts::{judge_unwalled, starts_on_wall};
 use eikonal::refused::{Cause, Checked, Refusal};
 use refusals::board::{check_flaws, check_judged, flawless, sides_good, with_pair};
@@ -76,6 +77,7 @@ pub fn check_rest(file: &[u8], head: Head) -> Checked
     requires { Fits «head» file.now }
     ensures { told result ≡ first_of (rest_causes file.now) }
 {
+    let head = read_again(file, head);
     refuse_if(!ticks_good(head.ticks), Cause::Ticks)?;
     check_pairs(file, head)?;
     let rules = runs_good(file, head.runs as usize, board_size(head), head.ground);

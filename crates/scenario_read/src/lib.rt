@@ -10,7 +10,7 @@ ghost use Rattle.eikonal.specs.Board.{size};
 ghost use Rattle.eikonal.specs.Refusals.{cells_of, begins_of};
 ghost use Rattle.eikonal.specs.Told.{told};
 ghost use Rattle.scenario.specs.File.{held, start_count, starts_in, file_refusal};
-ghost use Rattle.scenario.specs.Calls.{filled, reader_refusal, Reads};
+ghost use Rattle.scenario.specs.Calls.{filled, scenario_told, reader_refusal, Reads};
 ghost use Rattle.scenario.specs.Inner.Walk.{Fits};
 
 use eikonal::Start;
@@ -20,6 +20,29 @@ use judge::check_scenario;
 use scenario::heads::{board_size, head_of};
 use scenario::starts::starts_in;
 use scenario::{Head, Scenario};
+
+// The same head, from the file: the one that an outcome holds, which the contract alone reads here, was stored a moment ago in narrower pieces than it
+// would be loaded in. Waiting for those took up to as long as all else of a small file.
+fn read_again(file: &[u8], head: Head) -> Head
+    requires { Fits «head» file.now }
+    ensures { Fits result file.now }
+{
+    head_of(file)
+}
+
+// What a reader answers.
+fn answer(file: &[u8], outcome: Result<Head, Refusal>) -> Scenario
+    requires { IfOk outcome (λ x. Fits x file.now) }
+    ensures { result ≡ scenario_told outcome }
+{
+    match outcome {
+        Ok(head) => {
+            let again: Result<Head, Refusal> = Ok(read_again(file, head));
+            again.into()
+        }
+        Err(_) => outcome.into(),
+    }
+}
 
 // The slownesses of a file that was judged; later entries stay.
 pub fn fill_slow(file: &[u8], slow: &mut [u32])
@@ -83,7 +106,7 @@ pub fn read_scenario(
     if let Ok(head) = outcome {
         fill_starts(file, head, cells, begins);
     }
-    outcome.into()
+    answer(file, outcome)
 }
 
 // The same with the starts as records.
@@ -95,5 +118,5 @@ pub fn read_records(file: &[u8], slow: &mut [u32], records: &mut [Start]) -> Sce
     if let Ok(head) = outcome {
         fill_records(file, head, records);
     }
-    outcome.into()
+    answer(file, outcome)
 }

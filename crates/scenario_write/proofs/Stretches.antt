@@ -33,6 +33,10 @@ module _ (l : List ℕ) (g i a z : ℕ) where
     stretch_turn e = rw (drop-cons l i 0 h, add-one i, ne_eqb (get_or l i 0) z e)
 
 -- ---- a stretch that ends
+pub one_at_most : (p : Bool) → cond p 0 1 ≤ 1
+one_at_most true = omega arith
+one_at_most false = omega arith
+
 closed-append : (g a i z : ℕ) (xs : List Run) → closed g a i z xs ≡ closed g a i z [] ++ xs
 unfolding closed
 closed-append g a i z xs = go (eqb z g)

@@ -38,7 +38,15 @@ fn write_file<S: Starts>(
 {
     let ticks_checked = refuse_if(!ticks_good(ticks), Cause::Ticks);
     check_board(board, with_pair(ground, flawless()), ticks_checked, Ok(()))?;
-    let head = write::head_for(board, ticks, ground);
+    let head = write::head_for(
+        board.width,
+        board.height,
+        board.storeys,
+        ticks,
+        ground,
+        board.slow,
+        board.starts.many(),
+    );
     let need = file_length(head);
     refuse_if(out.len() < need, Cause::Room)?;
     write::write_all(&mut out[..need], head, board);

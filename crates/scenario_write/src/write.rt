@@ -1,6 +1,5 @@
 // A board written as a scenario file. Each function fills a list of bytes from a place on; the bytes in front of it stay.
 ghost use Rattle.std.specs.Prelude.{◌≡◌, [], ◌++◌, ◌+◌, ◌*◌, ◌≤◌, ◌<◌, length, take};
-ghost use Rattle.eikonal.specs.Handing.{handed_in};
 ghost use Rattle.scenario.specs.Bytes.{bytes_of};
 ghost use Rattle.scenario.specs.Runs.{closed, runs_of};
 ghost use Rattle.scenario.specs.File.{head_size, run_size, start_size, runs_end, file_size, run_bytes, start_bytes, head_of, front};
@@ -77,21 +76,28 @@ pub fn write_starts<S: Starts>(out: &mut [u8], starts: S)
     }
 }
 
-// The head of a board with its starts.
+// The head of a board with so many starts.
 #[tactic(auto, using(scenario::proofs::GoodRuns::counts), unfolding(scenario::specs::File::head_of))]
-pub fn head_for<S: Starts>(board: &Handed<S>, ticks: u32, ground: u32) -> Head
-    requires { (length board.now.slow.now ≤ 65536) × (length (S.all board.now.starts) ≤ 65536) }
-    ensures { let b = (handed_in S.all S.paired board.now).board in
-        result ≡ head_of b.wide b.high b.storeys ticks ground b.slow (length b.starts) }
+pub fn head_for(
+    width: u32,
+    height: u32,
+    storeys: u32,
+    ticks: u32,
+    ground: u32,
+    slow: &[u32],
+    starts: usize,
+) -> Head
+    requires { (length slow.now ≤ 65536) × (starts ≤ 65536) }
+    ensures { result ≡ head_of width height storeys ticks ground slow.now starts }
 {
     Head {
-        width: board.width,
-        height: board.height,
-        storeys: board.storeys,
+        width,
+        height,
+        storeys,
         ticks,
         ground,
-        runs: count_runs(board.slow, ground) as u32,
-        starts: board.starts.many() as u32,
+        runs: count_runs(slow, ground) as u32,
+        starts: starts as u32,
     }
 }
 

@@ -3,6 +3,7 @@ use mathlib.Core.Path.{◌≡◌, ap, ◌∙◌}
 use mathlib.Core.Bool.{true, not, ◌&&◌}
 use mathlib.Core.List.{List, [], ◌∷◌}
 use Prim.Native.Nat.{ℕ, ◌*◌, ◌≤◌}
+use native.Mathlib.Omega.{arith}
 use lib.Dec.{ltb, leb}
 use borrow.Author.Tests.{leb-true, not-false}
 use Rattle.eikonal.specs.Board.{board_of, size, largest}
@@ -10,9 +11,10 @@ use Rattle.eikonal.specs.Order.{caused, or_else, first_of}
 use Rattle.eikonal.specs.Refusals.{within, sides_good, handed, handed_refusal}
 use Rattle.eikonal.specs.declared.Start.{Start}
 use Rattle.eikonal.proofs.Causes.{NoneMet, none-met, unrefused, met-append, met_parts, number_is, first-append}
-use Rattle.eikonal.proofs.Good.{and-true}
-use Rattle.scenario.specs.File.{head_in, starts_in, held, front_causes, rest_causes, file_causes, file_refusal}
-use Rattle.scenario.proofs.Causes.{board-taken, Accepted, accepted}
+use Rattle.eikonal.proofs.Good.{and-true, sound}
+use Rattle.scenario.specs.File.{head_in, starts_in, start_count, held, front_causes, rest_causes, file_causes, file_refusal}
+use Rattle.scenario.proofs.Causes.{board-taken, Accepted, accepted, rise-count}
+use Rattle.scenario.proofs.Reading.{count-starts}
 use Rattle.scenario.specs.declared.Head.{Head}
 use Rattle.scenario.specs.Inner.Walk.{Fits, starts_by}
 use Rattle.scenario.proofs.Composed.{held-given}
@@ -43,6 +45,12 @@ small f e =
 pub cells-few : (f : List ℕ) → Small f → size (held f) ≤ 1024
 unfolding size held
 cells-few f s = s.few
+
+-- starts rise, so they are no more than the cells
+pub starts-few : (f : List ℕ) → Small f → start_count f ≤ 1024
+unfolding held
+starts-few f s =
+    omega (arith, rise-count (size (held f)) 0 (starts_in f) (sound (held f) s.taken.starts).rise (omega arith), count-starts f, cells-few f s)
 
 -- ---- its board, as it is handed on
 pub board_is : (f : List ℕ) (x : Head) (slow : List ℕ) (starts : List Start) → Fits x f → slow ≡ (held f).slow → starts ≡ starts_by x f

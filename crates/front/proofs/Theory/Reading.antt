@@ -95,6 +95,14 @@ module _ {n w c row col step down right : ℕ} {before behind : Bool} (st : Step
   pub behind-site : behind ≡ true → Site n w (c + step) (row + down) (col + right)
   behind-site b = record { on = (st.on b).0; cell = omega (arith, st.site.cell, st.span); column = (st.on b).1 }
 
+  pub step_small : n ≤ 65536 → (c + step ≤ 131072) × (row + down ≤ 131072) × (col + right ≤ 131072)
+  step_small l =
+      let si = st.site in
+      let wide : 1 ≤ w = omega (arith, si.column) in
+      let rows : row ≤ row * w = omega (arith, mul-le-mul_left row wide) in
+      let less : down ≤ down * w = omega (arith, mul-le-mul_left down wide) in
+      (omega (arith, si.on, st.short), omega (arith, si.on, si.cell, st.span, st.short), omega (arith, si.on, si.cell, st.span, st.short))
+
 module _ {s : Shape} {slow ts cols rows : List ℕ} (gr : Ground s slow ts cols rows) where
   pub cells-size : s.cells ≡ size (land s slow)
   unfolding size

@@ -45,10 +45,15 @@ module _ (g : Over) where
     taken : let a = c.args in Taken (handed_in g.S.Starts.all g.S.Starts.paired a.board.now) a.ticks a.ground
     taken = gave _ _ _ (sym (number_is passed))
 
+  -- with as many starts as there are
+  head : (c : After-file_length-need g) → let b = c.args.board.now in
+      c.head_for-head.result ≡ head_of b.width b.height b.storeys c.args.ticks c.args.ground b.slow.now (length (g.S.Starts.all b.starts))
+  head c = rw c.many.ensures at c.head_for-head.ensures
+
   need : (c : After-file_length-need g) → let a = c.args in
       c.file_length-need.result ≡ length (written (handed_in g.S.Starts.all g.S.Starts.paired a.board.now) a.ticks a.ground)
   unfolding head_of
-  need c = c.file_length-need.ensures ∙ ap (λ u. file_size u.runs u.starts) c.head_for-head.ensures ∙ sym (written-length _ _ _)
+  need c = c.file_length-need.ensures ∙ ap (λ u. file_size u.runs u.starts) (head c) ∙ sym (written-length _ _ _)
 
   room : (c : In_ok-refuse_if g) → c.file_length-need.result ≤ length c.args.out.now
   room c = ltb-false _ _ (unmet 13 _ c.in_ok-refuse_if.ensures)
@@ -60,7 +65,7 @@ returns-in_err-check_board g c =
     writes_none _ _ _ _ _ _ c.from_residual.ensures.1 (stopped _ _ _ _ met c.from_residual.ensures.1)
 
 pub head_for-head-requires : goal.head_for-head-requires
-head_for-head-requires g c = let k = taken g (goal.at.head_for-head-requires g c).In_ok-check_board in (slow-most k, starts-most k)
+head_for-head-requires g c = let k = taken g (goal.at.head_for-head-requires g c).In_ok-check_board in (slow-most k, rw c.many.ensures (starts-most k))
 
 pub returns-in_err-refuse_if : goal.returns-in_err-refuse_if
 unfolding writer_refusal writer_causes
@@ -79,8 +84,9 @@ slice_bounds-write_all-end-2 g c = sym (length-take-le _ c.args.out.now (room g 
 pub write_all-requires-clause-out : goal.write_all-requires-clause-out
 unfolding head_of
 write_all-requires-clause-out g c =
-    length-take-le _ c.args.out.now (room g (goal.at.write_all-requires-clause-out g c).In_ok-refuse_if)
-    ∙ c.file_length-need.ensures ∙ ap (λ q. file_size c.head_for-head.result.runs q) (ap (λ x. x.starts) c.head_for-head.ensures)
+    let at = goal.at.write_all-requires-clause-out g c in
+    length-take-le _ c.args.out.now (room g at.In_ok-refuse_if)
+    ∙ c.file_length-need.ensures ∙ ap (λ q. file_size c.head_for-head.result.runs q) (ap (λ x. x.starts) (head g at.After-file_length-need))
 
 pub write_all-requires-clause-slow : goal.write_all-requires-clause-slow
 unfolding head_of
@@ -107,7 +113,7 @@ returns g c =
     let at = goal.at.returns g c in
     let b = c.args.board.now in
     let whole = c.write_all.ensures
-    ∙ ap (λ x. front x b.slow.now ++ bytes_of start_bytes (g.S.Starts.all b.starts)) c.head_for-head.ensures in
+    ∙ ap (λ x. front x b.slow.now ++ bytes_of start_bytes (g.S.Starts.all b.starts)) (head g at.After-file_length-need) in
     let met = c.in_ok-refuse_if.ensures ∙ ap (λ n. first_of (caused 14 (ltb (length c.args.out.now) n) ∷ [])) (need g at.After-file_length-need) in
     writes_all _ _ _ _ c.file_length-need.result _ (went_on _ _ (passed g at.In_ok-check_board) met) (sym (need g at.After-file_length-need))
     (ap (λ u. u ++ drop c.file_length-need.result c.args.out.now) whole)

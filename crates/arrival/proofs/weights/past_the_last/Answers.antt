@@ -16,11 +16,11 @@ returns-then-too_few g c =
 
 pub overflow_add-result : goal.overflow_add-result
 overflow_add-result g c =
-    omega (arith, no_fewer _ _ _ _ _ _ c.least.ensures (ltb-false _ _ (sym c.too_few.ensures ∙ c.if-too_few.false)))
+    omega (arith, no_fewer _ _ _ _ _ _ c.least.ensures.fewer (ltb-false _ _ (sym c.too_few.ensures ∙ c.if-too_few.false)))
 
 pub returns : goal.returns
 returns g c =
     let in_time : c.args.last + c.least.result < c.args.limit =
-    omega (arith, no_fewer _ _ _ _ _ _ c.least.ensures (ltb-false _ _ (sym c.too_few.ensures ∙ c.if-too_few.false)))
+    omega (arith, no_fewer _ _ _ _ _ _ c.least.ensures.fewer (ltb-false _ _ (sym c.too_few.ensures ∙ c.if-too_few.false)))
     in
     inr (record { ticks = c.least.result; least = c.least.ensures; before = in_time; is = refl })

@@ -64,5 +64,5 @@ returns g c gs f =
     let house = board_of b.width b.height b.storeys b.slow.now (g.S.Starts.all b.starts) in
     let whole = not-false (g.S.Starts.paired b.starts && eqb (length b.slow.now) (size house)) (unmet 3 _ four) in
     let long = eqb-true (length b.slow.now) (size house) (and-true (g.S.Starts.paired b.starts) (eqb (length b.slow.now) (size house)) whole).1 in
-    let starts = rw c.judge_starts.ensures at c.check_judged.ensures ∙ judge_finds house long in
+    let starts = rw (c.judge_starts.ensures, c.nothing_judged.ensures) at c.check_judged.ensures ∙ judge_finds house long in
     went_on (_ ∷ []) _ two (went_on (_ ∷ []) _ three (went_on (_ ∷ []) _ four (went_on _ _ pairs (went_on (_ ∷ []) _ kinds starts))))

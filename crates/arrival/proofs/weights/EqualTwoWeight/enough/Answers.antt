@@ -4,4 +4,4 @@ use Rattle.arrival.proofs.Root.{past-lines}
 use Rattle.arrival.proofs.weights.EqualTwoWeight.enough.Goals as goal
 
 pub returns : goal.returns
-returns c = (search rules, past-lines _ _ _ (omega arith))
+returns c = (search rules, rw c.args.self.valid.2 (past-lines _ _ _ (omega arith)))
